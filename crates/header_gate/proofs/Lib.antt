@@ -1,0 +1,5 @@
+pub mod NumberLaws
+pub mod Flips
+pub mod Making
+pub mod Pages
+pub mod Vectors

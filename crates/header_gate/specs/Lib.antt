@@ -1,0 +1,5 @@
+pub mod Places
+pub mod Header
+pub mod Reasons
+pub mod EmptyStore
+pub mod Flip
