@@ -47,12 +47,13 @@ pub struct LineReader {
 impl Model for LineReader {
     ghost use Rattle.std.specs.Prelude.{◌≡◌, ◌≤◌, length, slice_range};
     ghost use Rattle.line_source.specs.ReaderView.{ReaderView};
+    ghost use Rattle.line_source.specs.declared.buffer.TheConstants.{BUFFER_LEN};
 
     ghost Value = { ReaderView };
 
     ghost view = { λ r. record { held = slice_range r.buffer r.start r.end; line = slice_range r.buffer r.line_start r.line_end; room = r.room; ended = r.ended; done = r.done } };
 
-    ghost invariant = { λ r. (r.start ≤ r.end) × (r.end ≤ 4096) × (r.line_start ≤ r.line_end) × (r.line_end ≤ 4096) × (length r.buffer ≡ 4096) };
+    ghost invariant = { λ r. (r.start ≤ r.end) × (r.end ≤ BUFFER_LEN) × (r.line_start ≤ r.line_end) × (r.line_end ≤ BUFFER_LEN) × (length r.buffer ≡ BUFFER_LEN) };
 }
 
 impl LineReader {
@@ -179,7 +180,7 @@ impl LineReader {
     // Lets go of the front of a line that is too long, and answers whether the line is known to be.
     fn let_go(&mut self, long: bool) -> bool
         ensures lets_go { LetsGo long result self.old self.new }
-        ensures short { length self.new.held ≤ 512 }
+        ensures short { length self.new.held ≤ LINE_LIMIT }
         ensures kept { IsKept self.old self.new }
     {
         if self.end - self.start > LINE_LIMIT {
@@ -192,7 +193,7 @@ impl LineReader {
     // Takes a piece behind what is held, or meets the end.
     fn fill<I: Source>(&mut self, source: &mut I) -> Result<(), ReadFailed>
         requires room { 0 < self.old.room }
-        requires short { length self.old.held ≤ 512 }
+        requires short { length self.old.held ≤ LINE_LIMIT }
         requires open { self.old.ended ≡ false }
         ensures took { OnOk result (HasTaken self.old (I.view source.old) self.new (I.view source.new)) }
         ensures failed { OnErr result (HasFailed self.old (I.view source.old) self.new (I.view source.new)) }
