@@ -1,0 +1,22 @@
+-- What a source means to those who read it.
+use Rattle.std.specs.Prelude.{◌≡◌, ℕ, ◌+◌, ◌-◌, ◌^◌, ◌≤◌, min, Bool, true, List}
+
+pub record SourceView : Type 0 where
+  -- whether the source tells what it has left
+  pub tells : Bool
+  -- what is left, where the source tells it
+  pub left : List ℕ
+  -- how many reads failed so far
+  pub faults : ℕ
+
+abbrev pub Told : SourceView → Type 0
+Told source = source.tells ≡ true
+
+-- what holds of every call: a source goes on telling, or not telling, and the count of failed reads never falls
+pub record Went (old new : SourceView) : Type 0 where
+  pub tells : new.tells ≡ old.tells
+  pub faults : old.faults ≤ new.faults
+
+-- a read failed; the count stands still at the last value of a `u64`
+abbrev pub Rose : SourceView → SourceView → Type 0
+Rose old new = min (old.faults + 1) (2 ^ 64 - 1) ≤ new.faults

@@ -1,0 +1,27 @@
+//! Where a script comes from.
+
+ghost use Rattle.std.specs.Prelude.{◌≡◌, ◌<◌, ◌≤◌, ◌++◌, [], length, take, IfOk, OnErr};
+ghost use Rattle.line_source.specs.SourceView.{SourceView, Told, Went, Rose};
+
+/// The source couldn't be read.
+#[derive(Clone, Copy, Debug, PartialEq, Eq)]
+pub struct ReadFailed;
+
+/// A script, from which bytes are taken from the front.
+///
+/// A source may tell what it has left. It always counts the reads that failed, up to the last value of a `u64`.
+pub trait Source {
+    ghost view: { Self → SourceView };
+
+    /// Moves the first bytes of what is left into the front of `buf`, and answers how many.
+    ///
+    /// For a `buf` that isn't empty, 0 is the end of the script. `ReadFailed` comes only where the count of failed
+    /// reads rose; nothing was taken then.
+    fn take(&mut self, buf: &mut [u8]) -> Result<usize, ReadFailed>
+        ensures within { IfOk result (λ n. n ≤ length buf.old) }
+        ensures taken { IfOk result (λ n. Told (view self.old) → (view self.old).left ≡ take n buf.new ++ (view self.new).left) }
+        ensures end { IfOk result (λ n. n ≡ 0 → 0 < length buf.old → Told (view self.old) → (view self.old).left ≡ []) }
+        ensures none { OnErr result (Told (view self.old) → (view self.new).left ≡ (view self.old).left) }
+        ensures cause { OnErr result (Rose (view self.old) (view self.new)) }
+        ensures went { Went (view self.old) (view self.new) };
+}
