@@ -3,3 +3,4 @@ pub mod Flips
 pub mod Making
 pub mod Pages
 pub mod Vectors
+pub mod Soundness

@@ -40,7 +40,6 @@ pub enum HeaderFault {
 ///
 /// `NotStore` names the first test of the header that fails; no byte is changed.
 pub fn read_header<S: Station>(station: &mut S) -> Result<Header, HeaderFault>
-    requires { 4096 ≤ (S.view station.old).fixed.reach }
     ensures header { IfOk result (λ h. Told (S.view station.old) → IsHeader h.layout h.live h.height h.gate (S.view station.old).held) }
     ensures sound { IfOk result (λ h. Told (S.view station.old) → header_reason (S.view station.old).held ≡ None) }
     ensures fits { IfOk result (λ h. IsLayout h.layout × (file_length h.layout ≤ (S.view station.old).fixed.reach) × (h.height ≤ h.layout.hmax) × (h.live ≤ 1)) }

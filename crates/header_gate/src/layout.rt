@@ -3,7 +3,7 @@
 ghost use Rattle.std.specs.Prelude.{◌≡◌, ◌^◌, ◌≤◌};
 
 /// The greatest height limit that is opened.
-pub(crate) const TALLEST: u32 = 0;
+pub const TALLEST: u32 = 0;
 
 /// The place of the selector, a byte whose low bit names the live copy and the live region.
 pub(crate) const SELECTOR: u64 = 0;

@@ -7,6 +7,7 @@
 
 mod create;
 mod header;
+mod laws;
 mod layout;
 mod numbers;
 mod reason;
@@ -14,6 +15,7 @@ mod selector;
 
 pub use create::create_store;
 pub use header::{Header, HeaderFault, read_header};
-pub use layout::Layout;
+pub use laws::sound_headers;
+pub use layout::{Layout, TALLEST};
 pub use reason::Reason;
 pub use selector::flip;

@@ -1,3 +1,4 @@
 pub mod Storage
 pub mod Composition
 pub mod Sayings
+pub mod Ranges
