@@ -1,0 +1,4 @@
+pub mod WordLaws
+pub mod PrintedLaws
+pub mod ScriptLaws
+pub mod Vectors
