@@ -1,1 +1,3 @@
 pub mod SingleImages
+pub mod SessionLaws
+pub mod ScriptCommands

@@ -2,6 +2,7 @@
 #![tactic(auto)]
 
 mod create;
+mod saying;
 mod status;
 mod words;
 
