@@ -4,6 +4,7 @@ ghost use Rattle.std.specs.Prelude.{◌≡◌, ◌≤◌, ◌↔◌, length, IfO
 
 use super::sizes::MAX_KEY_LEN;
 use std::marker::Model;
+use thiserror::Error;
 
 /// A key of 1 to 24 bytes, ordered by its unsigned bytes with a proper prefix first.
 #[derive(Clone, Copy)]
@@ -30,7 +31,8 @@ impl Model for Key {
 }
 
 /// How many bytes there were, where they are no key.
-#[derive(Clone, Copy, Debug, PartialEq, Eq)]
+#[derive(Clone, Copy, Debug, PartialEq, Eq, Error)]
+#[error("a key has 1 to {MAX_KEY_LEN} bytes, and not {len}")]
 pub struct KeySize {
     pub len: usize,
 }

@@ -6,6 +6,7 @@ ghost use Rattle.std.specs.Cmp.Lexicographic.{nat_list_eq_equiv};
 
 use super::sizes::MAX_VALUE_LEN;
 use std::marker::Model;
+use thiserror::Error;
 
 /// A value of 0 to 32 bytes.
 #[derive(Clone, Copy)]
@@ -32,7 +33,8 @@ impl Model for Value {
 }
 
 /// How many bytes there were, where they are no value.
-#[derive(Clone, Copy, Debug, PartialEq, Eq)]
+#[derive(Clone, Copy, Debug, PartialEq, Eq, Error)]
+#[error("a value has at most {MAX_VALUE_LEN} bytes, and not {len}")]
 pub struct ValueSize {
     pub len: usize,
 }
