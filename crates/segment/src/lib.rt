@@ -14,3 +14,5 @@ mod edits;
 mod fault;
 mod fences;
 mod segment;
+#[cfg(test)]
+mod tests;

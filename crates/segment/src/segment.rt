@@ -117,6 +117,7 @@ impl Segment {
     }
 
     // Whether all keys are below this one.
+    #[tactic(auto, using(crate::proofs::SlotReading::last_below))]
     pub(super) fn is_below(&self, key: &Key) -> bool
         requires { IsAscending self.now }
         ensures { result ≡ all_below key_cmp key.now self.now }
