@@ -18,6 +18,14 @@ true_false e = cc
 pub rose_on : (a b c : SourceView) → Went a b → Rose b c → Rose a c
 rose_on a b c went rose = omega (arith, went.faults, rose)
 
+-- what the answer of a later call says of all of them
+pub means_on : (step : LineStep) (r : ReaderView) (a b c : SourceView) → Went a b → Means step r b c → Means step r a c
+means_on Line r a b c went means = means
+means_on LongLine r a b c went means = means
+means_on End r a b c went means = means
+means_on ReadFailed r a b c went means = (means.0, means.1, rose_on a b c went means.2)
+means_on Spent r a b c went means = means
+
 -- at the start nothing was given
 pub given-none : (r : ReaderView) (s : SourceView) → r.done ≡ false → HasGiven r s [] r s
 given-none r s fresh = record {

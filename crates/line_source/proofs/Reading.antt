@@ -2,18 +2,17 @@
 use Rattle.std.proofs.Common.{◌≡◌, ◌≢◌, ℕ, zero, suc, ◌+◌, ◌<◌, ◌≤◌, Bool, true, false, nat_eq, ne_eqb, cond, List, [], ◌∷◌, ◌++◌, length, take, refl, sym, ap, subst, ◌∙◌, arith, append_assoc, length-append}
 use Rattle.std.proofs.lemmas.List.{append-nil, take_at}
 use Rattle.std.proofs.lemmas.List.Elements.{All-append, All-nil}
-use Rattle.line_source.specs.Lines.{NoFeed}
+use Rattle.line_source.specs.Lines.{NoFeed, line_limit}
 use Rattle.line_source.specs.SourceView.{SourceView, Told, Went}
 use Rattle.line_source.specs.ReaderView.{ReaderView, rest, IsFirstFeed}
 use Rattle.line_source.specs.LineStep.{IsCut}
 use Rattle.line_source.specs.Filling.{IsPiece, a_piece, no_piece, HasTaken, IsKept, LetsGo, drops, keeps}
-use Rattle.line_source.specs.declared.reader.TheConstants.{LINE_LIMIT}
 
 -- the call began at r0 and s0, let go of the front of a long line, and stands now at r and s
 pub record Reading (r0 : ReaderView) (s0 : SourceView) (long : Bool) (r : ReaderView) (s : SourceView) : Type 0 where
   pub dropped : List ℕ
   pub no_feed : NoFeed dropped
-  pub is_long : long ≡ true → LINE_LIMIT < length dropped
+  pub is_long : long ≡ true → line_limit < length dropped
   pub is_whole : long ≡ false → dropped ≡ []
   pub rest_is : Told s0 → rest r0 s0 ≡ dropped ++ rest r s
   pub fresh : r.done ≡ false
@@ -88,7 +87,7 @@ module _ (r0 : ReaderView) (s0 : SourceView) (long : Bool) (r : ReaderView) (s :
   told_here told = ready.here.went.tells ∙ told
 
   -- a front of more bytes than a line may have is let go
-  dropping : (r1 : ReaderView) → LINE_LIMIT < length r.held → r1.held ≡ [] → IsKept r r1 → Ready r0 s0 true r1 s
+  dropping : (r1 : ReaderView) → line_limit < length r.held → r1.held ≡ [] → IsKept r r1 → Ready r0 s0 true r1 s
   dropping r1 big gone kept =
       let here = ready.here in
       record {

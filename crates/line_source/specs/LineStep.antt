@@ -1,10 +1,9 @@
 -- What the answers of a reader say of what was still to be given.
 use Rattle.std.specs.Prelude.{◌≡◌, ℕ, ◌+◌, ◌<◌, ◌≤◌, ◌⊎◌, Bool, true, false, List, [], ◌∷◌, ◌++◌, length, take}
 use Rattle.std.specs.Str.Lines.{strip_carriage_return}
-use Rattle.line_source.specs.Lines.{NoFeed, raw_lines}
+use Rattle.line_source.specs.Lines.{NoFeed, raw_lines, line_limit}
 use Rattle.line_source.specs.SourceView.{SourceView, Rose}
 use Rattle.line_source.specs.ReaderView.{ReaderView, rest}
-use Rattle.line_source.specs.declared.reader.TheConstants.{LINE_LIMIT}
 use Rattle.line_source.specs.declared.reader.LineStep.{LineStep}
 use Rattle.line_source.specs.declared.reader.LineStep.TheVariants.{Line, LongLine, End, ReadFailed, Spent}
 
@@ -24,14 +23,14 @@ pub record IsCut (old left : List ℕ) : Type 0 where
 pub record GivesLine (old : List ℕ) (reader : ReaderView) (source : SourceView) : Type 0 where
   pub raw : List ℕ
   pub next : IsNext old raw (rest reader source) reader.ended
-  pub short : length raw ≤ LINE_LIMIT
+  pub short : length raw ≤ line_limit
   pub line : reader.line ≡ strip_carriage_return raw
 
 -- the next line was skipped, since it is too long
 pub record SkipsLine (old : List ℕ) (reader : ReaderView) (source : SourceView) : Type 0 where
   pub raw : List ℕ
   pub next : IsNext old raw (rest reader source) reader.ended
-  pub long : LINE_LIMIT < length raw
+  pub long : line_limit < length raw
 
 -- nothing was to be given
 pub record GivesEnd (old : List ℕ) (reader : ReaderView) (source : SourceView) : Type 0 where
@@ -48,7 +47,7 @@ Gives Spent = λ old reader source. IsCut old source.left
 
 -- what an answer says on every source
 abbrev pub Means : LineStep → ReaderView → SourceView → SourceView → Type 0
-Means Line reader before after = length reader.line ≤ LINE_LIMIT
+Means Line reader before after = length reader.line ≤ line_limit
 Means LongLine reader before after = reader.line ≡ []
 Means End reader before after = (reader.line ≡ []) × (reader.ended ≡ true)
 Means ReadFailed reader before after = (reader.line ≡ []) × (reader.ended ≡ false) × Rose before after

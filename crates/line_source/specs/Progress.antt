@@ -1,10 +1,9 @@
 -- How far a script was read by calls of `next_line`, one after another.
 use Rattle.std.specs.Prelude.{◌≡◌, ℕ, ◌+◌, ◌<◌, ◌≤◌, true, false, List, [], ◌∷◌, ◌++◌, length}
 use Rattle.std.specs.Str.Lines.{strip_carriage_return}
-use Rattle.line_source.specs.Lines.{raw_lines, complete_lines}
+use Rattle.line_source.specs.Lines.{raw_lines, complete_lines, line_limit}
 use Rattle.line_source.specs.SourceView.{SourceView, Told, Went}
 use Rattle.line_source.specs.ReaderView.{ReaderView, rest}
-use Rattle.line_source.specs.declared.reader.TheConstants.{LINE_LIMIT}
 use Rattle.line_source.specs.declared.reader.LineStep.{LineStep}
 use Rattle.line_source.specs.declared.reader.LineStep.TheVariants.{Line, LongLine, End, ReadFailed, Spent}
 
@@ -27,8 +26,8 @@ pub record HasGiven (r0 : ReaderView) (s0 : SourceView) (given : List (List ℕ)
 
 -- the line that an answer speaks of
 abbrev pub IsLineOf : LineStep → List ℕ → List ℕ → Type 0
-IsLineOf Line raw line = (length raw ≤ LINE_LIMIT) × (line ≡ strip_carriage_return raw)
-IsLineOf LongLine raw line = LINE_LIMIT < length raw
+IsLineOf Line raw line = (length raw ≤ line_limit) × (line ≡ strip_carriage_return raw)
+IsLineOf LongLine raw line = line_limit < length raw
 IsLineOf End raw line = ⊥
 IsLineOf ReadFailed raw line = ⊥
 IsLineOf Spent raw line = ⊥
