@@ -13,7 +13,7 @@ pub record IsNext (old raw new : List ℕ) (ended : Bool) : Type 0 where
   pub no_feed : NoFeed raw
   pub split : (old ≡ raw ++ 10 ∷ new) ⊎ ((old ≡ raw) × (new ≡ []) × (ended ≡ true))
 
--- of what was to be given a part of a line was taken, and the others are left
+-- of what was to be given a part of a line was taken, and all behind it is left
 pub record IsCut (old left : List ℕ) : Type 0 where
   pub part : List ℕ
   pub no_feed : NoFeed part
@@ -61,7 +61,7 @@ is_last End = true
 is_last ReadFailed = true
 is_last Spent = true
 
--- all the bytes that may be taken will be taken, and neither a complete line nor the end is met with them
+-- with all the bytes that may be taken neither a complete line nor the end is met
 pub record IsSpent (reader : ReaderView) (source : SourceView) : Type 0 where
   pub more : reader.ended ≡ false
   pub no_feed : NoFeed (reader.held ++ take reader.room source.left)
@@ -72,8 +72,7 @@ pub record IsExact (step : LineStep) (reader : ReaderView) (source : SourceView)
   pub only : step ≡ Spent → IsSpent reader source
   pub always : IsSpent reader source → (step ≡ Spent) ⊎ (step ≡ ReadFailed)
 
--- how the count of the bytes that may be taken goes on with what is taken; the end is seen where all was taken and more
--- might have been
+-- each byte taken lowers the room by one, and the end is seen only where nothing is left and there is room for more
 pub record Takes (old : ReaderView) (before : SourceView) (new : ReaderView) (after : SourceView) : Type 0 where
   pub count : length before.left + new.room ≡ length after.left + old.room
   pub end : old.ended ≡ false → new.ended ≡ true → (after.left ≡ []) × (0 < new.room)

@@ -103,7 +103,7 @@ impl LineReader {
 
         // No byte is taken while a complete line is held, nor once the end was seen.
         ensures idle { (at : ℕ) → IsFirstFeed self.old.held at → I.view source.new ≡ I.view source.old }
-        ensures asked { self.old.ended ≡ true → (self.new.ended ≡ true) × (I.view source.new ≡ I.view source.old) }
+        ensures ended { self.old.ended ≡ true → (self.new.ended ≡ true) × (I.view source.new ≡ I.view source.old) }
     {
         let mut long = false;
         let mut seen = 0;
