@@ -3,13 +3,12 @@ use Rattle.std.proofs.Common.{◌≡◌, ◌≢◌, ℕ, suc, ◌+◌, ◌<◌, 
 use Rattle.std.proofs.lemmas.List.{take-append-drop}
 use Rattle.std.proofs.Math.Seq.{drop-cons}
 use Rattle.std.proofs.lemmas.List.Elements.{All-append}
-use Rattle.line_source.specs.Lines.{NoFeed, raw_lines}
+use Rattle.line_source.specs.Lines.{NoFeed, raw_lines, line_limit}
 use Rattle.line_source.specs.SourceView.{SourceView, Told}
 use Rattle.line_source.specs.ReaderView.{ReaderView, rest, IsFirstFeed}
 use Rattle.line_source.specs.LineStep.{IsNext, Gives}
 use Rattle.line_source.specs.Filling.{IsKept, IsGiven, a_line, a_long_line, GivesLast, the_end, last_line}
 use Rattle.line_source.specs.declared.reader.LineStep.{LineStep}
-use Rattle.line_source.specs.declared.reader.TheConstants.{LINE_LIMIT}
 use Rattle.line_source.proofs.LineLaws.{raw_lines-line, raw_lines-last}
 use Rattle.line_source.proofs.Reading.{Reading, rest-open, rest-ended}
 
@@ -22,7 +21,7 @@ last_by : (old raw new : List ℕ) (ended : Bool) → NoFeed raw → 0 < length 
 last_by old raw new ended none some is gone met = record { lines = ap raw_lines is ∙ raw_lines-last raw none some ∙ ap (λ (l : List ℕ). raw ∷ raw_lines l) (sym gone); no_feed = none; split = inr (is, gone, met) }
 
 -- the answer, by the line that was found behind what was let go
-gives_found : (old : List ℕ) (r1 : ReaderView) (s : SourceView) (step : LineStep) (long : Bool) (dropped found : List ℕ) → (long ≡ true → LINE_LIMIT < length dropped) → (long ≡ false → dropped ≡ []) → IsNext old (dropped ++ found) (rest r1 s) r1.ended → IsGiven step long found r1.line → Gives step old r1 s
+gives_found : (old : List ℕ) (r1 : ReaderView) (s : SourceView) (step : LineStep) (long : Bool) (dropped found : List ℕ) → (long ≡ true → line_limit < length dropped) → (long ≡ false → dropped ≡ []) → IsNext old (dropped ++ found) (rest r1 s) r1.ended → IsGiven step long found r1.line → Gives step old r1 s
 gives_found old r1 s step long dropped found is_long is_whole next (a_line is not_long short line) =
     let whole : dropped ++ found ≡ found = ap (λ (l : List ℕ). l ++ found) (is_whole not_long) in
     subst (λ (x : LineStep). Gives x old r1 s) (sym is) (record { raw = found; next = subst (λ (l : List ℕ). IsNext old l (rest r1 s) r1.ended) whole next; short = short; line = line })

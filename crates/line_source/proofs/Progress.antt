@@ -18,13 +18,21 @@ true_false e = cc
 pub rose_on : (a b c : SourceView) → Went a b → Rose b c → Rose a c
 rose_on a b c went rose = omega (arith, went.faults, rose)
 
+-- what the answer of a later call says of all of them
+pub means_on : (step : LineStep) (r : ReaderView) (a b c : SourceView) → Went a b → Means step r b c → Means step r a c
+means_on Line r a b c went means = means
+means_on LongLine r a b c went means = means
+means_on End r a b c went means = means
+means_on ReadFailed r a b c went means = (means.0, means.1, rose_on a b c went means.2)
+means_on Spent r a b c went means = means
+
 -- at the start nothing was given
 pub given-none : (r : ReaderView) (s : SourceView) → r.done ≡ false → HasGiven r s [] r s
 given-none r s fresh = record {
   fresh = fresh;
   room = omega arith;
   went = record { tells = refl; faults = omega arith };
-  asked = λ e. e;
+  ended = λ e. e;
   lines = λ _. refl;
   begins = λ _ _. record { front = []; is = refl; complete = λ tail. refl };
   taken = λ _. refl;
@@ -57,10 +65,10 @@ where_told true P f = ((f refl).0, λ _. (f refl).1)
 where_told false P f = ([], λ e. absurd (true_false (sym e)))
 
 open_before : (old new : Bool) → (old ≡ true → new ≡ true) → new ≡ false → old ≡ false
-open_before true new asked e = absurd (true_false (sym (asked refl) ∙ e))
-open_before false new asked e = refl
+open_before true new stays e = absurd (true_false (sym (stays refl) ∙ e))
+open_before false new stays e = refl
 
-module _ (r0 : ReaderView) (s0 : SourceView) (given : List (List ℕ)) (r : ReaderView) (s : SourceView) (here : HasGiven r0 s0 given r s) (step : LineStep) (r1 : ReaderView) (s1 : SourceView) (gives : Told s → Gives step (rest r s) r1 s1) (takes : Told s → Takes r s r1 s1) (asked : r.ended ≡ true → (r1.ended ≡ true) × (s1 ≡ s)) where
+module _ (r0 : ReaderView) (s0 : SourceView) (given : List (List ℕ)) (r : ReaderView) (s : SourceView) (here : HasGiven r0 s0 given r s) (step : LineStep) (r1 : ReaderView) (s1 : SourceView) (gives : Told s → Gives step (rest r s) r1 s1) (takes : Told s → Takes r s r1 s1) (stays : r.ended ≡ true → (r1.ended ≡ true) × (s1 ≡ s)) where
   told_here : Told s0 → Told s
   told_here told = here.went.tells ∙ told
 
@@ -88,7 +96,7 @@ module _ (r0 : ReaderView) (s0 : SourceView) (given : List (List ℕ)) (r : Read
           fresh = done ∙ e;
           room = omega (arith, here.room, room);
           went = went_on s0 s s1 here.went went;
-          asked = λ ended. (asked (here.asked ended)).0;
+          ended = λ e. (stays (here.ended e)).0;
           lines = λ told. here.lines told ∙ ap (λ (l : List (List ℕ)). given ++ l) (found.1 (told_here told)).next.lines ∙ sym (append_assoc given (found.0 ∷ []) (raw_lines (rest r1 s1)));
           begins = λ told more. by_split found.0 (found.1 (told_here told)).next told more;
           taken = taken_now;
@@ -100,7 +108,7 @@ module _ (r0 : ReaderView) (s0 : SourceView) (given : List (List ℕ)) (r : Read
       by_split raw next told more = by next.split
         where
           before : r.ended ≡ false
-          before = open_before r.ended r1.ended (λ ended. (asked ended).0) more
+          before = open_before r.ended r1.ended (λ ended. (stays ended).0) more
 
           by : (rest r s ≡ raw ++ 10 ∷ rest r1 s1) ⊎ ((rest r s ≡ raw) × (rest r1 s1 ≡ []) × (r1.ended ≡ true)) → BeginsWith (rest r0 s0) (rest r1 s1) (given ++ raw ∷ [])
           by (inl is) = begins_with_more (rest r0 s0) (rest r s) raw (rest r1 s1) given (here.begins told before) next.no_feed is
@@ -109,7 +117,7 @@ module _ (r0 : ReaderView) (s0 : SourceView) (given : List (List ℕ)) (r : Read
   -- a part of a line was taken, and no more comes
   cut_short : Told s0 → r1.ended ≡ false → IsCut (rest r s) s1.left → IsCutShort (rest r0 s0) s1.left given
   cut_short told more cut =
-      let begins = here.begins told (open_before r.ended r1.ended (λ ended. (asked ended).0) more) in
+      let begins = here.begins told (open_before r.ended r1.ended (λ ended. (stays ended).0) more) in
       record {
         taken = begins.front ++ cut.part;
         is = begins.is ∙ ap (λ (l : List ℕ). begins.front ++ l) cut.is ∙ sym (append_assoc begins.front cut.part s1.left);

@@ -2,18 +2,17 @@
 use Rattle.std.proofs.Common.{◌≡◌, ◌≢◌, ℕ, zero, suc, ◌+◌, ◌<◌, ◌≤◌, Bool, true, false, nat_eq, ne_eqb, cond, List, [], ◌∷◌, ◌++◌, length, take, refl, sym, ap, subst, ◌∙◌, arith, append_assoc, length-append}
 use Rattle.std.proofs.lemmas.List.{append-nil, take_at}
 use Rattle.std.proofs.lemmas.List.Elements.{All-append, All-nil}
-use Rattle.line_source.specs.Lines.{NoFeed}
+use Rattle.line_source.specs.Lines.{NoFeed, line_limit}
 use Rattle.line_source.specs.SourceView.{SourceView, Told, Went}
 use Rattle.line_source.specs.ReaderView.{ReaderView, rest, IsFirstFeed}
 use Rattle.line_source.specs.LineStep.{IsCut}
 use Rattle.line_source.specs.Filling.{IsPiece, a_piece, no_piece, HasTaken, IsKept, LetsGo, drops, keeps}
-use Rattle.line_source.specs.declared.reader.TheConstants.{LINE_LIMIT}
 
 -- the call began at r0 and s0, let go of the front of a long line, and stands now at r and s
 pub record Reading (r0 : ReaderView) (s0 : SourceView) (long : Bool) (r : ReaderView) (s : SourceView) : Type 0 where
   pub dropped : List ℕ
   pub no_feed : NoFeed dropped
-  pub is_long : long ≡ true → LINE_LIMIT < length dropped
+  pub is_long : long ≡ true → line_limit < length dropped
   pub is_whole : long ≡ false → dropped ≡ []
   pub rest_is : Told s0 → rest r0 s0 ≡ dropped ++ rest r s
   pub fresh : r.done ≡ false
@@ -22,7 +21,7 @@ pub record Reading (r0 : ReaderView) (s0 : SourceView) (long : Bool) (r : Reader
   pub taken : Told s0 → length s0.left + r.room ≡ length s.left + r0.room
   pub total : r0.room + length r0.held ≡ length dropped + (r.room + length r.held)
   pub idle : (at : ℕ) → IsFirstFeed r0.held at → (s ≡ s0) × (r.held ≡ r0.held)
-  pub asked : r0.ended ≡ true → (s ≡ s0) × (r.ended ≡ true)
+  pub ended : r0.ended ≡ true → (s ≡ s0) × (r.ended ≡ true)
   pub met : r0.ended ≡ false → r.ended ≡ true → Told s0 → (s.left ≡ []) × (0 < r.room)
 
 -- of what is held, so many bytes are known to be no line feed
@@ -65,7 +64,7 @@ reading_starts r s fresh = record {
   taken = λ _. refl;
   total = omega arith;
   idle = λ _ _. (refl, refl);
-  asked = λ e. (refl, e);
+  ended = λ e. (refl, e);
   met = λ e f. absurd (true_false (sym f ∙ e));
 }
 
@@ -82,13 +81,13 @@ module _ (r0 : ReaderView) (s0 : SourceView) (long : Bool) (r : ReaderView) (s :
   no_line at feed = feed_none r0.held at feed (subst NoFeed (ready.here.idle at feed).1 ready.none)
 
   was_open : r0.ended ≡ true → ⊥
-  was_open e = true_false (sym (ready.here.asked e).1 ∙ ready.more)
+  was_open e = true_false (sym (ready.here.ended e).1 ∙ ready.more)
 
   told_here : Told s0 → Told s
   told_here told = ready.here.went.tells ∙ told
 
   -- a front of more bytes than a line may have is let go
-  dropping : (r1 : ReaderView) → LINE_LIMIT < length r.held → r1.held ≡ [] → IsKept r r1 → Ready r0 s0 true r1 s
+  dropping : (r1 : ReaderView) → line_limit < length r.held → r1.held ≡ [] → IsKept r r1 → Ready r0 s0 true r1 s
   dropping r1 big gone kept =
       let here = ready.here in
       record {
@@ -104,7 +103,7 @@ module _ (r0 : ReaderView) (s0 : SourceView) (long : Bool) (r : ReaderView) (s :
           taken = λ told. ap (λ (n : ℕ). length s0.left + n) kept.room ∙ here.taken told;
           total = omega (arith, here.total, length-append here.dropped r.held, kept.room, ap length gone);
           idle = λ at feed. absurd (no_line at feed);
-          asked = λ e. absurd (was_open e);
+          ended = λ e. absurd (was_open e);
           met = λ _ e. absurd (true_false (sym e ∙ kept.ended ∙ ready.more));
         };
         none = subst NoFeed (sym gone) (All-nil (λ b. b ≢ 10));
@@ -143,7 +142,7 @@ module _ (r0 : ReaderView) (s0 : SourceView) (long : Bool) (r : ReaderView) (s :
           taken = λ told. omega (arith, here.taken told, took.room, ap length (took.left (told_here told)), length-append took.piece s1.left);
           total = omega (arith, here.total, took.room, ap length took.held, length-append r.held took.piece);
           idle = λ at feed. absurd (no_line at feed);
-          asked = λ e. absurd (was_open e);
+          ended = λ e. absurd (was_open e);
           met = λ _ e told. end_after r1 s1 took.piece took.kind room took.room e (told_here told);
         };
         within = omega (arith, all, ap length took.held, length-append r.held took.piece);

@@ -32,7 +32,7 @@ open_before : (r0 : ReaderView) (s0 : SourceView) (long : Bool) (r : ReaderView)
 open_before r0 s0 long r s ready = by r0.ended refl
   where
     by : (b : Bool) → r0.ended ≡ b → r0.ended ≡ false
-    by true e = absurd (true_false (sym (ready.here.asked e).1 ∙ ready.more))
+    by true e = absurd (true_false (sym (ready.here.ended e).1 ∙ ready.more))
     by false e = e
 
 -- all the room was used for a part of a line

@@ -1,9 +1,9 @@
 -- What the steps inside a call of the reader say.
 use Rattle.std.specs.Prelude.{◌≡◌, ℕ, ◌+◌, ◌<◌, ◌≤◌, ◌⊎◌, Bool, true, false, List, [], ◌++◌, length}
 use Rattle.std.specs.Str.Lines.{strip_carriage_return}
+use Rattle.line_source.specs.Lines.{line_limit}
 use Rattle.line_source.specs.SourceView.{SourceView, Told, Rose}
 use Rattle.line_source.specs.ReaderView.{ReaderView}
-use Rattle.line_source.specs.declared.reader.TheConstants.{LINE_LIMIT}
 use Rattle.line_source.specs.declared.reader.LineStep.{LineStep}
 use Rattle.line_source.specs.declared.reader.LineStep.TheVariants.{Line, LongLine, End}
 
@@ -36,8 +36,8 @@ pub record IsKept (old new : ReaderView) : Type 0 where
 
 -- the last piece of a line makes it a line or a long one; `long` says that its front was let go
 pub data IsGiven (step : LineStep) (long : Bool) (raw line : List ℕ) : Type 0 where
-  a_line : step ≡ Line → long ≡ false → length raw ≤ LINE_LIMIT → line ≡ strip_carriage_return raw → IsGiven step long raw line
-  a_long_line : step ≡ LongLine → line ≡ [] → (long ≡ true) ⊎ (LINE_LIMIT < length raw) → IsGiven step long raw line
+  a_line : step ≡ Line → long ≡ false → length raw ≤ line_limit → line ≡ strip_carriage_return raw → IsGiven step long raw line
+  a_long_line : step ≡ LongLine → line ≡ [] → (long ≡ true) ⊎ (line_limit < length raw) → IsGiven step long raw line
 
 -- what is given where the end was met
 pub data GivesLast (step : LineStep) (long : Bool) (old new : ReaderView) : Type 0 where
@@ -46,5 +46,5 @@ pub data GivesLast (step : LineStep) (long : Bool) (old new : ReaderView) : Type
 
 -- the front of a line that is too long is let go, and is remembered
 pub data LetsGo (was is : Bool) (old new : ReaderView) : Type 0 where
-  drops : is ≡ true → LINE_LIMIT < length old.held → new.held ≡ [] → LetsGo was is old new
+  drops : is ≡ true → line_limit < length old.held → new.held ≡ [] → LetsGo was is old new
   keeps : is ≡ was → new ≡ old → LetsGo was is old new

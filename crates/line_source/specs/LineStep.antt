@@ -1,10 +1,9 @@
 -- What the answers of a reader say of what was still to be given.
 use Rattle.std.specs.Prelude.{◌≡◌, ℕ, ◌+◌, ◌<◌, ◌≤◌, ◌⊎◌, Bool, true, false, List, [], ◌∷◌, ◌++◌, length, take}
 use Rattle.std.specs.Str.Lines.{strip_carriage_return}
-use Rattle.line_source.specs.Lines.{NoFeed, raw_lines}
+use Rattle.line_source.specs.Lines.{NoFeed, raw_lines, line_limit}
 use Rattle.line_source.specs.SourceView.{SourceView, Rose}
 use Rattle.line_source.specs.ReaderView.{ReaderView, rest}
-use Rattle.line_source.specs.declared.reader.TheConstants.{LINE_LIMIT}
 use Rattle.line_source.specs.declared.reader.LineStep.{LineStep}
 use Rattle.line_source.specs.declared.reader.LineStep.TheVariants.{Line, LongLine, End, ReadFailed, Spent}
 
@@ -14,7 +13,7 @@ pub record IsNext (old raw new : List ℕ) (ended : Bool) : Type 0 where
   pub no_feed : NoFeed raw
   pub split : (old ≡ raw ++ 10 ∷ new) ⊎ ((old ≡ raw) × (new ≡ []) × (ended ≡ true))
 
--- of what was to be given a part of a line was taken, and the others are left
+-- of what was to be given a part of a line was taken, and all behind it is left
 pub record IsCut (old left : List ℕ) : Type 0 where
   pub part : List ℕ
   pub no_feed : NoFeed part
@@ -24,14 +23,14 @@ pub record IsCut (old left : List ℕ) : Type 0 where
 pub record GivesLine (old : List ℕ) (reader : ReaderView) (source : SourceView) : Type 0 where
   pub raw : List ℕ
   pub next : IsNext old raw (rest reader source) reader.ended
-  pub short : length raw ≤ LINE_LIMIT
+  pub short : length raw ≤ line_limit
   pub line : reader.line ≡ strip_carriage_return raw
 
 -- the next line was skipped, since it is too long
 pub record SkipsLine (old : List ℕ) (reader : ReaderView) (source : SourceView) : Type 0 where
   pub raw : List ℕ
   pub next : IsNext old raw (rest reader source) reader.ended
-  pub long : LINE_LIMIT < length raw
+  pub long : line_limit < length raw
 
 -- nothing was to be given
 pub record GivesEnd (old : List ℕ) (reader : ReaderView) (source : SourceView) : Type 0 where
@@ -48,7 +47,7 @@ Gives Spent = λ old reader source. IsCut old source.left
 
 -- what an answer says on every source
 abbrev pub Means : LineStep → ReaderView → SourceView → SourceView → Type 0
-Means Line reader before after = length reader.line ≤ LINE_LIMIT
+Means Line reader before after = length reader.line ≤ line_limit
 Means LongLine reader before after = reader.line ≡ []
 Means End reader before after = (reader.line ≡ []) × (reader.ended ≡ true)
 Means ReadFailed reader before after = (reader.line ≡ []) × (reader.ended ≡ false) × Rose before after
@@ -62,7 +61,7 @@ is_last End = true
 is_last ReadFailed = true
 is_last Spent = true
 
--- all the bytes that may be taken will be taken, and neither a complete line nor the end is met with them
+-- with all the bytes that may be taken neither a complete line nor the end is met
 pub record IsSpent (reader : ReaderView) (source : SourceView) : Type 0 where
   pub more : reader.ended ≡ false
   pub no_feed : NoFeed (reader.held ++ take reader.room source.left)
@@ -73,8 +72,7 @@ pub record IsExact (step : LineStep) (reader : ReaderView) (source : SourceView)
   pub only : step ≡ Spent → IsSpent reader source
   pub always : IsSpent reader source → (step ≡ Spent) ⊎ (step ≡ ReadFailed)
 
--- how the count of the bytes that may be taken goes on with what is taken; the end is seen where all was taken and more
--- might have been
+-- each byte taken lowers the room by one, and the end is seen only where nothing is left and there is room for more
 pub record Takes (old : ReaderView) (before : SourceView) (new : ReaderView) (after : SourceView) : Type 0 where
   pub count : length before.left + new.room ≡ length after.left + old.room
   pub end : old.ended ≡ false → new.ended ≡ true → (after.left ≡ []) × (0 < new.room)

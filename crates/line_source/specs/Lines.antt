@@ -1,7 +1,6 @@
 -- The lines of a script. A line is ended by a line feed (10); a last line without one counts.
 use Rattle.std.specs.Prelude.{◌≢◌, ℕ, ◌==◌, nat_lt, if◌then◌else◌, Bool, List, [], ◌∷◌, length, All}
 use Rattle.std.specs.List.{slice_split}
-use Rattle.line_source.specs.declared.reader.TheConstants.{LINE_LIMIT}
 
 -- no byte is a line feed
 abbrev pub NoFeed : List ℕ → Type 0
@@ -27,6 +26,10 @@ raw_lines script = without_empty_last (slice_split (λ b. b == 10) script)
 abbrev pub complete_lines : List ℕ → List (List ℕ)
 complete_lines script = without_last (slice_split (λ b. b == 10) script)
 
--- a long line has more bytes than a reader gives; a carriage return at its end counts
+-- the most bytes of a line that is given: its line feed doesn't count, a carriage return before it does
+abbrev pub line_limit : ℕ
+line_limit = 512
+
+-- whether a line as it stands in the script is long
 abbrev pub is_long : List ℕ → Bool
-is_long raw = nat_lt LINE_LIMIT (length raw)
+is_long raw = nat_lt line_limit (length raw)

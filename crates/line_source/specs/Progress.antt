@@ -1,10 +1,9 @@
 -- How far a script was read by calls of `next_line`, one after another.
 use Rattle.std.specs.Prelude.{◌≡◌, ℕ, ◌+◌, ◌<◌, ◌≤◌, true, false, List, [], ◌∷◌, ◌++◌, length}
 use Rattle.std.specs.Str.Lines.{strip_carriage_return}
-use Rattle.line_source.specs.Lines.{raw_lines, complete_lines}
+use Rattle.line_source.specs.Lines.{raw_lines, complete_lines, line_limit}
 use Rattle.line_source.specs.SourceView.{SourceView, Told, Went}
 use Rattle.line_source.specs.ReaderView.{ReaderView, rest}
-use Rattle.line_source.specs.declared.reader.TheConstants.{LINE_LIMIT}
 use Rattle.line_source.specs.declared.reader.LineStep.{LineStep}
 use Rattle.line_source.specs.declared.reader.LineStep.TheVariants.{Line, LongLine, End, ReadFailed, Spent}
 
@@ -19,16 +18,16 @@ pub record HasGiven (r0 : ReaderView) (s0 : SourceView) (given : List (List ℕ)
   pub fresh : r.done ≡ false
   pub room : r.room ≤ r0.room
   pub went : Went s0 s
-  pub asked : r0.ended ≡ true → r.ended ≡ true
+  pub ended : r0.ended ≡ true → r.ended ≡ true
   pub lines : Told s0 → raw_lines (rest r0 s0) ≡ given ++ raw_lines (rest r s)
   pub begins : Told s0 → r.ended ≡ false → BeginsWith (rest r0 s0) (rest r s) given
   pub taken : Told s0 → length s0.left + r.room ≡ length s.left + r0.room
   pub met : Told s0 → r0.ended ≡ false → r.ended ≡ true → length s0.left < r0.room
 
--- the line that an answer speaks of
+-- `raw` is the line, as it stands in the script, that an answer speaks of; `line` is what the reader shows then
 abbrev pub IsLineOf : LineStep → List ℕ → List ℕ → Type 0
-IsLineOf Line raw line = (length raw ≤ LINE_LIMIT) × (line ≡ strip_carriage_return raw)
-IsLineOf LongLine raw line = LINE_LIMIT < length raw
+IsLineOf Line raw line = (length raw ≤ line_limit) × (line ≡ strip_carriage_return raw)
+IsLineOf LongLine raw line = line_limit < length raw
 IsLineOf End raw line = ⊥
 IsLineOf ReadFailed raw line = ⊥
 IsLineOf Spent raw line = ⊥
@@ -39,15 +38,15 @@ pub record GivesOne (r0 : ReaderView) (s0 : SourceView) (given : List (List ℕ)
   pub line : Told s0 → IsLineOf step raw r.line
   pub more : HasGiven r0 s0 (given ++ raw ∷ []) r s
 
--- the lines given are exactly the complete ones among the bytes taken
+-- the lines given are exactly the complete ones among the bytes taken; what wasn't taken is left
 pub record IsCutShort (script left : List ℕ) (given : List (List ℕ)) : Type 0 where
   pub taken : List ℕ
   pub is : script ≡ taken ++ left
   pub complete : complete_lines taken ≡ given
 
--- what a last answer says of all that was to be given, where the source tells it: at the end all lines were given, and
--- fewer bytes were taken than might have been; elsewhere the complete lines among the bytes taken, and where all that
--- might be taken was, just so many
+-- what a last answer says of all that was to be given, where the source tells it: at the end every line was given, and
+-- fewer bytes were there than might have been taken; else the complete lines among the bytes taken were, and at `Spent`
+-- these bytes are as many as might be taken
 abbrev pub GivesAll : LineStep → ReaderView → SourceView → List (List ℕ) → SourceView → Type 0
 GivesAll Line r0 s0 given s = ⊥
 GivesAll LongLine r0 s0 given s = ⊥

@@ -6,7 +6,7 @@
 #![tactic(auto)]
 
 pub use self::mem::MemSource;
-pub use self::reader::{LINE_LIMIT, LineReader, LineStep};
+pub use self::reader::{LineReader, LineStep};
 pub use self::source::{ReadFailed, Source};
 
 mod buffer;

@@ -32,7 +32,10 @@ impl Model for MemSource {
 }
 
 impl MemSource {
-    /// A source of these bytes, at most `piece` of them a call, of which call number n, from 0, fails where n is in `fail`.
+    /// A source of these bytes, which gives at most `piece` of them a call.
+    ///
+    /// Call number n, from 0, fails exactly where n is in `fail`. It takes memory for both lists, and `AllocError` is want
+    /// of memory.
     pub fn new(
         alloc: Global,
         bytes: &[u8],

@@ -2,6 +2,7 @@
 
 ghost use Rattle.std.specs.Prelude.{◌≡◌, ℕ, ◌<◌, ◌≤◌, ◌+◌, [], length, take, drop, OnOk, OnErr, false, true};
 ghost use Rattle.line_source.specs.SourceView.{Told, Went};
+ghost use Rattle.line_source.specs.Lines.{line_limit};
 ghost use Rattle.line_source.specs.ReaderView.{ReaderView, rest, IsFirstFeed};
 ghost use Rattle.line_source.specs.LineStep.{Gives, Means, is_last, IsExact, Takes};
 ghost use Rattle.line_source.specs.Filling.{HasTaken, HasFailed, IsKept, IsGiven, GivesLast, LetsGo};
@@ -10,15 +11,12 @@ use super::buffer::{BUFFER_LEN, find_feed, make_space, take_behind};
 use super::source::{ReadFailed, Source};
 use std::marker::Model;
 
-/// The most bytes of a line that is given. Its line feed doesn't count, a carriage return before it does.
-pub const LINE_LIMIT: usize = 512;
-
 /// What a call of `next_line` came to.
 #[derive(Clone, Copy, Debug, PartialEq, Eq)]
 pub enum LineStep {
     /// A line, which `line` shows.
     Line,
-    /// A line of more than `LINE_LIMIT` bytes, which was skipped.
+    /// A line of more than 512 bytes, its line feed not counted, which was skipped.
     LongLine,
     /// The source answered that its script is at its end, and every line was given.
     End,
@@ -27,6 +25,9 @@ pub enum LineStep {
     /// All the bytes that may be taken were taken, no complete line is left of them, and the end wasn't seen.
     Spent,
 }
+
+// The most bytes of a line that is given. Its line feed doesn't count, a carriage return before it does.
+const LINE_LIMIT: usize = 512;
 
 /// Reads the lines of a source.
 ///
@@ -102,7 +103,7 @@ impl LineReader {
 
         // No byte is taken while a complete line is held, nor once the end was seen.
         ensures idle { (at : ℕ) → IsFirstFeed self.old.held at → I.view source.new ≡ I.view source.old }
-        ensures asked { self.old.ended ≡ true → (self.new.ended ≡ true) × (I.view source.new ≡ I.view source.old) }
+        ensures ended { self.old.ended ≡ true → (self.new.ended ≡ true) × (I.view source.new ≡ I.view source.old) }
     {
         let mut long = false;
         let mut seen = 0;
@@ -180,7 +181,7 @@ impl LineReader {
     // Lets go of the front of a line that is too long, and answers whether the line is known to be.
     fn let_go(&mut self, long: bool) -> bool
         ensures lets_go { LetsGo long result self.old self.new }
-        ensures short { length self.new.held ≤ LINE_LIMIT }
+        ensures short { length self.new.held ≤ line_limit }
         ensures kept { IsKept self.old self.new }
     {
         if self.end - self.start > LINE_LIMIT {
@@ -193,7 +194,7 @@ impl LineReader {
     // Takes a piece behind what is held, or meets the end.
     fn fill<I: Source>(&mut self, source: &mut I) -> Result<(), ReadFailed>
         requires room { 0 < self.old.room }
-        requires short { length self.old.held ≤ LINE_LIMIT }
+        requires short { length self.old.held ≤ line_limit }
         requires open { self.old.ended ≡ false }
         ensures took { OnOk result (HasTaken self.old (I.view source.old) self.new (I.view source.new)) }
         ensures failed { OnErr result (HasFailed self.old (I.view source.old) self.new (I.view source.new)) }
