@@ -8,7 +8,7 @@ use Rattle.density_rule.specs.Windows.{count_in, IsWindow, IsBalanced}
 use Rattle.density_rule.specs.Updates.{count_after, counts_after, is_broken, highest_broken, resized_height}
 use Rattle.density_rule.specs.Spread.{shares, spread_counts}
 use Rattle.density_rule.specs.Laws.{IsBetween, LiesInSpread}
-use Rattle.density_rule.proofs.Bounding.{least_of-some, least_of-le-lower_of, lower_of-next-le, upper_of-rises, lower_of-rises, in_bounds_from, in_bounds_test}
+use Rattle.density_rule.proofs.Bounding.{least_of-some, least_of-le-lower_of, lower_of-next-le, upper_of-rises, lower_of-rises, in_bounds_from, over_upper_of, under_least_of}
 use Rattle.density_rule.proofs.Greatest.{IsGreatest, greatest_is}
 use Rattle.density_rule.proofs.Totals.{total, total_all, total_none, count_by_totals}
 use Rattle.density_rule.proofs.Places.{window_end, over_in_store}
@@ -132,17 +132,18 @@ pub record NewRoot (adds : Bool) (height records : ℕ) : Type 0 where
   pub most_is : records ≤ upper_of height
   pub updated : IsInBounds height height (count_after adds records)
 
-both_pass : (height n : ℕ) → IsInBounds height height n → is_in_bounds height height n ≡ false → ⊥
-both_pass height n is e = let yes = in_bounds_test height height n is in cc
+-- a store of one segment never shrinks
+pub shrinks_from : (height records : ℕ) → IsInBounds height height records → is_in_bounds height height (records - 1) ≡ false → 1 ≤ records → 1 ≤ height
+shrinks_from height records fits broken one = elim (cases_lt 0 height) [
+  | inl lt ↦ omega arith
+  | inr none ↦ let zero_least : least_of height height ≡ 0 = ap (λ (h : ℕ). least_of h height) {x = height} {y = 0} (omega arith) in absurd (omega (arith, under_least_of height height records fits broken))
+]
 
 pub new_root : (adds : Bool) (height records : ℕ) → height ≤ 16 → IsInBounds height height records → is_in_bounds height height (count_after adds records) ≡ false
     → (adds ≡ true → upper_of height < records + 1 → height + 1 ≤ 16) → (adds ≡ false → 1 ≤ records) → NewRoot adds (resized_height adds height) records
 new_root true height records low fits broken may_grow some =
-    let over : upper_of height < records + 1 = elim (cases_lt (upper_of height) (records + 1)) [
-      | inl lt ↦ lt
-      | inr le ↦ absurd (both_pass height (records + 1) (record { least_is = omega (arith, fits.least_is); most_is = omega arith }) broken)
-    ] in
-    let cap : height + 1 ≤ 16 = may_grow refl over in
+    let full : records ≡ upper_of height = over_upper_of height height records fits broken in
+    let cap : height + 1 ≤ 16 = may_grow refl (omega arith) in
     let lower_is = lower_of-next-le height (omega arith) in
     let upper_is = upper_of-rises height (omega arith) in
     record {
@@ -152,19 +153,13 @@ new_root true height records low fits broken may_grow some =
       updated = record { least_is = omega (arith, least_of-le-lower_of (height + 1) (height + 1)); most_is = omega (arith, fits.most_is) };
     }
 new_root false height records low fits broken may_grow some =
-    let under : records - 1 < least_of height height = elim (cases_lt (records - 1) (least_of height height)) [
-      | inl lt ↦ lt
-      | inr le ↦ absurd (both_pass height (records - 1) (record { least_is = le; most_is = omega (arith, fits.most_is) }) broken)
-    ] in
-    let some_height : 1 ≤ height = elim (cases_lt 0 height) [
-      | inl lt ↦ omega arith
-      | inr none ↦ let zero_least : least_of height height ≡ 0 = ap (λ (h : ℕ). least_of h height) {x = height} {y = 0} (omega arith) in absurd (omega arith)
-    ] in
+    let under : records ≡ least_of height height = under_least_of height height records fits broken in
+    let one : 1 ≤ records = some refl in
+    let some_height = shrinks_from height records fits broken one in
     let least_height = least_of-some height height some_height in
     let down : height - 1 + 1 ≡ height = omega arith in
     let shrinks : lower_of (height - 1) + 1 ≤ lower_of height = subst (λ h. lower_of (height - 1) + 1 ≤ lower_of h) down (lower_of-rises (height - 1)) in
     let enough : lower_of height ≤ upper_of (height - 1) = subst (λ h. lower_of h ≤ upper_of (height - 1)) down (lower_of-next-le (height - 1) (omega arith)) in
-    let one : 1 ≤ records = some refl in
     record {
       low = omega arith;
       least_is = λ _. omega (arith, fits.least_is);

@@ -1,0 +1,4 @@
+pub mod View
+pub mod Choice
+pub mod Places
+pub mod Inside

@@ -1,0 +1,28 @@
+-- What callers see of a tally.
+use Rattle.std.specs.Prelude.{◌≡◌, ℕ, ◌^◌, ◌≤◌, List, length, replicate, slice_index, Option, Some, None, true, false}
+use Rattle.density_rule.specs.Marks.{Marks, no_marks, KeepsDrift}
+use Rattle.window_tally.specs.declared.Since.{Since}
+
+-- the greatest height, the height, the number of records of each segment, and the marks of the rested windows
+pub record TallyView : Type 0 where
+  pub hmax : ℕ
+  pub height : ℕ
+  pub counts : List ℕ
+  pub marks : Marks
+
+-- what is true of every tally
+pub record IsTally (t : TallyView) : Type 0 where
+  pub hmax_is : t.hmax ≤ 16
+  pub height_is : t.height ≤ t.hmax
+  pub size : length t.counts ≡ 2 ^ t.height
+  pub capacity : (i : ℕ) → slice_index t.counts i ≤ 64
+  pub drift : KeepsDrift t.counts t.marks
+
+-- a tally of this height with no record and no mark
+abbrev pub empty_tally : ℕ → ℕ → TallyView
+empty_tally hmax height = record { hmax = hmax; height = height; counts = replicate (2 ^ height) 0; marks = no_marks height }
+
+-- what is told of a window with this mark
+abbrev pub since_of : Option ℕ → Since
+since_of None = record { updates = 0; rested = false }
+since_of (Some n) = record { updates = n; rested = true }
