@@ -43,7 +43,7 @@ pub fn read_header<S: Station>(station: &mut S) -> Result<Header, HeaderFault>
     ensures header { IfOk result (λ h. Told (S.view station.old) → IsHeader h.layout h.live h.height h.gate (S.view station.old).held) }
     ensures sound { IfOk result (λ h. Told (S.view station.old) → header_reason (S.view station.old).held ≡ None) }
     ensures fits { IfOk result (λ h. IsLayout h.layout × (file_length h.layout ≤ (S.view station.old).fixed.reach) × (h.height ≤ h.layout.hmax) × (h.live ≤ 1)) }
-    ensures stage { IfOk result (λ h. h.layout.hmax ≤ TALLEST) }
+    ensures stage { IfOk result (λ h. (h.layout.hmax ≤ TALLEST) × (h.layout.journal ≡ max 4 (2 ^ h.layout.hmax))) }
     ensures refused { IfErr result (λ e. Told (S.view station.old) → (r : Reason) → e ≡ HeaderFault.NotStore r → header_reason (S.view station.old).held ≡ Some r) }
     ensures steps { Steps Same (S.view station.old) (S.view station.new) }
     ensures written { (S.view station.new).travel.written ≡ (S.view station.old).travel.written }
@@ -70,7 +70,8 @@ fn judge_page(size: u64, page: &[u8]) -> Result<Header, Reason>
     requires { length page.now ≡ 4096 }
     ensures sound { OnOk result ((page_identity page.now ≡ None) × (page_copy size page.now ≡ None)) }
     ensures header { IfOk result (λ h. (h.layout ≡ layout_in page.now) × (h.live ≡ live_copy page.now) × (h.height ≡ height_in (live_copy page.now) page.now) × (IsTrue h.gate ↔ (gate page.now ≡ 1))) }
-    ensures fits { IfOk result (λ h. IsLayout h.layout × (file_length h.layout ≡ size) × (h.height ≤ h.layout.hmax) × (h.live ≤ 1) × (h.layout.hmax ≤ TALLEST)) }
+    ensures fits { IfOk result (λ h. IsLayout h.layout × (file_length h.layout ≡ size) × (h.height ≤ h.layout.hmax) × (h.live ≤ 1)) }
+    ensures stage { IfOk result (λ h. (h.layout.hmax ≤ TALLEST) × (h.layout.journal ≡ max 4 (2 ^ h.layout.hmax))) }
     ensures refused { IfErr result (λ r. (page_identity page.now ≡ Some r) ⊎ ((page_identity page.now ≡ None) × (page_copy size page.now ≡ Some r))) }
 {
     let layout = judge_identity(page)?;
@@ -89,7 +90,8 @@ fn judge_page(size: u64, page: &[u8]) -> Result<Header, Reason>
 fn judge_identity(page: &[u8]) -> Result<Layout, Reason>
     requires { length page.now ≡ 4096 }
     ensures ok { IfOk result (λ l. (page_identity page.now ≡ None) × (l ≡ layout_in page.now)) }
-    ensures fits { IfOk result (λ l. IsLayout l × (l.hmax ≤ TALLEST)) }
+    ensures fits { IfOk result (λ l. IsLayout l) }
+    ensures stage { IfOk result (λ l. (l.hmax ≤ TALLEST) × (l.journal ≡ max 4 (2 ^ l.hmax))) }
     ensures refused { IfErr result (λ r. page_identity page.now ≡ Some r) }
 {
     let place = IDENTITY as usize;
@@ -111,7 +113,8 @@ fn judge_numbers(
     journal: u32,
 ) -> Result<Layout, Reason>
     ensures ok { IfOk result (λ l. (identity_reason first second version hmax journal ≡ None) × (l ≡ record { hmax = hmax; journal = journal })) }
-    ensures fits { IfOk result (λ l. IsLayout l × (l.hmax ≤ TALLEST)) }
+    ensures fits { IfOk result (λ l. IsLayout l) }
+    ensures stage { IfOk result (λ l. (l.hmax ≤ TALLEST) × (l.journal ≡ max 4 (2 ^ l.hmax))) }
     ensures refused { IfErr result (λ r. identity_reason first second version hmax journal ≡ Some r) }
 {
     if first != NAME_FRONT || second != NAME_BACK {

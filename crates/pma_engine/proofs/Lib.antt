@@ -1,3 +1,9 @@
 pub mod SingleImages
+pub mod SingleSteps
 pub mod SessionLaws
 pub mod ScriptCommands
+pub mod EditLaws
+pub mod Answering
+pub mod ServingLaws
+pub mod OutcomeLaws
+pub mod EmptyImage

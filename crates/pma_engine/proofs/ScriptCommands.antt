@@ -2,6 +2,11 @@
 use Rattle.std.proofs.Common.{◌≡◌, ◌≢◌, ◌⊎◌, inl, inr, ℕ, ◌+◌, ◌<◌, ◌≤◌, Bool, true, false, List, [], ◌∷◌, ◌++◌, length, refl, sym, ap, subst, ◌∙◌, arith, length-append, Option, Some, None}
 use Rattle.std.specs.List.{flat_map, filter_map, cons_option}
 use Rattle.std.proofs.lemmas.List.Elements.{filter_map-append}
+use Rattle.std.specs.Prelude.{if◌then◌else◌}
+use Rattle.std.specs.Str.Lines.{strip_carriage_return}
+use Rattle.std.proofs.lemmas.Bool.{lt-ltb, le-ltb}
+use Rattle.command_text.specs.Command.{command_of}
+use Rattle.command_text.specs.declared.command.Why.TheVariants as why
 use Rattle.key_slot.specs.Record.{Bytes}
 use Rattle.map_model.specs.Store.{State}
 use Rattle.command_text.specs.declared.command.Command.{Command}
@@ -56,3 +61,10 @@ all_answered hmax s (raw ∷ lines) = elim (if_any_is (command_of_raw raw)) [
       subst (AllAnswered hmax s) (sym (commands_in-some raw (command_of_raw raw) lines some))
       (answered hmax s (command_of_raw raw) some, all_answered hmax (step hmax s (command_of_raw raw)) lines)
 ]
+
+-- the command of a line that was given, or that was skipped as too long
+pub raw_command : (raw line : List ℕ) → length raw ≤ 512 → line ≡ strip_carriage_return raw → command_of line ≡ command_of_raw raw
+raw_command raw line short is = ap command_of is ∙ sym (ap (λ b. if b then Bad why.Line else command_of (strip_carriage_return raw)) (le-ltb 512 (length raw) short))
+
+pub raw_long : (raw : List ℕ) → 512 < length raw → Bad why.Line ≡ command_of_raw raw
+raw_long raw long = sym (ap (λ b. if b then Bad why.Line else command_of (strip_carriage_return raw)) (lt-ltb 512 (length raw) long))

@@ -7,7 +7,7 @@ use Rattle.std.proofs.lemmas.List.{ext_get_or, append-nil}
 use Rattle.key_slot.specs.Record.{Record, key_cmp}
 use Rattle.key_slot.specs.Segment.{IsSegment, segment_of}
 use Rattle.density_rule.specs.Bounds.{upper_of, least_of}
-use Rattle.station.specs.Bytes.{byte, InRange, Touched, Written}
+use Rattle.station.specs.Bytes.{byte, InRange, Touched, Written, Filled}
 use Rattle.header_gate.specs.declared.layout.Layout.{Layout}
 use Rattle.header_gate.specs.Header.{number, gate, live_copy, height_in, format_in, layout_in, segment_in}
 use Rattle.header_gate.specs.Places.{copy_place, segment_place, segment_size, file_length}
@@ -16,10 +16,10 @@ use Rattle.header_gate.specs.Flip.{FlipPlaces, Unflipped, Flipped}
 use Rattle.key_slot.proofs.SegmentLaws.{segment_rows as reads}
 use Rattle.header_gate.proofs.NumberLaws.{number_same}
 use Rattle.header_gate.proofs.Soundness.{sound_same}
-use Rattle.station.proofs.Ranges.{range_same, range_written}
+use Rattle.station.proofs.Ranges.{range_same, range_written, range_filled}
 use Rattle.map_model.specs.Store.{Map}
 use Rattle.map_model.specs.Image.{Represents, live_segment, array_in, rows}
-use Rattle.pma_engine.specs.Single.{HoldsRows, map_in, IsStore, Becomes}
+use Rattle.pma_engine.specs.Single.{HasHeader, HoldsRows, map_in, IsStore, Becomes, Rewrites}
 
 -- the place of the one segment of a region
 abbrev pub region_at : ℕ → ℕ
@@ -178,3 +178,25 @@ height_of_image m height image is = omega (arith, is.height_is, is.header.height
 
 pub store_of : (m : Map) (image : List ℕ) → Represents image m 0 → IsStore (live_copy image) image
 store_of m image is = subst (λ (n : Map). HoldsRows (live_copy image) (entries n) image) (sym (map_of_image m image is)) (holds_of m image is)
+
+-- what is read at the place of the live segment
+pub page_is : (live : ℕ) (image page : List ℕ) → live < 2 → HasHeader live image → Filled (segment_place (record { hmax = 0; journal = 4 }) live 0) image page → length page ≡ 4096 → page ≡ live_segment image 0
+page_is live image page small is filled size =
+    let place : segment_place (record { hmax = 0; journal = 4 }) live 0 ≡ region_at live = omega arith in
+    range_filled (region_at live) 4096 image page size (omega (arith, length_is image is.header, small)) (subst (λ (k : ℕ). Filled k image page) place filled)
+    ∙ sym (segment_is image live is.header is.live_is)
+
+-- a segment's records are determined by its bytes
+pub one_reading : (held other : List Record) (bytes : List ℕ) → IsSegment held bytes → IsSegment other bytes → held ≡ other
+one_reading held other bytes is also = sym (reads held bytes is) ∙ reads other bytes also
+
+pub header_of : (live : ℕ) (held : List Record) (image : List ℕ) → HoldsRows live held image → HasHeader live image
+header_of live held image holds = record { header = holds.header; live_is = holds.live_is }
+
+-- a file with any records is a store
+pub store_of_segment : (live : ℕ) (held : List Record) (image : List ℕ) → HoldsRows live held image → IsStore live image
+unfolding map_in
+store_of_segment live held image holds =
+    let one : segment_of (live_segment image 0) ≡ held = reads held (live_segment image 0) holds.segment in
+    let same : entries (map_in image) ≡ held = entries-from_sorted key_cmp (segment_of (live_segment image 0)) (subst (λ (r : List Record). T (is_sorted key_cmp r)) (sym one) holds.segment.fits.ascending) ∙ one in
+    subst (λ (r : List Record). HoldsRows live r image) (sym same) holds

@@ -1,0 +1,51 @@
+-- How far a script was served.
+use Rattle.std.specs.Prelude.{◌≡◌, ◌⊎◌, ◌+◌, ◌<◌, ◌≤◌, ℕ, List, ◌∷◌, [], ◌++◌, length, false, Option, Some, None, Result, Ok, Err}
+use Rattle.line_source.specs.SourceView.{SourceView, Told, Rose}
+use Rattle.line_source.specs.ReaderView.{ReaderView, rest}
+use Rattle.line_source.specs.Progress.{HasGiven, GivesAll, IsCutShort}
+use Rattle.line_source.specs.declared.reader.LineStep.TheVariants as step
+use Rattle.station.specs.View as station
+use Rattle.command_text.specs.declared.command.Command.{Command}
+use Rattle.command_text.specs.Script.{command_of_raw, commands_of, complete_commands}
+use Rattle.map_model.specs.Store.{State}
+use Rattle.pma_engine.specs.declared.fault.ServeFault.{ServeFault}
+use Rattle.pma_engine.specs.declared.fault.ServeFault.TheVariants.{Disk, Damaged, Script, Reply, Spent}
+use Rattle.pma_engine.specs.Session.{Headline, RepresentsMap, state_after, replies_after}
+use Rattle.pma_engine.specs.Single.{state_in}
+
+-- one line more was given, and this is its command
+pub record GivesCommand (r0 : ReaderView) (s0 : SourceView) (given : List (List ℕ)) (c : Command) (r : ReaderView) (s : SourceView) : Type 0 where
+  pub raw : List ℕ
+  pub command_is : Told s0 → c ≡ command_of_raw raw
+  pub more : HasGiven r0 s0 (given ++ raw ∷ []) r s
+
+-- what the answer to the question for the next command says of all lines since r0 and s0
+abbrev pub IsNextCommand : Result (Option Command) ServeFault → ReaderView → SourceView → List (List ℕ) → ReaderView → SourceView → Type 0
+IsNextCommand (Ok (Some c)) r0 s0 given r s = GivesCommand r0 s0 given c r s
+IsNextCommand (Ok None) r0 s0 given r s = Told s0 → GivesAll step.End r0 s0 given s
+IsNextCommand (Err Script) r0 s0 given r s = (Told s0 → GivesAll step.ReadFailed r0 s0 given s) × Rose s0 s
+IsNextCommand (Err Spent) r0 s0 given r s = Told s0 → GivesAll step.Spent r0 s0 given s
+IsNextCommand (Err Disk) r0 s0 given r s = ⊥
+IsNextCommand (Err (Damaged segment why)) r0 s0 given r s = ⊥
+IsNextCommand (Err Reply) r0 s0 given r s = ⊥
+
+-- A pair of an image and the bytes said, at a moment of the serving of a script: the headline, where the source tells
+-- what it has left.
+abbrev pub ScriptPair : station.View → ReaderView → SourceView → List ℕ → List ℕ → Type 0
+ScriptPair a r s image said = Told s → Headline 0 (state_in a.held) (commands_of (rest r s)) a.said image said
+
+-- these commands were answered, and no more
+pub record IsServed (a : station.View) (cs : List Command) (b : station.View) : Type 0 where
+  pub said : station.SaidTold a → b.said ≡ a.said ++ replies_after 0 (state_in a.held) cs
+  pub state : state_in b.held ≡ state_after 0 (state_in a.held) cs
+  pub stands : RepresentsMap b.held (state_after 0 (state_in a.held) cs).map
+
+-- the commands of exactly the complete lines among the bytes taken were answered
+pub record IsServedToCut (a : station.View) (script left : List ℕ) (b : station.View) : Type 0 where
+  pub taken : List ℕ
+  pub is : script ≡ taken ++ left
+  pub served : IsServed a (complete_commands taken) b
+
+-- a reader that took nothing yet
+abbrev pub fresh_reader : ℕ → ReaderView
+fresh_reader most = record { held = []; line = []; room = most; ended = false; done = false }

@@ -1,0 +1,34 @@
+//! The next command of a script.
+
+ghost use Rattle.std.specs.Prelude.{◌≡◌, ◌+◌, ◌<◌, ℕ, List, length, false, IfOk, IsSome};
+ghost use Rattle.line_source.specs.SourceView.{SourceView, Went};
+ghost use Rattle.line_source.specs.ReaderView.{ReaderView};
+ghost use Rattle.line_source.specs.Progress.{HasGiven};
+ghost use Rattle.pma_engine.specs.Serving.{IsNextCommand};
+
+use crate::fault::ServeFault;
+use command_text::{Command, Why, parse_line};
+use line_source::{LineReader, LineStep, Source};
+
+/// The command of the next line, or None at the end of the script.
+///
+/// It fails with `Script` where a read fails, and with `Spent` where all bytes that may be taken were taken and the
+/// end was not seen. After None or a fault it isn't called again.
+pub(crate) fn next_command<I: Source>(
+    reader: &mut LineReader,
+    source: &mut I,
+) -> Result<Option<Command>, ServeFault>
+    requires { reader.old.done ≡ false }
+    ensures next { (r0 : ReaderView) (s0 : SourceView) (given : List (List ℕ)) → HasGiven r0 s0 given reader.old (I.view source.old) → IsNextCommand result r0 s0 given reader.new (I.view source.new) }
+    ensures falls { IfOk result (λ next. IsSome next → reader.new.room + length reader.new.held < reader.old.room + length reader.old.held) }
+    ensures fresh { IfOk result (λ next. IsSome next → reader.new.done ≡ false) }
+    ensures went { Went (I.view source.old) (I.view source.new) }
+{
+    match reader.next_line(source) {
+        LineStep::Line => Ok(Some(parse_line(reader.line()))),
+        LineStep::LongLine => Ok(Some(Command::Bad(Why::Line))),
+        LineStep::End => Ok(None),
+        LineStep::ReadFailed => Err(ServeFault::Script),
+        LineStep::Spent => Err(ServeFault::Spent),
+    }
+}

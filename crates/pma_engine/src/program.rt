@@ -1,0 +1,96 @@
+//! All that the program does.
+
+ghost use Rattle.std.specs.Prelude.{◌≡◌, ◌+◌, ◌<◌, ◌≤◌, ◌⊎◌, ◌↔◌, ℕ, List, Some, None, IsSome, true, false, length, map, string_bytes};
+ghost use Rattle.station.specs.Bytes.{Same};
+ghost use Rattle.station.specs.View.{Told, SaidTold, Honest, NothingPending, Rose, NamedBy, attached_by};
+ghost use Rattle.station.specs.Steps.{Steps};
+ghost use Rattle.header_gate.specs.Places.{file_length};
+ghost use Rattle.header_gate.specs.EmptyStore.{IsEmptyStore, Anything};
+ghost use Rattle.line_source.specs.SourceView.{Told as SourceTold, Rose as SourceRose, Went};
+ghost use Rattle.map_model.specs.Store.{Map};
+ghost use Rattle.map_model.specs.Image.{Represents};
+ghost use Rattle.command_text.specs.Script.{commands_of};
+ghost use Rattle.pma_engine.specs.Words.{job_of, file_of, layout_of};
+ghost use Rattle.pma_engine.specs.Outcome.{IsCreateStatus, IsRunStatus, IsRest, RunHeadline, IsAnswered, IsAnsweredToCut, empty_map};
+ghost use Rattle.pma_engine.specs.declared.words.Job.{Job};
+ghost use Rattle.pma_engine.specs.declared.words.Job.TheVariants.{Create, Run};
+
+use crate::create::create_file;
+use crate::run::run_file;
+use crate::status::{DISK_FAULT, DONE, REFUSED, REPLY_FAULT, SCRIPT_FAULT, TOO_LONG, USAGE};
+use crate::words::{Job, read_words};
+use header_gate::Layout;
+use line_source::Source;
+use station::Station;
+use std::alloc::Global;
+
+/// Does what the words ask for, and answers the status with which the program ends.
+///
+/// `create FILE 0` makes the empty store in an empty file. `run FILE` opens the store and answers the script that the
+/// source gives, of which it takes at most `most` bytes. Other words end with status 2, and no call is made.
+///
+/// The statuses: 0 done; 2 usage; 3 the file is refused; 4 a disk call failed; 5 a read of the script failed; 6 a reply
+/// could not be sent whole; 8 the script has `most` bytes or more. No memory is taken, so it never ends with 7.
+pub fn run_words<I: Source, S: Station>(
+    _alloc: Global,
+    words: &[String],
+    source: &mut I,
+    station: &mut S,
+    most: u64,
+) -> u8
+    requires first { (S.view station.old).attached ≡ None }
+    requires named { IsSome (job_of (map string_bytes words.now)) → NamedBy (file_of (map string_bytes words.now)) (S.view station.old).fixed.name }
+    requires reach { (height journal : ℕ) → job_of (map string_bytes words.now) ≡ Some (Create height journal) → file_length (layout_of height journal) ≤ (S.view station.old).fixed.reach }
+
+    // Usage: exactly the words that ask for nothing, and no call is made.
+    ensures usage { (result ≡ USAGE) ↔ (job_of (map string_bytes words.now) ≡ None) }
+    ensures untouched { result ≡ USAGE → (station.new ≡ station.old) × (source.new ≡ source.old) }
+
+    // Making a store.
+    ensures create_status { (height journal : ℕ) → job_of (map string_bytes words.now) ≡ Some (Create height journal) → IsCreateStatus result }
+    ensures create_attached { (height journal : ℕ) → job_of (map string_bytes words.now) ≡ Some (Create height journal) → (S.view station.new).attached ≡ Some true }
+    ensures created { (height journal : ℕ) → job_of (map string_bytes words.now) ≡ Some (Create height journal) → result ≡ DONE → Told (S.view station.old) → IsEmptyStore (layout_of height journal) (S.view station.new).held }
+    ensures create_represents { (height journal : ℕ) → job_of (map string_bytes words.now) ≡ Some (Create height journal) → result ≡ DONE → Told (S.view station.old) → Represents (S.view station.new).held empty_map 0 }
+    ensures create_settled { (height journal : ℕ) → job_of (map string_bytes words.now) ≡ Some (Create height journal) → result ≡ DONE → NothingPending (S.view station.new) }
+    ensures create_refused { (height journal : ℕ) → job_of (map string_bytes words.now) ≡ Some (Create height journal) → Told (S.view station.old) → (result ≡ DONE → length (S.view station.old).held ≡ 0) × (result ≡ REFUSED → 0 < length (S.view station.old).held) }
+    ensures create_untouched { (height journal : ℕ) → job_of (map string_bytes words.now) ≡ Some (Create height journal) → result ≡ REFUSED → Steps Same (attached_by true (S.view station.old)) (S.view station.new) }
+    ensures create_steps { (height journal : ℕ) → job_of (map string_bytes words.now) ≡ Some (Create height journal) → Steps Anything (attached_by true (S.view station.old)) (S.view station.new) }
+    ensures create_source { (height journal : ℕ) → job_of (map string_bytes words.now) ≡ Some (Create height journal) → source.new ≡ source.old }
+    ensures create_cost { (height journal : ℕ) → job_of (map string_bytes words.now) ≡ Some (Create height journal) → ((S.view station.new).travel.written ≤ (S.view station.old).travel.written + 21) × ((S.view station.new).travel.read ≡ (S.view station.old).travel.read) }
+
+    // Answering a script.
+    ensures run_status { job_of (map string_bytes words.now) ≡ Some Run → IsRunStatus result }
+    ensures run_attached { job_of (map string_bytes words.now) ≡ Some Run → (S.view station.new).attached ≡ Some false }
+    ensures headline { job_of (map string_bytes words.now) ≡ Some Run → SourceTold (I.view source.old) → Honest (S.view station.old) → NothingPending (S.view station.old) → (m : Map) (height : ℕ) → Represents (S.view station.old).held m height →
+        (image said : List ℕ) → (S.view station.new).may_have_left (S.view station.old).calls image said → RunHeadline m height (commands_of (I.view source.old).left) (S.view station.old).said image said }
+    ensures run_held { job_of (map string_bytes words.now) ≡ Some Run → SourceTold (I.view source.old) → Told (S.view station.old) → SaidTold (S.view station.old) → (m : Map) (height : ℕ) → Represents (S.view station.old).held m height →
+        RunHeadline m height (commands_of (I.view source.old).left) (S.view station.old).said (S.view station.new).held (S.view station.new).said }
+    ensures answered { job_of (map string_bytes words.now) ≡ Some Run → result ≡ DONE → SourceTold (I.view source.old) → Told (S.view station.old) → (m : Map) (height : ℕ) → Represents (S.view station.old).held m height →
+        IsAnswered m height (commands_of (I.view source.old).left) (S.view station.old) (S.view station.new) }
+    ensures cut { job_of (map string_bytes words.now) ≡ Some Run → (result ≡ SCRIPT_FAULT) ⊎ (result ≡ TOO_LONG) → SourceTold (I.view source.old) → Told (S.view station.old) → (m : Map) (height : ℕ) → Represents (S.view station.old).held m height →
+        IsAnsweredToCut m height (I.view source.old).left (I.view source.new).left (S.view station.old) (S.view station.new) }
+    ensures run_settled { job_of (map string_bytes words.now) ≡ Some Run → IsRest result → NothingPending (S.view station.new) }
+    ensures run_refused { job_of (map string_bytes words.now) ≡ Some Run → result ≡ REFUSED → Told (S.view station.old) → (m : Map) (height : ℕ) → Represents (S.view station.old).held m height → ⊥ }
+    ensures run_no_store { job_of (map string_bytes words.now) ≡ Some Run → Told (S.view station.old) → ((m : Map) (height : ℕ) → Represents (S.view station.old).held m height → ⊥) → (result ≡ REFUSED) ⊎ (result ≡ DISK_FAULT) }
+    ensures run_untouched { job_of (map string_bytes words.now) ≡ Some Run → result ≡ REFUSED → Told (S.view station.old) → ((S.view station.new).held ≡ (S.view station.old).held) × ((S.view station.new).said ≡ (S.view station.old).said) }
+    ensures too_long { job_of (map string_bytes words.now) ≡ Some Run → result ≡ TOO_LONG → SourceTold (I.view source.old) → length (I.view source.old).left ≡ length (I.view source.new).left + most }
+    ensures whole { job_of (map string_bytes words.now) ≡ Some Run → result ≡ DONE → SourceTold (I.view source.old) → length (I.view source.old).left < most }
+
+    // Causes.
+    ensures disk { result ≡ DISK_FAULT → Rose (S.view station.old).disk_faults (S.view station.new).disk_faults }
+    ensures reply { result ≡ REPLY_FAULT → Rose (S.view station.old).say_faults (S.view station.new).say_faults }
+    ensures script { result ≡ SCRIPT_FAULT → SourceRose (I.view source.old) (I.view source.new) }
+    ensures went { Went (I.view source.old) (I.view source.new) }
+{
+    match read_words(words) {
+        None => USAGE,
+        Some(Job::Create { height, journal }) => {
+            let layout = Layout {
+                hmax: height,
+                journal,
+            };
+            create_file(station, words[1].as_str(), layout)
+        }
+        Some(Job::Run) => run_file(source, station, words[1].as_str(), most),
+    }
+}
