@@ -75,8 +75,8 @@ module _ (image : List ℕ) (is : IsEmptyStore (layout_of 0 4) image) where
       let range = length-slice_range image 24576 28672 (omega arith) (omega (arith, is.size)) in
       segment_is image 0 sound live_is
       ∙ ext_get_or 0 (slice_range image 24576 28672) (replicate 4096 0) (range ∙ sym (length-replicate {A = ℕ} 4096 0)) (λ k lt.
-        let inner : k < 4096 = omega (arith, lt, range) in
-        byte-slice_range image 24576 28672 k (omega (arith, inner)) ∙ zero_behind (24576 + k) (omega arith) ∙ sym (get_or-replicate 4096 k 0 0 inner))
+      let inner : k < 4096 = omega (arith, lt, range) in
+      byte-slice_range image 24576 28672 k (omega (arith, inner)) ∙ zero_behind (24576 + k) (omega arith) ∙ sym (get_or-replicate 4096 k 0 0 inner))
 
   empty_segment : IsSegment [] (live_segment image 0)
   unfolding segment_bytes

@@ -65,8 +65,8 @@ headline_whole a b d m height most s is law nothing ab bd told_s honest =
     let P : List ℕ → List ℕ → Type 0 = RunHeadline m height (commands_of s.left) a.said in
     since_attach a d false P law
     (run_on P (run_of_steps P ab (λ honest start image left same. pair_quiet a m height (commands_of s.left) is image a.said (same ∙ nothing honest start left) refl)) bd
-      (λ honest image said pair. pair)
-      (λ honest image said pair. pair_served a m height (commands_of s.left) is b (ab.held (law.tells honest).0) ab.frame.said image said (pair told_s)))
+    (λ honest image said pair. pair)
+    (λ honest image said pair. pair_served a m height (commands_of s.left) is b (ab.held (law.tells honest).0) ab.frame.said image said (pair told_s)))
     (λ honest image left. pair_quiet a m height (commands_of s.left) is image a.said (nothing honest image left) refl) honest
 
 -- a store that was opened is a file of some map

@@ -78,7 +78,7 @@ module _ (a0 : View) (r0 : ReaderView) (s0 : SourceView) (a : View) (r : ReaderV
       let commands : commands_of (rest r0 s0) ≡ commands_in here.given ++ later = ap commands_in (here.reading.lines told_s) ∙ commands_in-append here.given (raw_lines (rest r s)) in
       subst (λ (cs : List Command). Headline 0 (state_in a0.held) cs a0.said a.held a.said) (sym commands)
       (headline_at 0 (state_in a0.held) (commands_in here.given) later a0.said a.held a.said (all_answered 0 (state_in a0.held) here.given) (served.said said_told)
-        served.stands)
+      served.stands)
 
   module _ (c : Command) (b : View) (r1 : ReaderView) (s1 : SourceView) (next : GivesCommand r0 s0 here.given c r1 s1) where
     -- the commands before, this line's, and those behind it
@@ -104,7 +104,7 @@ module _ (a0 : View) (r0 : ReaderView) (s0 : SourceView) (a : View) (r : ReaderV
               subst (λ (cs : List Command). Headline 0 (state_in a0.held) cs a0.said image said)
               (sym (commands_are told_s ∙ ap (λ (l : List Command). commands_in here.given ++ l) (commands_in-some next.raw (command_of_raw next.raw) (raw_lines (rest r1 s1)) some)))
               (headline_of 0 (state_in a0.held) (commands_in here.given) (command_of_raw next.raw) later a0.said a.said image said answered (served.said said_told)
-                (subst (λ (d : Command). AnswerPair 0 s_now d a.said image said) (next.command_is told_s) at_state))
+              (subst (λ (d : Command). AnswerPair 0 s_now d a.said image said) (next.command_is told_s) at_state))
         ]
 
     -- all moments up to the end of the present command
@@ -126,9 +126,9 @@ module _ (a0 : View) (r0 : ReaderView) (s0 : SourceView) (a : View) (r : ReaderV
           let s_now = state_after 0 (state_in a0.held) (commands_in here.given) in
           let commands : commands_in (here.given ++ next.raw ∷ []) ≡ commands_in here.given ++ commands_in (next.raw ∷ []) = commands_in-append here.given (next.raw ∷ []) in
           let state_is : state_in b.held ≡ state_after 0 (state_in a0.held) (commands_in (here.given ++ next.raw ∷ [])) =
-              state told_a ∙ ap (λ (t : State). step 0 t c) served.state ∙ sym (one_step s_now next.raw c (next.command_is told_s))
-              ∙ sym (state_after-append 0 (state_in a0.held) (commands_in here.given) (commands_in (next.raw ∷ [])))
-              ∙ ap (state_after 0 (state_in a0.held)) (sym commands) in
+          state told_a ∙ ap (λ (t : State). step 0 t c) served.state ∙ sym (one_step s_now next.raw c (next.command_is told_s))
+          ∙ sym (state_after-append 0 (state_in a0.held) (commands_in here.given) (commands_in (next.raw ∷ [])))
+          ∙ ap (state_after 0 (state_in a0.held)) (sym commands) in
           record {
             said = λ said_told.
                 replied told_a (ap (λ f. f.tells_said) here.run.fixed ∙ said_told)

@@ -104,7 +104,7 @@ module _ (hmax : ℕ) where
       let later = replies_after hmax (step hmax (state_after hmax s done) c) more in
       let size : length (replies_after hmax s done ++ take n r) ≡ length (replies_after hmax s done) + n = omega (arith, length-append (replies_after hmax s done) (take n r), length-take n r, within) in
       let begun : replies_begun (replies hmax s (done ++ c ∷ more)) (length (replies_after hmax s done ++ take n r)) ≡ suc (length done) =
-          ap (λ (k : ℕ). replies_begun (replies hmax s (done ++ c ∷ more)) k) size ∙ begun_in s done c more n all some within in
+      ap (λ (k : ℕ). replies_begun (replies hmax s (done ++ c ∷ more)) k) size ∙ begun_in s done c more n all some within in
       record {
         new = replies_after hmax s done ++ take n r;
         rest = drop n r ++ later;

@@ -66,7 +66,7 @@ kept live held old new small holds keeps =
     let old_long = length_is old holds.header in
     let new_long = length_is new sound in
     let range : slice_range new (region_at live) (region_at live + 4096) ≡ slice_range old (region_at live) (region_at live + 4096) =
-        range_same old new (region_at live) (region_at live + 4096) (omega arith) (omega (arith, old_long, small)) (omega (arith, new_long, small)) (λ k low high. keeps.region k (low, high)) in
+    range_same old new (region_at live) (region_at live + 4096) (omega arith) (omega (arith, old_long, small)) (omega (arith, new_long, small)) (λ k low high. keeps.region k (low, high)) in
     record {
       header = sound;
       gate_even = ap (λ (b : ℕ). b % 2) keeps.gate_is ∙ holds.gate_even;
@@ -121,8 +121,8 @@ flipped_over live held next bytes first old new small holds is size written flip
     let format : format_in (live_copy new) new ≡ 1 = subst (λ (c : ℕ). number new (copy_place c + 4) ≡ 1) (sym flipped.names) flipped.format_is in
     let sound : IsSoundHeader new = sound_same first new holds.header same_length (λ k low high. same k (omega (arith, low)) (inr (omega (arith, low))) (omega (arith, high))) height format in
     let range : slice_range new (region_at (1 - live)) (region_at (1 - live) + 4096) ≡ slice_range old (region_at (1 - live)) (region_at (1 - live) + 4096) =
-        range_same old new (region_at (1 - live)) (region_at (1 - live) + 4096) (omega arith) (omega (arith, written.size, size, first_long)) (omega (arith, same_length, first_long))
-        (λ k low high. flipped.touched.rest k (apart k (omega (arith, low)) (inr (omega (arith, low))))) in
+    range_same old new (region_at (1 - live)) (region_at (1 - live) + 4096) (omega arith) (omega (arith, written.size, size, first_long)) (omega (arith, same_length, first_long))
+    (λ k low high. flipped.touched.rest k (apart k (omega (arith, low)) (inr (omega (arith, low))))) in
     record {
       header = sound;
       gate_even = ap (λ (b : ℕ). b % 2) (same 512 (omega arith) (inl (omega arith)) (omega arith)) ∙ holds.gate_even;

@@ -5,7 +5,6 @@ ghost use Rattle.station.specs.View.{Told, SaidTold, Honest, EachHeld, NothingPe
 ghost use Rattle.station.specs.Steps.{Run};
 ghost use Rattle.header_gate.specs.Places.{file_length};
 ghost use Rattle.line_source.specs.SourceView.{Told as SourceTold, Rose as SourceRose, Went};
-
 ghost use Rattle.map_model.specs.Store.{Map};
 ghost use Rattle.map_model.specs.Image.{Represents};
 ghost use Rattle.command_text.specs.Script.{commands_of};

@@ -10,7 +10,7 @@ use Rattle.pma_engine.proofs.next.next_command.Goals as goal
 pub returns-in-Line-clause-next : goal.returns-in-Line-clause-next
 returns-in-Line-clause-next g c r0 s0 given here =
     let one = given-more r0 s0 given c.args.reader.now (g.I.Source.view c.args.source.now) here Line c.next_line.new.self (g.I.Source.view c.next_line.new.source) c.in-Line.ensures.gives c.next_line.ensures.takes c.next_line.ensures.ended
-        refl c.in-Line.ensures.done c.next_line.ensures.room c.next_line.ensures.went in
+    refl c.in-Line.ensures.done c.next_line.ensures.room c.next_line.ensures.went in
     record {
       raw = one.raw;
       command_is = λ told. c.parse_line.ensures.command ∙ raw_command one.raw c.line.result.now (one.line told).0 (c.line.ensures ∙ (one.line told).1);
@@ -20,7 +20,7 @@ returns-in-Line-clause-next g c r0 s0 given here =
 pub returns-in-LongLine-clause-next : goal.returns-in-LongLine-clause-next
 returns-in-LongLine-clause-next g c r0 s0 given here =
     let one = given-more r0 s0 given c.args.reader.now (g.I.Source.view c.args.source.now) here LongLine c.next_line.new.self (g.I.Source.view c.next_line.new.source) c.in-LongLine.ensures.gives c.next_line.ensures.takes c.next_line.ensures.ended
-        refl c.in-LongLine.ensures.done c.next_line.ensures.room c.next_line.ensures.went in
+    refl c.in-LongLine.ensures.done c.next_line.ensures.room c.next_line.ensures.went in
     record { raw = one.raw; command_is = λ told. raw_long one.raw (one.line told); more = one.more }
 
 pub returns-in-End-clause-next : goal.returns-in-End-clause-next
@@ -31,7 +31,7 @@ returns-in-End-clause-next g c r0 s0 given here =
 pub returns-in-ReadFailed-clause-next : goal.returns-in-ReadFailed-clause-next
 returns-in-ReadFailed-clause-next g c r0 s0 given here = (
   given-all r0 s0 given c.args.reader.now (g.I.Source.view c.args.source.now) here ReadFailed c.next_line.new.self (g.I.Source.view c.next_line.new.source) c.in-ReadFailed.ensures.gives c.next_line.ensures.takes c.next_line.ensures.ended
-    refl c.in-ReadFailed.ensures.means,
+      refl c.in-ReadFailed.ensures.means,
   rose_on s0 (g.I.Source.view c.args.source.now) (g.I.Source.view c.next_line.new.source) here.went c.in-ReadFailed.ensures.means.2,
 )
 

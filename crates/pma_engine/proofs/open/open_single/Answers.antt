@@ -11,7 +11,7 @@ pub returns-in-Err-NotStore-clause-refused : goal.returns-in-Err-NotStore-clause
 returns-in-Err-NotStore-clause-refused g c told m height is =
     let held = c.sync.ensures.steps.held told in
     let some : header_reason (g.S.Station.view c.sync.new.self).held ≡ Some c.in-Err-NotStore.reason =
-        c.in-Err-NotStore.ensures.refused (told_on c.sync.ensures.steps.frame told) c.in-Err-NotStore.reason c.in-Err-NotStore.field-0-is in
+    c.in-Err-NotStore.ensures.refused (told_on c.sync.ensures.steps.frame told) c.in-Err-NotStore.reason c.in-Err-NotStore.field-0-is in
     let none : header_reason (g.S.Station.view c.sync.new.self).held ≡ None = ap header_reason held ∙ none_of_sound (g.S.Station.view c.args.station.now).held is.header in
     let both : None ≡ Some c.in-Err-NotStore.reason = sym none ∙ some in
     absurd cc

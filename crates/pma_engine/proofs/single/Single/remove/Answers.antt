@@ -44,4 +44,3 @@ returns-in-Err-clause-steps g c =
     update_becomes (g.S.Station.view c.args.station.now) (g.S.Station.view c.read.new.station) c.args.self.now.live (g.met.S.Station.lawful c.args.station.now) c.requires.store c.requires.nothing
     (g.S.Station.view c.write.new.station) (map_after 0 (map_in (g.S.Station.view c.args.station.now).held) (unbind c.args.key.now)) c.unbind_key.new.segment
     (rows_are g (goal.at.returns-in-Err-clause-steps g c).After-unbind_key) c.read.ensures.steps c.write.ensures.steps
-

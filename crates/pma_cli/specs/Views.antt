@@ -1,0 +1,36 @@
+-- What the operating system's file and streams mean: counts alone, and no bytes.
+use Rattle.std.specs.Prelude.{ℕ, ◌^◌, ◌≤◌, List, [], Option, None, Bool, true, false}
+use Rattle.std.proofs.Common.{arith}
+use Rattle.std.proofs.lemmas.Bool.{false≢true}
+use Rattle.line_source.specs.SourceView.{SourceView}
+use Rattle.station.specs.View.{View, Lawful}
+use Rattle.station.specs.declared.travel.Travel.{Travel}
+
+-- a source that tells nothing of what it has left
+abbrev pub untold_source : ℕ → SourceView
+untold_source faults = record { tells = false; left = []; faults = faults }
+
+-- a station that tells none of its optional meanings
+abbrev pub untold_station : Option Bool → ℕ → ℕ → ℕ → Travel → View
+untold_station attached calls disk_faults say_faults travel = record {
+  fixed = record { tells_held = false; tells_said = false; tells_crashes = false; honest = false; name = None; reach = 2 ^ 40 };
+  held = [];
+  said = [];
+  may_leave = λ image. ⊥;
+  may_have_left = λ t image said. ⊥;
+  calls = calls;
+  attached = attached;
+  disk_faults = disk_faults;
+  say_faults = say_faults;
+  travel = travel;
+}
+
+pub untold_lawful : (attached : Option Bool) (calls disk_faults say_faults : ℕ) (travel : Travel) → Lawful (untold_station attached calls disk_faults say_faults travel)
+untold_lawful attached calls disk_faults say_faults travel = record {
+  reach = omega arith;
+  tells = λ honest. absurd (false≢true honest);
+  held = λ honest. absurd (false≢true honest);
+  sizes = λ honest. absurd (false≢true honest);
+  now = λ honest. absurd (false≢true honest);
+  present = λ honest. absurd (false≢true honest);
+}
