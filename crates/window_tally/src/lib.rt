@@ -1,9 +1,12 @@
 //! The counts and marks of all windows of a store, and which window an update asks to be spread.
 //!
 //! A tally has one number for each window of the store, kept as an implicit binary tree: the count of a window is the
-//! sum of the counts of its segments. Beside it stands a mark for each window that was inside a spread window: how many
-//! updates it has had since. An update changes one window of each height. After Bender, Demaine and Farach-Colton
-//! (SIAM J. Comput. 35, 2005), with the rule that every window over the segment is looked at.
+//! sum of the counts of its segments. A window is rested once a larger window around it was spread, or the whole store
+//! resized. It then has a mark, the number of updates in it since, and it cannot leave its bounds before it has had
+//! `2^h` of them, where `h` is its height. After Bender, Demaine and Farach-Colton (SIAM J. Comput. 35, 2005), with the
+//! rule that every window over the segment is looked at.
+//!
+//! An update changes one window of each height, a spread only what lies inside its window, and a look one place.
 #![tactic(auto)]
 
 ghost use Rattle.std.specs.Prelude.{◌≡◌, ℕ, ◌+◌, ◌-◌, ◌*◌, ◌/◌, ◌^◌, ◌<◌, ◌≤◌, IfOk, IsTrue, Some, Option, slice_index, slice_range, slice_set, sum, true, false};
@@ -249,12 +252,12 @@ impl Tally {
             let broken = highest_broken_of self.now.height after segment in
             result ≡ pick_of self.now.hmax self.now.height segment change broken }
 
-        // Where the tally is within bounds, and a store is full exactly where it can hold no more.
+        // Where all windows are within their bounds, it can be done. A store is at its limit exactly where it is full.
         ensures possible { IsBalanced self.now.height self.now.counts → IsPossible self.now result }
         ensures limit { IsBalanced self.now.height self.now.counts → change ≡ Change.Add →
             sum self.now.counts ≡ upper_of self.now.hmax → result ≡ Pick.AtLimit }
 
-        // The window one below the picked one, which is the cause, had that many updates.
+        // The cause is the window one below the picked one: if it was rested, it has had that many updates.
         ensures cause { (window : Window) (n : ℕ) → result ≡ Pick.Spread window →
             let h = window.height - 1 in
             mark_of self.now.marks h (segment / 2 ^ h) ≡ Some n → 2 ^ h ≤ n }
