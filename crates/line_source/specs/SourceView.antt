@@ -17,6 +17,10 @@ pub record Went (old new : SourceView) : Type 0 where
   pub tells : new.tells ≡ old.tells
   pub faults : old.faults ≤ new.faults
 
--- a read failed; the count stands still at the last value of a `u64`
+-- one more; a count stands still at the last value of a `u64`
+abbrev pub one_more : ℕ → ℕ
+one_more count = min (count + 1) (2 ^ 64 - 1)
+
+-- a read failed
 abbrev pub Rose : SourceView → SourceView → Type 0
-Rose old new = min (old.faults + 1) (2 ^ 64 - 1) ≤ new.faults
+Rose old new = one_more old.faults ≤ new.faults

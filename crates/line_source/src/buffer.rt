@@ -54,7 +54,8 @@ pub(crate) fn take_behind<I: Source>(
     ensures kept { take held buffer.new ≡ take held buffer.old }
     ensures most { IfOk result (λ n. n ≤ room) }
     ensures fits { IfOk result (λ n. held + n ≤ length buffer.old) }
-    ensures taken { IfOk result (λ n. Told (I.view source.old) → (I.view source.old).left ≡ take n (drop held buffer.new) ++ (I.view source.new).left) }
+    ensures taken { IfOk result (λ n. Told (I.view source.old)
+        → (I.view source.old).left ≡ take n (drop held buffer.new) ++ (I.view source.new).left) }
     ensures end { IfOk result (λ n. n ≡ 0 → Told (I.view source.old) → (I.view source.new).left ≡ []) }
     ensures none { OnErr result (Told (I.view source.old) → (I.view source.new).left ≡ (I.view source.old).left) }
     ensures cause { OnErr result (Rose (I.view source.old) (I.view source.new)) }

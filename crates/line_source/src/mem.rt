@@ -1,8 +1,8 @@
 //! A source in memory.
 
-ghost use Rattle.std.specs.Prelude.{◌≡◌, ◌<◌, ◌≤◌, ◌++◌, ◌↔◌, ◌+◌, ◌-◌, ◌^◌, [], length, take, drop, min, true, IfOk, OnErr, IsErr};
+ghost use Rattle.std.specs.Prelude.{◌≡◌, ◌<◌, ◌≤◌, ◌++◌, ◌↔◌, ◌+◌, [], length, take, drop, min, true, IfOk, OnErr, IsErr};
 ghost use Rattle.std.specs.List.{Contains};
-ghost use Rattle.line_source.specs.SourceView.{Told, Went, Rose};
+ghost use Rattle.line_source.specs.SourceView.{Told, Went, Rose, one_more};
 ghost use Rattle.line_source.specs.MemView.{MemView, as_source};
 
 use super::source::{ReadFailed, Source};
@@ -26,7 +26,13 @@ impl Model for MemSource {
 
     ghost Value = { MemView };
 
-    ghost view = { λ m. record { left = drop m.at m.bytes.items; piece = m.piece; fail = m.fail.items; calls = m.calls; faults = m.faults } };
+    ghost view = { λ m. record {
+      left = drop m.at m.bytes.items;
+      piece = m.piece;
+      fail = m.fail.items;
+      calls = m.calls;
+      faults = m.faults;
+    } };
 
     ghost invariant = { λ m. (m.at ≤ length m.bytes.items) × (1 ≤ m.piece) };
 }
@@ -43,7 +49,13 @@ impl MemSource {
         fail: &[u32],
     ) -> Result<MemSource, AllocError>
         requires { 1 ≤ piece }
-        ensures { IfOk result (λ m. m ≡ record { left = bytes.now; piece = piece; fail = fail.now; calls = 0; faults = 0 }) }
+        ensures { IfOk result (λ m. m ≡ record {
+          left = bytes.now;
+          piece = piece;
+          fail = fail.now;
+          calls = 0;
+          faults = 0;
+        }) }
     {
         Ok(MemSource {
             bytes: Vec::from_slice(alloc, bytes)?,
@@ -72,8 +84,10 @@ impl Source for MemSource {
 
     fn take(&mut self, buf: &mut [u8]) -> Result<usize, ReadFailed>
         ensures within { IfOk result (λ n. n ≤ length buf.old) }
-        ensures taken { IfOk result (λ n. Told (as_source self.old) → self.old.left ≡ take n buf.new ++ self.new.left) }
-        ensures end { IfOk result (λ n. n ≡ 0 → 0 < length buf.old → Told (as_source self.old) → self.old.left ≡ []) }
+        ensures taken { IfOk result (λ n. Told (as_source self.old)
+            → self.old.left ≡ take n buf.new ++ self.new.left) }
+        ensures end { IfOk result (λ n. n ≡ 0 → 0 < length buf.old → Told (as_source self.old)
+            → self.old.left ≡ []) }
         ensures none { OnErr result (Told (as_source self.old) → self.new.left ≡ self.old.left) }
         ensures cause { OnErr result (Rose (as_source self.old) (as_source self.new)) }
         ensures went { Went (as_source self.old) (as_source self.new) }
@@ -81,8 +95,14 @@ impl Source for MemSource {
         // What a source in memory says besides.
         ensures fails { IsErr result ↔ Contains self.old.fail self.old.calls }
         ensures size { IfOk result (λ n. n ≡ min (length buf.old) (min self.old.piece (length self.old.left))) }
-        ensures gone { IfOk result (λ n. self.new ≡ record self.old { left = drop n self.old.left; calls = min (self.old.calls + 1) (2 ^ 64 - 1) }) }
-        ensures failed { OnErr result (self.new ≡ record self.old { calls = min (self.old.calls + 1) (2 ^ 64 - 1); faults = min (self.old.faults + 1) (2 ^ 64 - 1) }) }
+        ensures gone { IfOk result (λ n. self.new ≡ record self.old {
+          left = drop n self.old.left;
+          calls = one_more self.old.calls;
+        }) }
+        ensures failed { OnErr result (self.new ≡ record self.old {
+          calls = one_more self.old.calls;
+          faults = one_more self.old.faults;
+        }) }
         ensures behind { IfOk result (λ n. drop n buf.new ≡ drop n buf.old) }
         ensures kept { OnErr result (buf.new ≡ buf.old) }
     {

@@ -52,9 +52,16 @@ impl Model for LineReader {
 
     ghost Value = { ReaderView };
 
-    ghost view = { λ r. record { held = slice_range r.buffer r.start r.end; line = slice_range r.buffer r.line_start r.line_end; room = r.room; ended = r.ended; done = r.done } };
+    ghost view = { λ r. record {
+      held = slice_range r.buffer r.start r.end;
+      line = slice_range r.buffer r.line_start r.line_end;
+      room = r.room;
+      ended = r.ended;
+      done = r.done;
+    } };
 
-    ghost invariant = { λ r. (r.start ≤ r.end) × (r.end ≤ BUFFER_LEN) × (r.line_start ≤ r.line_end) × (r.line_end ≤ BUFFER_LEN) × (length r.buffer ≡ BUFFER_LEN) };
+    ghost invariant = { λ r. (r.start ≤ r.end) × (r.end ≤ BUFFER_LEN) × (r.line_start ≤ r.line_end)
+        × (r.line_end ≤ BUFFER_LEN) × (length r.buffer ≡ BUFFER_LEN) };
 }
 
 impl LineReader {
@@ -90,20 +97,24 @@ impl LineReader {
         requires { self.old.done ≡ false }
 
         // On a source that tells what it has left, the lines are those of its script.
-        ensures gives { Told (I.view source.old) → Gives result (rest self.old (I.view source.old)) self.new (I.view source.new) }
+        ensures gives { Told (I.view source.old)
+            → Gives result (rest self.old (I.view source.old)) self.new (I.view source.new) }
         ensures exact { Told (I.view source.old) → IsExact result self.old (I.view source.old) }
-        ensures takes { Told (I.view source.old) → Takes self.old (I.view source.old) self.new (I.view source.new) }
+        ensures takes { Told (I.view source.old)
+            → Takes self.old (I.view source.old) self.new (I.view source.new) }
 
         // On every source.
         ensures means { Means result self.new (I.view source.old) (I.view source.new) }
         ensures done { self.new.done ≡ is_last result }
-        ensures falls { is_last result ≡ false → self.new.room + length self.new.held < self.old.room + length self.old.held }
+        ensures falls { is_last result ≡ false
+            → self.new.room + length self.new.held < self.old.room + length self.old.held }
         ensures room { self.new.room ≤ self.old.room }
         ensures went { Went (I.view source.old) (I.view source.new) }
 
         // No byte is taken while a complete line is held, nor once the end was seen.
         ensures idle { (at : ℕ) → IsFirstFeed self.old.held at → I.view source.new ≡ I.view source.old }
-        ensures ended { self.old.ended ≡ true → (self.new.ended ≡ true) × (I.view source.new ≡ I.view source.old) }
+        ensures ended { self.old.ended ≡ true
+            → (self.new.ended ≡ true) × (I.view source.new ≡ I.view source.old) }
     {
         let mut long = false;
         let mut seen = 0;
@@ -196,8 +207,10 @@ impl LineReader {
         requires room { 0 < self.old.room }
         requires short { length self.old.held ≤ line_limit }
         requires open { self.old.ended ≡ false }
-        ensures took { OnOk result (HasTaken self.old (I.view source.old) self.new (I.view source.new)) }
-        ensures failed { OnErr result (HasFailed self.old (I.view source.old) self.new (I.view source.new)) }
+        ensures took { OnOk result
+            (HasTaken self.old (I.view source.old) self.new (I.view source.new)) }
+        ensures failed { OnErr result
+            (HasFailed self.old (I.view source.old) self.new (I.view source.new)) }
         ensures went { Went (I.view source.old) (I.view source.new) }
         ensures done { self.new.done ≡ self.old.done }
     {
