@@ -58,6 +58,8 @@ pub fn run_words<I: Source, S: Station>(
     ensures create_source { (height journal : ℕ) → job_of (map string_bytes words.now) ≡ Some (Create height journal) → source.new ≡ source.old }
     ensures create_cost { (height journal : ℕ) → job_of (map string_bytes words.now) ≡ Some (Create height journal) → ((S.view station.new).travel.written ≤ (S.view station.old).travel.written + 21) × ((S.view station.new).travel.read ≡ (S.view station.old).travel.read) }
 
+    ensures create_complete { (height journal : ℕ) → job_of (map string_bytes words.now) ≡ Some (Create height journal) → Told (S.view station.old) → length (S.view station.old).held ≡ 0 → ¬ Rose (S.view station.old).disk_faults (S.view station.new).disk_faults → result ≡ DONE }
+
     // Answering a script.
     ensures run_status { job_of (map string_bytes words.now) ≡ Some Run → IsRunStatus result }
     ensures run_attached { job_of (map string_bytes words.now) ≡ Some Run → (S.view station.new).attached ≡ Some false }
@@ -75,6 +77,8 @@ pub fn run_words<I: Source, S: Station>(
     ensures run_untouched { job_of (map string_bytes words.now) ≡ Some Run → result ≡ REFUSED → Told (S.view station.old) → ((S.view station.new).held ≡ (S.view station.old).held) × ((S.view station.new).said ≡ (S.view station.old).said) }
     ensures too_long { job_of (map string_bytes words.now) ≡ Some Run → result ≡ TOO_LONG → SourceTold (I.view source.old) → length (I.view source.old).left ≡ length (I.view source.new).left + most }
     ensures whole { job_of (map string_bytes words.now) ≡ Some Run → result ≡ DONE → SourceTold (I.view source.old) → length (I.view source.old).left < most }
+    ensures complete { job_of (map string_bytes words.now) ≡ Some Run → SourceTold (I.view source.old) → Told (S.view station.old) → (m : Map) (height : ℕ) → Represents (S.view station.old).held m height →
+        length (I.view source.old).left < most → ¬ Rose (S.view station.old).disk_faults (S.view station.new).disk_faults → ¬ Rose (S.view station.old).say_faults (S.view station.new).say_faults → ¬ SourceRose (I.view source.old) (I.view source.new) → result ≡ DONE }
 
     // Causes.
     ensures disk { result ≡ DISK_FAULT → Rose (S.view station.old).disk_faults (S.view station.new).disk_faults }
