@@ -2,10 +2,9 @@
 use Rattle.std.proofs.Common.{◌≡◌, ◌⊎◌, inl, inr, ℕ, ◌≤◌, List, ◌∷◌, [], ◌++◌, length, take, refl, sym, ◌∙◌, ap, subst}
 use Rattle.std.specs.List.{flat_map}
 use Rattle.std.proofs.lemmas.List.{append-nil}
-use Rattle.std.specs.FinMap.{entries}
-use Rattle.station.specs.View.{View, Told, SaidTold, Honest, MayHold, EachHeld, NothingPending, Lawful}
+use Rattle.station.specs.View.{View, Told, SaidTold, EachHeld, NothingPending, Lawful}
 use Rattle.station.specs.Steps.{Steps, Says, Run}
-use Rattle.station.proofs.Composition.{told_on, told_of}
+use Rattle.station.proofs.Composition.{told_on}
 use Rattle.station.proofs.Sayings.{run_of_steps, run_of_says, run_on}
 use Rattle.map_model.specs.Store.{Map, State}
 use Rattle.map_model.specs.Image.{Represents}
@@ -13,7 +12,7 @@ use Rattle.command_text.specs.declared.command.Command.{Command}
 use Rattle.command_text.specs.declared.reply.Reply.{Reply}
 use Rattle.command_text.specs.Reply.{reply_text}
 use Rattle.command_text.specs.Answers.{answers, reply_of, step}
-use Rattle.pma_engine.specs.Single.{IsStore, Becomes, map_in, state_in, lines_of}
+use Rattle.pma_engine.specs.Single.{IsStore, Becomes, map_in}
 use Rattle.pma_engine.specs.Session.{RepresentsMap, AnswerPair}
 use Rattle.pma_engine.proofs.SingleImages.{represents_of}
 

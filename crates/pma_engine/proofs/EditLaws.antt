@@ -1,14 +1,13 @@
 -- What an update makes of the entries of a map.
-use Rattle.std.proofs.Common.{◌≡◌, ℕ, ◌+◌, ◌<◌, ◌≤◌, Bool, true, false, List, length, refl, sym, ap, subst, ◌∙◌, arith, ne_eqb, Option, Some, None}
-use Rattle.std.specs.Prelude.{if◌then◌else◌, ◌==◌, ◌||◌, nat_lt, is_some, IsSome}
-use Rattle.std.specs.FinMap.{FinMap, entries, contains_key, get, insert, remove, len, put}
-use Rattle.std.proofs.lemmas.Bool.{lt-ltb, le-ltb}
-use Rattle.key_slot.specs.Record.{Bytes, Record, key_cmp}
-use Rattle.key_slot.specs.Ordered.{without}
+use Rattle.std.proofs.Common.{◌≡◌, ℕ, ◌<◌, true, false, List, sym, ap, ◌∙◌, arith, ne_eqb}
+use Rattle.std.specs.Prelude.{if◌then◌else◌, ◌==◌, ◌||◌, nat_lt, is_some}
+use Rattle.std.specs.FinMap.{entries, contains_key, insert, remove, len}
+use Rattle.std.proofs.lemmas.Bool.{lt-ltb}
+use Rattle.key_slot.specs.Record.{Bytes, Record}
 use Rattle.density_rule.specs.Bounds.{upper_of}
 use Rattle.map_model.specs.Store.{Map, bind, unbind, map_after}
 use Rattle.segment.specs.Rows.{value_of}
-use Rattle.segment.proofs.MapLaws.{length-rows, value_of-rows, put-rows, without-rows}
+use Rattle.segment.proofs.MapLaws.{value_of-rows}
 use Rattle.pma_engine.specs.declared.put.Put.{Put}
 use Rattle.pma_engine.specs.declared.put.Put.TheVariants.{New, Replaced, Full}
 use Rattle.pma_engine.specs.Single.{put_answer}

@@ -1,19 +1,17 @@
 -- The file of the empty store represents the empty map.
-use Rattle.std.proofs.Common.{◌≡◌, inl, inr, ℕ, ◌+◌, ◌*◌, ◌-◌, ◌^◌, ◌<◌, ◌≤◌, max, Bool, true, false, List, [], ◌∷◌, ◌++◌, length, get_or, replicate, refl, sym, ◌∙◌, ap, subst, arith, Option, Some, None}
+use Rattle.std.proofs.Common.{◌≡◌, ℕ, ◌+◌, ◌*◌, ◌^◌, ◌<◌, ◌≤◌, max, Bool, true, false, List, [], ◌∷◌, length, replicate, refl, sym, ◌∙◌, ap, subst, arith, Some, None}
 use Rattle.std.specs.Prelude.{slice_range, ◌%◌, if◌then◌else◌}
-use Rattle.std.specs.FinMap.{empty, entries, len-empty, len-entries}
+use Rattle.std.specs.FinMap.{entries, len-empty, len-entries}
 use Rattle.std.proofs.lemmas.List.{ext_get_or, get_or-replicate, length-replicate}
 use Rattle.key_slot.specs.Record.{Record, Bytes, key_cmp}
 use Rattle.key_slot.specs.Segment.{IsSegment, segment_bytes}
-use Rattle.station.specs.Bytes.{byte, InRange}
+use Rattle.station.specs.Bytes.{byte}
 use Rattle.station.proofs.Ranges.{byte-slice_range, length-slice_range}
-use Rattle.header_gate.specs.declared.layout.Layout.{Layout}
-use Rattle.header_gate.specs.Header.{number, identity, live_copy, gate, layout_in}
+use Rattle.header_gate.specs.Header.{number, identity, live_copy, layout_in}
 use Rattle.header_gate.specs.Places.{file_length}
 use Rattle.header_gate.specs.Reasons.{IsSoundHeader}
 use Rattle.header_gate.specs.EmptyStore.{IsEmptyStore}
 use Rattle.header_gate.proofs.NumberLaws.{number_of}
-use Rattle.map_model.specs.Store.{Map}
 use Rattle.map_model.specs.Image.{Represents, live_segment}
 use Rattle.pma_engine.specs.declared.words.Job.{Job}
 use Rattle.pma_engine.specs.declared.words.Job.TheVariants.{Create, Run}

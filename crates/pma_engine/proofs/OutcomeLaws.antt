@@ -1,5 +1,5 @@
 -- What comes of a run, from the map that its file represents at the entry.
-use Rattle.std.proofs.Common.{◌≡◌, ◌⊎◌, inl, inr, ℕ, ◌≤◌, List, [], ◌++◌, length, Bool, false, refl, sym, ◌∙◌, ap, subst, arith}
+use Rattle.std.proofs.Common.{◌≡◌, inl, ℕ, List, [], ◌++◌, Bool, false, refl, sym, ◌∙◌, ap, subst}
 use Rattle.std.proofs.lemmas.List.{append-nil}
 use Rattle.station.specs.Bytes.{Same}
 use Rattle.station.specs.View.{View, Told, SaidTold, Honest, NothingPending, EachHeld, Lawful, attached_by}
@@ -10,11 +10,11 @@ use Rattle.line_source.specs.SourceView as source
 use Rattle.map_model.specs.Store.{Map, State}
 use Rattle.map_model.specs.Image.{Represents}
 use Rattle.command_text.specs.declared.command.Command.{Command}
-use Rattle.command_text.specs.Script.{commands_of, complete_commands}
+use Rattle.command_text.specs.Script.{commands_of}
 use Rattle.pma_engine.specs.Session.{Headline, RepresentsMap, state_after, replies_after}
-use Rattle.pma_engine.specs.Serving.{ScriptPair, IsServed, IsServedToCut, fresh_reader}
+use Rattle.pma_engine.specs.Serving.{ScriptPair, IsServed, fresh_reader}
 use Rattle.pma_engine.specs.Single.{IsStore, map_in, state_in}
-use Rattle.pma_engine.specs.Outcome.{state_of, RunHeadline, IsAnswered, IsAnsweredToCut}
+use Rattle.pma_engine.specs.Outcome.{state_of, RunHeadline, IsAnswered}
 use Rattle.pma_engine.proofs.SingleImages.{map_of_image, height_of_image, represents_of}
 use Rattle.pma_engine.proofs.SessionLaws.{headline_at}
 

@@ -1,22 +1,20 @@
 -- The commands of lines, and their replies.
-use Rattle.std.proofs.Common.{◌≡◌, ◌≢◌, ◌⊎◌, inl, inr, ℕ, ◌+◌, ◌<◌, ◌≤◌, Bool, true, false, List, [], ◌∷◌, ◌++◌, length, refl, sym, ap, subst, ◌∙◌, arith, length-append, Option, Some, None}
-use Rattle.std.specs.List.{flat_map, filter_map, cons_option}
+use Rattle.std.proofs.Common.{◌≡◌, ◌⊎◌, inl, inr, ℕ, ◌<◌, ◌≤◌, List, [], ◌∷◌, ◌++◌, length, refl, sym, ap, subst, ◌∙◌, arith, length-append, Option, Some, None}
+use Rattle.std.specs.List.{flat_map, cons_option}
 use Rattle.std.proofs.lemmas.List.Elements.{filter_map-append}
 use Rattle.std.specs.Prelude.{if◌then◌else◌}
 use Rattle.std.specs.Str.Lines.{strip_carriage_return}
 use Rattle.std.proofs.lemmas.Bool.{lt-ltb, le-ltb}
 use Rattle.command_text.specs.Command.{command_of}
 use Rattle.command_text.specs.declared.command.Why.TheVariants as why
-use Rattle.key_slot.specs.Record.{Bytes}
 use Rattle.map_model.specs.Store.{State}
 use Rattle.command_text.specs.declared.command.Command.{Command}
 use Rattle.command_text.specs.declared.command.Command.TheVariants.{Nothing, Put, Remove, Get, OversizedKey, OversizedValue, Bad}
 use Rattle.command_text.specs.declared.reply.Reply.{Reply}
 use Rattle.command_text.specs.declared.reply.Reply.TheVariants as reply
 use Rattle.command_text.specs.Reply.{reply_text, reply_body}
-use Rattle.command_text.specs.Answers.{step, answers, reply_of}
+use Rattle.command_text.specs.Answers.{step, reply_of}
 use Rattle.command_text.specs.Script.{command_of_raw, if_any, commands_in}
-use Rattle.pma_engine.specs.Session.{state_after, replies_after}
 use Rattle.pma_engine.proofs.SessionLaws.{AllAnswered}
 
 -- a reply has its line feed

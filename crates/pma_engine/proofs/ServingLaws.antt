@@ -1,9 +1,9 @@
 -- The serving of a script, from command to command.
-use Rattle.std.proofs.Common.{◌≡◌, ◌⊎◌, inl, inr, ℕ, zero, suc, ◌+◌, ◌<◌, ◌≤◌, List, [], ◌∷◌, ◌++◌, length, refl, sym, ◌∙◌, ap, subst, arith, append_assoc, Bool, false, Option, Some, None}
+use Rattle.std.proofs.Common.{◌≡◌, inl, inr, ℕ, zero, suc, List, [], ◌∷◌, ◌++◌, refl, sym, ◌∙◌, ap, subst, arith, append_assoc, false}
 use Rattle.std.proofs.lemmas.List.{append-nil}
-use Rattle.station.specs.View.{View, Told, SaidTold, Honest, EachHeld, NothingPending, Lawful}
+use Rattle.station.specs.View.{View, Told, SaidTold, EachHeld, NothingPending, Lawful}
 use Rattle.station.specs.Steps.{Run}
-use Rattle.station.proofs.Sayings.{run_none, run_on, run_in}
+use Rattle.station.proofs.Sayings.{run_none, run_on}
 use Rattle.line_source.specs.Lines.{raw_lines}
 use Rattle.line_source.specs.SourceView.{SourceView, Went}
 use Rattle.line_source.specs.SourceView as source
@@ -13,13 +13,13 @@ use Rattle.line_source.proofs.Progress.{given-none}
 use Rattle.map_model.specs.Store.{State}
 use Rattle.command_text.specs.declared.command.Command.{Command}
 use Rattle.command_text.specs.declared.command.Command.TheVariants.{Nothing}
-use Rattle.command_text.specs.Script.{command_of_raw, if_any, commands_in, commands_of}
+use Rattle.command_text.specs.Script.{command_of_raw, commands_in, commands_of}
 use Rattle.command_text.specs.Answers.{reply_of, step}
 use Rattle.pma_engine.specs.Session.{state_after, replies_after, Headline, AnswerPair, RepresentsMap}
 use Rattle.pma_engine.specs.Serving.{GivesCommand, ScriptPair, IsServed}
 use Rattle.pma_engine.specs.Single.{IsStore, state_in, map_in}
 use Rattle.pma_engine.proofs.SingleImages.{represents_of}
-use Rattle.pma_engine.proofs.SessionLaws.{AllAnswered, headline_of, headline_at, state_after-append, replies_after-append}
+use Rattle.pma_engine.proofs.SessionLaws.{headline_of, headline_at, state_after-append, replies_after-append}
 use Rattle.pma_engine.proofs.ScriptCommands.{if_any_is, commands_in-nothing, commands_in-some, commands_in-append, all_answered}
 
 -- the lines given so far were answered, and nothing is under way

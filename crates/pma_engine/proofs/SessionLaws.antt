@@ -1,14 +1,10 @@
 -- Sessions: states and replies of commands, one behind another.
-use Rattle.std.proofs.Common.{◌≡◌, ◌≢◌, ◌⊎◌, inl, inr, ℕ, zero, suc, ◌+◌, ◌-◌, ◌<◌, ◌≤◌, Bool, true, false, cond, List, [], ◌∷◌, ◌++◌, length, take, drop, refl, sym, ap, subst, ◌∙◌, arith, append_assoc, ne_eqb, length-append, length-take}
-use Rattle.std.specs.List.{flat_map}
+use Rattle.std.proofs.Common.{◌≡◌, ◌⊎◌, inl, inr, ℕ, zero, suc, ◌+◌, ◌-◌, ◌<◌, ◌≤◌, cond, List, [], ◌∷◌, ◌++◌, length, take, drop, refl, sym, ap, subst, ◌∙◌, arith, append_assoc, ne_eqb, length-append, length-take}
 use Rattle.std.proofs.lemmas.List.{append-nil, take-append-drop}
 use Rattle.key_slot.specs.Record.{Bytes}
 use Rattle.map_model.specs.Store.{State}
 use Rattle.command_text.specs.declared.command.Command.{Command}
-use Rattle.command_text.specs.declared.command.Command.TheVariants.{Nothing, Put, Remove, Get, OversizedKey, OversizedValue, Bad}
-use Rattle.command_text.specs.declared.reply.Reply.{Reply}
-use Rattle.command_text.specs.Reply.{reply_text, reply_body}
-use Rattle.command_text.specs.Answers.{step, answers, reply_of}
+use Rattle.command_text.specs.Answers.{step, reply_of}
 use Rattle.pma_engine.specs.Session.{state_after, replies, replies_after, replies_begun, RepresentsMap, Headline, AnswerPair}
 
 -- every command of the list has a reply of at least one byte

@@ -1,15 +1,13 @@
 -- Images of a store of one segment, and what the writes of an update make of them.
-use Rattle.std.proofs.Common.{◌≡◌, ◌⊎◌, inl, inr, ℕ, zero, suc, ◌+◌, ◌*◌, ◌-◌, ◌/◌, ◌^◌, ◌%◌, ◌<◌, ◌≤◌, max, List, [], ◌∷◌, ◌++◌, length, get_or, take, drop, refl, sym, ◌∙◌, ap, subst, arith}
-use Rattle.std.specs.Prelude.{slice_range, T, map}
-use Rattle.std.specs.List.{range_with_len, flat_map}
-use Rattle.std.specs.FinMap.{entries, entries_sorted, entries-from_sorted, same_entries_map, len, len-entries, from_sorted, is_sorted}
-use Rattle.std.proofs.lemmas.List.{ext_get_or, append-nil}
+use Rattle.std.proofs.Common.{◌≡◌, ◌⊎◌, inl, inr, ℕ, ◌+◌, ◌*◌, ◌-◌, ◌^◌, ◌%◌, ◌<◌, ◌≤◌, max, List, length, refl, sym, ◌∙◌, ap, subst, arith}
+use Rattle.std.specs.Prelude.{slice_range, T}
+use Rattle.std.specs.FinMap.{entries, entries_sorted, entries-from_sorted, same_entries_map, len-entries, from_sorted, is_sorted}
+use Rattle.std.proofs.lemmas.List.{append-nil}
 use Rattle.key_slot.specs.Record.{Record, key_cmp}
 use Rattle.key_slot.specs.Segment.{IsSegment, segment_of}
-use Rattle.density_rule.specs.Bounds.{upper_of, least_of}
 use Rattle.station.specs.Bytes.{byte, InRange, Touched, Written, Filled}
 use Rattle.header_gate.specs.declared.layout.Layout.{Layout}
-use Rattle.header_gate.specs.Header.{number, gate, live_copy, height_in, format_in, layout_in, segment_in}
+use Rattle.header_gate.specs.Header.{number, live_copy, height_in, format_in, layout_in, segment_in}
 use Rattle.header_gate.specs.Places.{copy_place, segment_place, segment_size, file_length}
 use Rattle.header_gate.specs.Reasons.{IsSoundHeader}
 use Rattle.header_gate.specs.Flip.{FlipPlaces, Unflipped, Flipped}
@@ -18,8 +16,8 @@ use Rattle.header_gate.proofs.NumberLaws.{number_same}
 use Rattle.header_gate.proofs.Soundness.{sound_same}
 use Rattle.station.proofs.Ranges.{range_same, range_written, range_filled}
 use Rattle.map_model.specs.Store.{Map}
-use Rattle.map_model.specs.Image.{Represents, live_segment, array_in, rows}
-use Rattle.pma_engine.specs.Single.{HasHeader, HoldsRows, map_in, IsStore, Becomes, Rewrites}
+use Rattle.map_model.specs.Image.{Represents, live_segment, array_in}
+use Rattle.pma_engine.specs.Single.{HasHeader, HoldsRows, map_in, IsStore}
 
 -- the place of the one segment of a region
 abbrev pub region_at : ℕ → ℕ

@@ -1,5 +1,5 @@
 -- What an update of a store of one segment may leave, from call to call.
-use Rattle.std.proofs.Common.{◌≡◌, ◌⊎◌, inl, inr, ℕ, ◌+◌, ◌-◌, ◌*◌, ◌<◌, ◌≤◌, List, length, refl, sym, ◌∙◌, ap, subst, arith}
+use Rattle.std.proofs.Common.{◌≡◌, inl, inr, ℕ, ◌-◌, ◌<◌, ◌≤◌, List, refl, sym, subst, arith}
 use Rattle.std.specs.FinMap.{entries, len, len-entries}
 use Rattle.key_slot.specs.Record.{Record}
 use Rattle.station.specs.Bytes.{InRange, Touched, Same}

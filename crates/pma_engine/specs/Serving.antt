@@ -1,13 +1,12 @@
 -- How far a script was served.
-use Rattle.std.specs.Prelude.{◌≡◌, ◌⊎◌, ◌+◌, ◌<◌, ◌≤◌, ℕ, List, ◌∷◌, [], ◌++◌, length, false, Option, Some, None, Result, Ok, Err}
+use Rattle.std.specs.Prelude.{◌≡◌, ℕ, List, ◌∷◌, [], ◌++◌, false, Option, Some, None, Result, Ok, Err}
 use Rattle.line_source.specs.SourceView.{SourceView, Told, Rose}
 use Rattle.line_source.specs.ReaderView.{ReaderView, rest}
-use Rattle.line_source.specs.Progress.{HasGiven, GivesAll, IsCutShort}
+use Rattle.line_source.specs.Progress.{HasGiven, GivesAll}
 use Rattle.line_source.specs.declared.reader.LineStep.TheVariants as step
 use Rattle.station.specs.View as station
 use Rattle.command_text.specs.declared.command.Command.{Command}
 use Rattle.command_text.specs.Script.{command_of_raw, commands_of, complete_commands}
-use Rattle.map_model.specs.Store.{State}
 use Rattle.pma_engine.specs.declared.fault.ServeFault.{ServeFault}
 use Rattle.pma_engine.specs.declared.fault.ServeFault.TheVariants.{Disk, Damaged, Script, Reply, Spent}
 use Rattle.pma_engine.specs.Session.{Headline, RepresentsMap, state_after, replies_after}

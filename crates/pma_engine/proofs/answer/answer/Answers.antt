@@ -1,11 +1,8 @@
-use Rattle.std.proofs.Common.{◌≡◌, ℕ, List, ◌∷◌, [], Option, refl, sym, ap, ◌∙◌, arith}
-use Rattle.std.proofs.lemmas.List.{append-nil}
+use Rattle.std.proofs.Common.{sym, ap, ◌∙◌}
 use Rattle.station.specs.View.{Told, SaidTold}
 use Rattle.station.specs.Steps.{Run}
 use Rattle.station.proofs.Sayings.{each_says}
 use Rattle.map_model.specs.Store.{State}
-use Rattle.command_text.specs.declared.reply.Reply.{Reply}
-use Rattle.command_text.specs.Answers.{answers, reply_of, step}
 use Rattle.pma_engine.specs.Session.{AnswerPair}
 use Rattle.pma_engine.specs.Single.{IsStore, state_in, lines_of}
 use Rattle.pma_engine.proofs.Answering.{run_before, run_with, text_is, pair_before, pair_with}

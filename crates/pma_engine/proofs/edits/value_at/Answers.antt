@@ -1,7 +1,7 @@
-use Rattle.std.proofs.Common.{◌≡◌, List, Option, Some, None, sym, ap, ◌∙◌}
+use Rattle.std.proofs.Common.{◌≡◌, Option, Some, sym, ap, ◌∙◌}
 use Rattle.std.specs.Option.{option_map}
 use Rattle.std.specs.FinMap.{get}
-use Rattle.key_slot.specs.Record.{Bytes, Record}
+use Rattle.key_slot.specs.Record.{Record}
 use Rattle.key_slot.specs.Row.{record_of}
 use Rattle.segment.proofs.MapLaws.{get-gap, get-row}
 use Rattle.pma_engine.proofs.edits.value_at.Goals as goal

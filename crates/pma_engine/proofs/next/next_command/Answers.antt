@@ -1,7 +1,4 @@
-use Rattle.std.proofs.Common.{◌≡◌, ℕ, List, refl, sym, ap, ◌∙◌}
-use Rattle.line_source.specs.SourceView.{SourceView}
-use Rattle.line_source.specs.ReaderView.{ReaderView}
-use Rattle.line_source.specs.Progress.{HasGiven, GivesOne, GivesAll}
+use Rattle.std.proofs.Common.{refl, ◌∙◌}
 use Rattle.line_source.specs.declared.reader.LineStep.TheVariants.{Line, LongLine, End, ReadFailed, Spent}
 use Rattle.line_source.proofs.Progress.{given-more, given-all, rose_on}
 use Rattle.pma_engine.proofs.ScriptCommands.{raw_command, raw_long}

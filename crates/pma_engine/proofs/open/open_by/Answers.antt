@@ -1,10 +1,7 @@
-use Rattle.std.proofs.Common.{◌≡◌, ◌<◌, ◌^◌, List, ℕ, inl, refl, subst, sym, ap, ◌∙◌, Option, Some, None, arith}
-use Rattle.std.specs.Prelude.{◌%◌}
+use Rattle.std.proofs.Common.{◌≡◌, ◌<◌, ◌^◌, ℕ, subst, sym, ap, ◌∙◌, Some, None, arith}
 use Rattle.key_slot.specs.Segment.{IsSegment, segment_of, first_bad_slot}
 use Rattle.key_slot.proofs.SegmentLaws.{segment_sound}
-use Rattle.station.specs.Bytes.{byte}
 use Rattle.station.proofs.Composition.{each_held, nothing_on, told_back}
-use Rattle.header_gate.specs.Header.{gate}
 use Rattle.map_model.specs.Image.{live_segment}
 use Rattle.pma_engine.specs.Single.{IsStore}
 use Rattle.pma_engine.proofs.SingleImages.{store_of_segment, height_of_image}

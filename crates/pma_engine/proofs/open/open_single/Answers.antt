@@ -1,4 +1,4 @@
-use Rattle.std.proofs.Common.{◌≡◌, List, ℕ, subst, sym, ap, ◌∙◌, Option, Some, None}
+use Rattle.std.proofs.Common.{◌≡◌, List, ℕ, subst, sym, ap, ◌∙◌, Some, None}
 use Rattle.std.proofs.lemmas.Result.{IfErr-weaker}
 use Rattle.station.proofs.Composition.{told_on, told_back}
 use Rattle.header_gate.specs.Reasons.{header_reason}

@@ -1,4 +1,4 @@
-use Rattle.std.proofs.Common.{◌≡◌, ◌⊎◌, List, ℕ, false, ap, sym, subst, ◌∙◌}
+use Rattle.std.proofs.Common.{List, ℕ, false, ap, subst, ◌∙◌}
 use Rattle.station.specs.Bytes.{Same}
 use Rattle.station.specs.View.{attached_by}
 use Rattle.station.specs.Steps.{Steps}

@@ -1,7 +1,7 @@
-use Rattle.std.proofs.Common.{◌≡◌, ◌⊎◌, inl, inr, Option, Some, Ok, Err, ap, sym, subst, ◌∙◌, arith}
+use Rattle.std.proofs.Common.{Option, Ok, ap, subst, ◌∙◌}
 use Rattle.command_text.specs.declared.command.Command.{Command}
 use Rattle.pma_engine.specs.Serving.{IsNextCommand, GivesCommand}
-use Rattle.pma_engine.proofs.ServingLaws.{Serving, serving_start, pair_at_rest, pair_turn, run_turn, served_turn}
+use Rattle.pma_engine.proofs.ServingLaws.{serving_start, pair_at_rest, pair_turn, run_turn, served_turn}
 use Rattle.pma_engine.proofs.serve.serve.Goals as goal
 use Rattle.pma_engine.proofs.serve.serve.Goals.{After-answer}
 

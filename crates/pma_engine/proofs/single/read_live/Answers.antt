@@ -1,4 +1,4 @@
-use Rattle.std.proofs.Common.{◌≡◌, ℕ, inl, refl, subst, ◌∙◌}
+use Rattle.std.proofs.Common.{ℕ, inl, refl, subst, ◌∙◌}
 use Rattle.std.proofs.lemmas.Result.{on_ok_weaker}
 use Rattle.station.specs.Bytes.{Filled}
 use Rattle.pma_engine.proofs.SingleImages.{page_is}

@@ -1,4 +1,4 @@
-use Rattle.std.proofs.Common.{◌≡◌, List, ℕ, inl, refl, subst, sym, ap, ◌∙◌, Option, Some, None}
+use Rattle.std.proofs.Common.{◌≡◌, inl, refl, subst, sym, ap, ◌∙◌, Some, None}
 use Rattle.std.specs.FinMap.{entries}
 use Rattle.key_slot.specs.Segment.{IsSegment, first_bad_slot}
 use Rattle.key_slot.proofs.SegmentLaws.{segment_sound}

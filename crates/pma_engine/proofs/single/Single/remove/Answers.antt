@@ -1,10 +1,10 @@
-use Rattle.std.proofs.Common.{◌≡◌, refl, ◌∙◌, ap, sym, subst, arith}
+use Rattle.std.proofs.Common.{◌≡◌}
 use Rattle.std.specs.FinMap.{entries}
-use Rattle.station.specs.View.{Told, EachHeld, NothingPending}
-use Rattle.station.proofs.Composition.{told_on, told_back, each_on}
-use Rattle.map_model.specs.Store.{Map, bind, unbind, map_after}
-use Rattle.pma_engine.specs.Single.{map_in, IsStore}
-use Rattle.pma_engine.proofs.SingleSteps.{read_becomes, update_becomes, read_keeps, each_store, map_held}
+use Rattle.station.specs.View.{Told}
+use Rattle.station.proofs.Composition.{told_on, told_back}
+use Rattle.map_model.specs.Store.{unbind, map_after}
+use Rattle.pma_engine.specs.Single.{map_in}
+use Rattle.pma_engine.proofs.SingleSteps.{read_becomes, update_becomes, each_store, map_held}
 use Rattle.pma_engine.proofs.single.Single.remove.Goals as goal
 use Rattle.pma_engine.proofs.single.Single.remove.Goals.{After-unbind_key}
 

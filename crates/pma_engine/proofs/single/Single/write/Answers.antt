@@ -1,4 +1,3 @@
-use Rattle.std.proofs.Common.{◌≡◌, ◌∙◌, ap, sym}
 use Rattle.station.proofs.Composition.{told_on, told_back}
 use Rattle.pma_engine.proofs.SingleSteps.{region_written, flip_under_way, flip_done}
 use Rattle.pma_engine.proofs.single.Single.write.Goals as goal
