@@ -153,6 +153,14 @@ fn scripts_are_answered(rt: HostRuntime) -> Result<(), Fail> {
             b"stored\noversized value 32\n",
         ),
         (
+            b"put a%20b x%00y\nget a%20b\n# a note\nput k\nget k\nput a*b 1#2\nget a*b\n",
+            b"stored\nfound x%00y\nstored\nfound\nstored\nfound 1%232\n",
+        ),
+        (
+            b"PUT a b\nget\nput a b c\nput abcdefghijklmnopqrstuvwxy 1\nput a xxxxxxxxxxxxxxxxxxxxxxxxxxxxxxxxx\nget a\n",
+            b"bad command\nbad words\nbad words\noversized key 24\noversized value 32\nabsent\n",
+        ),
+        (
             b"frob a\nget\nput a b c\nPUT a\n",
             b"bad command\nbad words\nbad words\nbad command\n",
         ),
@@ -165,8 +173,8 @@ fn scripts_are_answered(rt: HostRuntime) -> Result<(), Fail> {
             b"stored\nfound 1\nfound 1\n",
         ),
         (
-            b"put bolt-m6 140\nput nut-m6 200\nget nut-m6\nremove bolt-m6\nremove bolt-m6\n",
-            b"stored\nstored\nfound 200\nremoved\nabsent\n",
+            b"put bolt-m6 140\nput nut-m6 200\nput washer-m6 95\nget nut-m6\nremove bolt-m6\nremove bolt-m6\n",
+            b"stored\nstored\nstored\nfound 200\nremoved\nabsent\n",
         ),
     ] {
         let (status, station) = session(&rt, empty.held(), script, SMOOTH)?;
