@@ -1,0 +1,5 @@
+pub mod Bytes
+pub mod SlotLists
+pub mod Runs
+pub mod Opened
+pub mod Values
