@@ -1,6 +1,6 @@
 //! What holds of the layout: three laws, each the contract of a function that does nothing.
 
-ghost use Rattle.std.specs.Prelude.{◌≡◌, ℕ, ◌+◌, ◌-◌, ◌*◌, ◌/◌, ◌%◌, ◌^◌, ◌<◌, ◌≤◌, List, [], ◌∷◌, ◌++◌, map, All, length};
+ghost use Rattle.std.specs.Prelude.{◌≡◌, ℕ, ◌+◌, ◌-◌, ◌*◌, ◌/◌, ◌%◌, ◌^◌, ◌<◌, ◌≤◌, List, [], ◌∷◌, ◌++◌, map, All, length, slice_index};
 ghost use Rattle.veb_layout.specs.Layout.{top_levels, bottom_levels, part_start, position_of, IsTaken, way_to, path_to};
 
 /// A node has its position from the part that it lies in: the top part comes first, and then the parts below it.
@@ -20,14 +20,15 @@ pub fn positions_are_a_permutation()
     ensures all_taken { (h position : ℕ) → position < 2 ^ h - 1 → IsTaken h position }
 {}
 
-/// A path goes through one node of each depth: first those of the top part, then those of one part below it.
+/// The path to segment `i` goes through one node of each depth: those of the top part, then those of one part below.
 pub fn paths_split_at_the_cut()
+    ensures nodes { (h i : ℕ) → length (path_to h i) ≡ h }
+    ensures depths { (h i d : ℕ) → d < h → slice_index (path_to h i) d ≡ position_of h d (i / 2 ^ (h - d)) }
+    ensures within { (h i : ℕ) → i < 2 ^ h → All (λ x. x < 2 ^ h - 1) (path_to h i) }
     ensures single { (i : ℕ) → path_to 1 i ≡ 0 ∷ [] }
     ensures split { (h i : ℕ) → 2 ≤ h →
         path_to h i ≡ path_to (top_levels h) (i / 2 ^ bottom_levels h)
         ++ map (λ x. part_start h (i / 2 ^ bottom_levels h) + x) (path_to (bottom_levels h) (i % 2 ^ bottom_levels h)) }
-    ensures nodes { (h i : ℕ) → length (path_to h i) ≡ h }
-    ensures within { (h i : ℕ) → i < 2 ^ h → All (λ x. x < 2 ^ h - 1) (path_to h i) }
     ensures child { (h d p side : ℕ) → side < 2 →
         way_to h (d + 1) (2 * p + side) ≡ way_to h d p ++ position_of h d p ∷ [] }
 {}

@@ -43,7 +43,7 @@ fn links_of_three_levels(rt: HostRuntime) {
     let mut left = [9; 8];
     let mut right = [9; 8];
     fill_links(3, &mut left, &mut right);
-    let s = SEGMENT_LINK;
+    let s = 1 << 31;
     assert_eq!(rt; left, [1, 2, s, s + 2, 5, s + 4, s + 6, 9]);
     assert_eq!(rt; right, [4, 3, s + 1, s + 3, 6, s + 5, s + 7, 9]);
     fill_links(0, &mut left, &mut right);
