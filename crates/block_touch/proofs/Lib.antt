@@ -1,0 +1,4 @@
+pub mod Levels
+pub mod Counting
+pub mod Touching
+pub mod PathBlocks
