@@ -1,11 +1,11 @@
 -- A station in memory with notes of its calls, and what a crash may leave of it.
-use Rattle.std.specs.Prelude.{ℕ, ◌+◌, ◌-◌, ◌^◌, ◌<◌, ◌≤◌, ◌≡◌, min, List, length, Some, Bool, true, false, refl}
+use Rattle.std.specs.Prelude.{ℕ, ◌+◌, ◌-◌, ◌^◌, ◌<◌, ◌≤◌, ◌≡◌, min, List, [], length, Some, Bool, true, false, refl}
 use Rattle.std.proofs.Common.{arith, sym, ◌∙◌, ap, subst}
 use Rattle.station.specs.declared.tally.Tally.{Tally}
-use Rattle.station.specs.View.{View, Lawful, last}
+use Rattle.station.specs.View.{View, Lawful, last, up}
 use Rattle.station.specs.MemStation.{MemState, file_name, tally_of}
-use Rattle.station.specs.Notes.{Kept}
-use Rattle.station.specs.Crashes.{Crashes, run, since, settled_at}
+use Rattle.station.specs.Notes.{Kept, noted}
+use Rattle.station.specs.Crashes.{Call, Crashes, run, since, settled_at}
 use Rattle.station.specs.CrashLaws.{run_sound, since_present, since_counts}
 
 pub record CrashState : Type 0 where
@@ -39,6 +39,22 @@ pub record Recorded (s : CrashState) : Type 0 where
 -- a note with so many bytes has room
 abbrev pub HasRoom : ℕ → CrashState → Type 0
 HasRoom n s = (s.full ≡ false) × (0 < s.kept.left) × (n ≤ s.kept.bytes_left)
+
+-- at the making: nothing is noted, and where the count of calls is near its last value there is room for fewer calls
+abbrev pub opened : MemState → ℕ → ℕ → CrashState
+opened inner calls bytes = record { settled = inner.held; said = inner.said; base = inner.calls; inner = inner; kept = record { calls = []; left = min (last - inner.calls) calls; bytes_left = bytes }; tally = tally_of inner; full = false }
+
+-- a disk call that had no room
+abbrev pub shut_disk : CrashState → CrashState
+shut_disk s = record s { tally = record s.tally { calls = up s.tally.calls 1; disk_faults = up s.tally.disk_faults 1 }; full = true }
+
+-- a saying that had no room
+abbrev pub shut_say : CrashState → CrashState
+shut_say s = record s { tally = record s.tally { calls = up s.tally.calls 1; say_faults = up s.tally.say_faults 1 }; full = true }
+
+-- a call that was noted and reached the inner station
+abbrev pub reached : MemState → Call → ℕ → CrashState → CrashState
+reached inner call n s = record s { inner = inner; kept = noted call n s.kept; tally = tally_of inner }
 
 -- it tells all its meanings and is honest
 abbrev pub crash_state_view : CrashState → View

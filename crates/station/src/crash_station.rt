@@ -1,7 +1,7 @@
 //! An honest station in memory.
 
-ghost use Rattle.std.specs.Prelude.{◌≡◌, ◌↔◌, [], IfOk, IsTrue, false};
-ghost use Rattle.station.specs.CrashState.{CrashState, Recorded, HasRoom};
+ghost use Rattle.std.specs.Prelude.{◌≡◌, ◌+◌, ◌<◌, ◌≤◌, ◌++◌, ◌↔◌, if◌then◌else◌, length, take, None, Some, OnOk, OnErr, IfOk, IsErr, IsTrue, is_ok};
+ghost use Rattle.station.specs.CrashState.{CrashState, Recorded, HasRoom, opened, shut_disk, shut_say, reached};
 
 use crate::mem_station::MemStation;
 use crate::note::{Note, Notes};
@@ -44,8 +44,7 @@ impl CrashStation {
         calls: u32,
         bytes: usize,
     ) -> Result<CrashStation, AllocError>
-        ensures inner { IfOk result (λ s. (state_of s).inner ≡ inner) }
-        ensures open { IfOk result (λ s. ((state_of s).full ≡ false) × ((state_of s).kept.calls ≡ [])) }
+        ensures opened { IfOk result (λ s. state_of s ≡ opened inner calls bytes) }
         ensures settled { IfOk result (λ s. NothingPending (crash_view s)) }
     {
         let tally = inner.tally();
@@ -76,13 +75,29 @@ impl CrashStation {
 }
 
 impl Station for CrashStation {
-    ghost use Rattle.station.specs.CrashStation.{crash_view, crash_lawful};
+    ghost use Rattle.station.specs.CrashStation.{state_of, crash_view, crash_lawful};
+    ghost use Rattle.station.specs.Bytes.{Same, Filled, Blurred, Written, Resized, Resizing};
+    ghost use Rattle.station.specs.View.{Told, SaidTold, NothingPending, Rose, Counted, NamedBy, attached_by, after_read, after_write};
+    ghost use Rattle.station.specs.Steps.{Steps, Says, StillLeaves, NowLeaves, LeavesWithin, SendsWithin};
+    ghost use Rattle.station.specs.MemStation.{FailsNext, takes};
+    ghost use Rattle.station.specs.Crashes.Call.{other, write, resize, synced, say};
 
     ghost view = { crash_view };
 
     ghost lawful = { crash_lawful };
 
-    fn attach(&mut self, name: &str, make: bool) -> Result<(), Failed> {
+    fn attach(&mut self, name: &str, make: bool) -> Result<(), Failed>
+        requires first { (crash_view self.old).attached ≡ None }
+        requires named { NamedBy name.now (crash_view self.old).fixed.name }
+        ensures fails { HasRoom 0 (state_of self.old) → IsErr result ↔ FailsNext (state_of self.old).inner }
+        ensures reached { HasRoom 0 (state_of self.old) → state_of self.new ≡ reached (state_of self.new).inner other 0 (state_of self.old) }
+        ensures shut { (HasRoom 0 (state_of self.old) → ⊥) → IsErr result × (state_of self.new ≡ record (shut_disk (state_of self.old)) { tally = record (shut_disk (state_of self.old)).tally { attached = Some make } }) }
+        ensures counted { Counted (crash_view self.old) (crash_view self.new) }
+        ensures steps { Steps Same (attached_by make (crash_view self.old)) (crash_view self.new) }
+        ensures still { StillLeaves (crash_view self.old) (crash_view self.new) }
+        ensures travel { (crash_view self.new).travel ≡ (crash_view self.old).travel }
+        ensures cause { OnErr result (Rose (crash_view self.old).disk_faults (crash_view self.new).disk_faults) }
+    {
         if !self.has_room(0) {
             self.full = true;
             self.tally.refuse_disk();
@@ -95,7 +110,18 @@ impl Station for CrashStation {
         answer
     }
 
-    fn len(&mut self) -> Result<u64, Failed> {
+    fn len(&mut self) -> Result<u64, Failed>
+        ensures fails { HasRoom 0 (state_of self.old) → IsErr result ↔ FailsNext (state_of self.old).inner }
+        ensures reached { HasRoom 0 (state_of self.old) → state_of self.new ≡ reached (state_of self.new).inner other 0 (state_of self.old) }
+        ensures shut { (HasRoom 0 (state_of self.old) → ⊥) → IsErr result × (state_of self.new ≡ shut_disk (state_of self.old)) }
+        ensures length { IfOk result (λ n. Told (crash_view self.old) → n ≡ length (crash_view self.old).held) }
+        ensures within { IfOk result (λ n. n ≤ (crash_view self.old).fixed.reach) }
+        ensures counted { Counted (crash_view self.old) (crash_view self.new) }
+        ensures steps { Steps Same (crash_view self.old) (crash_view self.new) }
+        ensures still { StillLeaves (crash_view self.old) (crash_view self.new) }
+        ensures travel { (crash_view self.new).travel ≡ (crash_view self.old).travel }
+        ensures cause { OnErr result (Rose (crash_view self.old).disk_faults (crash_view self.new).disk_faults) }
+    {
         if !self.has_room(0) {
             self.full = true;
             self.tally.refuse_disk();
@@ -107,7 +133,20 @@ impl Station for CrashStation {
         answer
     }
 
-    fn set_len(&mut self, n: u64) -> Result<(), Failed> {
+    fn set_len(&mut self, n: u64) -> Result<(), Failed>
+        requires { n ≤ (crash_view self.old).fixed.reach }
+        ensures fails { HasRoom 0 (state_of self.old) → IsErr result ↔ FailsNext (state_of self.old).inner }
+        ensures reached { HasRoom 0 (state_of self.old) → state_of self.new ≡ reached (state_of self.new).inner (resize n (is_ok result)) 0 (state_of self.old) }
+        ensures shut { (HasRoom 0 (state_of self.old) → ⊥) → IsErr result × (state_of self.new ≡ shut_disk (state_of self.old)) }
+        ensures resized { OnOk result (Told (crash_view self.old) → Resized n (crash_view self.old).held (crash_view self.new).held) }
+        ensures pending { OnOk result (NowLeaves (Resizing n) (crash_view self.old) (crash_view self.new)) }
+        ensures torn { OnOk result (LeavesWithin (Resizing n) (crash_view self.old) (crash_view self.new)) }
+        ensures kept { OnErr result (NowLeaves Same (crash_view self.old) (crash_view self.new)) }
+        ensures counted { Counted (crash_view self.old) (crash_view self.new) }
+        ensures steps { Steps (Resizing n) (crash_view self.old) (crash_view self.new) }
+        ensures travel { (crash_view self.new).travel ≡ (crash_view self.old).travel }
+        ensures cause { OnErr result (Rose (crash_view self.old).disk_faults (crash_view self.new).disk_faults) }
+    {
         if !self.has_room(0) {
             self.full = true;
             self.tally.refuse_disk();
@@ -139,7 +178,18 @@ impl Station for CrashStation {
         }
     }
 
-    fn read_at(&mut self, pos: u64, buf: &mut [u8]) -> Result<(), Failed> {
+    fn read_at(&mut self, pos: u64, buf: &mut [u8]) -> Result<(), Failed>
+        requires { pos + length buf.old ≤ (crash_view self.old).fixed.reach }
+        ensures fails { HasRoom 0 (state_of self.old) → IsErr result ↔ FailsNext (state_of self.old).inner }
+        ensures reached { HasRoom 0 (state_of self.old) → state_of self.new ≡ reached (state_of self.new).inner other 0 (state_of self.old) }
+        ensures shut { (HasRoom 0 (state_of self.old) → ⊥) → IsErr result × (state_of self.new ≡ record (shut_disk (state_of self.old)) { tally = record (shut_disk (state_of self.old)).tally { travel = after_read pos (length buf.old) (state_of self.old).tally.travel } }) }
+        ensures filled { OnOk result (Told (crash_view self.old) → Filled pos (crash_view self.old).held buf.new) }
+        ensures counted { Counted (crash_view self.old) (crash_view self.new) }
+        ensures steps { Steps Same (crash_view self.old) (crash_view self.new) }
+        ensures still { StillLeaves (crash_view self.old) (crash_view self.new) }
+        ensures travel { (crash_view self.new).travel ≡ after_read pos (length buf.old) (crash_view self.old).travel }
+        ensures cause { OnErr result (Rose (crash_view self.old).disk_faults (crash_view self.new).disk_faults) }
+    {
         if !self.has_room(0) {
             self.full = true;
             self.tally.refuse_disk();
@@ -152,7 +202,20 @@ impl Station for CrashStation {
         answer
     }
 
-    fn write_at(&mut self, pos: u64, bytes: &[u8]) -> Result<(), Failed> {
+    fn write_at(&mut self, pos: u64, bytes: &[u8]) -> Result<(), Failed>
+        requires { pos + length bytes.now ≤ (crash_view self.old).fixed.reach }
+        ensures fails { HasRoom (length bytes.now) (state_of self.old) → IsErr result ↔ FailsNext (state_of self.old).inner }
+        ensures reached { HasRoom (length bytes.now) (state_of self.old) → state_of self.new ≡ reached (state_of self.new).inner (write pos bytes.now (is_ok result)) (length bytes.now) (state_of self.old) }
+        ensures shut { (HasRoom (length bytes.now) (state_of self.old) → ⊥) → IsErr result × (state_of self.new ≡ record (shut_disk (state_of self.old)) { tally = record (shut_disk (state_of self.old)).tally { travel = after_write (length bytes.now) (state_of self.old).tally.travel } }) }
+        ensures written { OnOk result (Told (crash_view self.old) → Written pos bytes.now (crash_view self.old).held (crash_view self.new).held) }
+        ensures pending { OnOk result (NowLeaves (Blurred pos (length bytes.now)) (crash_view self.old) (crash_view self.new)) }
+        ensures torn { OnOk result (LeavesWithin (Blurred pos (length bytes.now)) (crash_view self.old) (crash_view self.new)) }
+        ensures kept { OnErr result (NowLeaves Same (crash_view self.old) (crash_view self.new)) }
+        ensures counted { Counted (crash_view self.old) (crash_view self.new) }
+        ensures steps { Steps (Blurred pos (length bytes.now)) (crash_view self.old) (crash_view self.new) }
+        ensures travel { (crash_view self.new).travel ≡ after_write (length bytes.now) (crash_view self.old).travel }
+        ensures cause { OnErr result (Rose (crash_view self.old).disk_faults (crash_view self.new).disk_faults) }
+    {
         let count = bytes.len();
         if !self.has_room(count) {
             self.full = true;
@@ -188,7 +251,17 @@ impl Station for CrashStation {
         }
     }
 
-    fn sync(&mut self) -> Result<(), Failed> {
+    fn sync(&mut self) -> Result<(), Failed>
+        ensures fails { HasRoom 0 (state_of self.old) → IsErr result ↔ FailsNext (state_of self.old).inner }
+        ensures reached { HasRoom 0 (state_of self.old) → state_of self.new ≡ reached (state_of self.new).inner (if is_ok result then synced else other) 0 (state_of self.old) }
+        ensures shut { (HasRoom 0 (state_of self.old) → ⊥) → IsErr result × (state_of self.new ≡ shut_disk (state_of self.old)) }
+        ensures settled { OnOk result (NothingPending (crash_view self.new)) }
+        ensures unsettled { OnErr result (StillLeaves (crash_view self.old) (crash_view self.new)) }
+        ensures counted { Counted (crash_view self.old) (crash_view self.new) }
+        ensures steps { Steps Same (crash_view self.old) (crash_view self.new) }
+        ensures travel { (crash_view self.new).travel ≡ (crash_view self.old).travel }
+        ensures cause { OnErr result (Rose (crash_view self.old).disk_faults (crash_view self.new).disk_faults) }
+    {
         if !self.has_room(0) {
             self.full = true;
             self.tally.refuse_disk();
@@ -208,7 +281,21 @@ impl Station for CrashStation {
         }
     }
 
-    fn say(&mut self, bytes: &[u8]) -> Result<usize, SayFailed> {
+    fn say(&mut self, bytes: &[u8]) -> Result<usize, SayFailed>
+        ensures fails { HasRoom (length bytes.now) (state_of self.old) → IsErr result ↔ FailsNext (state_of self.old).inner }
+        ensures reached { HasRoom (length bytes.now) (state_of self.old) → IfOk result (λ taken. (taken ≡ takes (state_of self.old).inner (length bytes.now)) × (state_of self.new ≡ reached (state_of self.new).inner (say bytes.now taken) (length bytes.now) (state_of self.old))) }
+        ensures unsaid { HasRoom (length bytes.now) (state_of self.old) → OnErr result (state_of self.new ≡ reached (state_of self.new).inner (say bytes.now 0) (length bytes.now) (state_of self.old)) }
+        ensures shut { (HasRoom (length bytes.now) (state_of self.old) → ⊥) → IsErr result × (state_of self.new ≡ shut_say (state_of self.old)) }
+        ensures front { IfOk result (λ n. n ≤ length bytes.now) }
+        ensures said { IfOk result (λ n. SaidTold (crash_view self.old) → (crash_view self.new).said ≡ (crash_view self.old).said ++ take n bytes.now) }
+        ensures none { OnErr result (SaidTold (crash_view self.old) → (crash_view self.new).said ≡ (crash_view self.old).said) }
+        ensures counted { Counted (crash_view self.old) (crash_view self.new) }
+        ensures says { Says bytes.now (crash_view self.old) (crash_view self.new) }
+        ensures still { StillLeaves (crash_view self.old) (crash_view self.new) }
+        ensures torn { OnOk result (SendsWithin bytes.now (crash_view self.old) (crash_view self.new)) }
+        ensures cause { OnErr result (Rose (crash_view self.old).say_faults (crash_view self.new).say_faults) }
+        ensures refused { IfOk result (λ n. n ≡ 0 → 0 < length bytes.now → Rose (crash_view self.old).say_faults (crash_view self.new).say_faults) }
+    {
         let count = bytes.len();
         if !self.has_room(count) {
             self.full = true;
