@@ -4,3 +4,4 @@ pub mod Sayings
 pub mod Ranges
 pub mod Noting
 pub mod CrashSteps
+pub mod Taken

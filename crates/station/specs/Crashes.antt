@@ -70,3 +70,15 @@ since m (n ∷ ns) (suc t) i s = since (after n m) ns t i s
 -- where nothing is pending
 abbrev pub settled_at : List ℕ → List ℕ → Crashes
 settled_at held said = record { now = λ i. i ≡ held; held = held; said = said }
+
+-- how many bytes a call said
+abbrev pub taken_of : Call → ℕ
+taken_of other = 0
+taken_of (write pos bytes done) = 0
+taken_of (resize n done) = 0
+taken_of synced = 0
+taken_of (say bytes taken) = length (take taken bytes)
+
+abbrev pub taken_by : List Call → ℕ
+taken_by [] = 0
+taken_by (n ∷ ns) = taken_of n + taken_by ns

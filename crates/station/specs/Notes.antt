@@ -1,5 +1,5 @@
 -- What notes keep of a run of calls: each note has its place in one block of bytes, in the order of the calls.
-use Rattle.std.specs.Prelude.{ℕ, ◌+◌, ◌-◌, List, [], ◌∷◌, ◌++◌, take, drop}
+use Rattle.std.specs.Prelude.{ℕ, ◌+◌, ◌-◌, min, List, [], ◌∷◌, ◌++◌, take, drop}
 use Rattle.station.specs.declared.note.Note.{Note}
 use Rattle.station.specs.declared.note.Note.TheVariants.{Other, Write, Resize, Synced, Say}
 use Rattle.station.specs.Crashes.{Call}
@@ -29,6 +29,18 @@ calls_of bytes (note ∷ notes) = call_of note (take (size_of note) bytes) ∷ c
 abbrev pub sizes_of : List Note → ℕ
 sizes_of [] = 0
 sizes_of (note ∷ notes) = size_of note + sizes_of notes
+
+-- how many bytes a note's call said
+abbrev pub note_taken : Note → ℕ
+note_taken Other = 0
+note_taken (Write pos count done) = 0
+note_taken (Resize size done) = 0
+note_taken Synced = 0
+note_taken (Say count taken) = min taken count
+
+abbrev pub notes_taken : List Note → ℕ
+notes_taken [] = 0
+notes_taken (n ∷ ns) = note_taken n + notes_taken ns
 
 -- the calls that were noted, and the room that is left for notes and for their bytes
 pub record Kept : Type 0 where

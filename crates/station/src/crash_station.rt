@@ -1,7 +1,7 @@
 //! An honest station in memory.
 
 ghost use Rattle.std.specs.Prelude.{◌≡◌, ◌+◌, ◌<◌, ◌≤◌, ◌++◌, ◌↔◌, if◌then◌else◌, length, take, None, Some, OnOk, OnErr, IfOk, IsErr, IsTrue, is_ok};
-ghost use Rattle.station.specs.CrashState.{CrashState, Recorded, HasRoom, opened, shut_disk, shut_say, reached};
+ghost use Rattle.station.specs.CrashState.{CrashState, Recorded, HasRoom, crashes_after, opened, shut_disk, shut_say, reached};
 
 use crate::mem_station::MemStation;
 use crate::note::{Note, Notes};
@@ -65,6 +65,14 @@ impl CrashStation {
         ensures { result.now ≡ (state_of self.now).inner }
     {
         &self.inner
+    }
+
+    /// How many bytes had been said after the first `calls` calls that were noted.
+    pub fn said_after(&self, calls: u32) -> usize
+        requires { calls ≤ length (state_of self.now).kept.calls }
+        ensures { result ≡ length (crashes_after calls (state_of self.now)).said }
+    {
+        self.inner.said().len() - self.notes.taken_from(calls as usize)
     }
 
     fn has_room(&self, count: usize) -> bool

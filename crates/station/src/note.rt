@@ -1,7 +1,8 @@
 //! Notes of the calls on a station, in memory that is taken once.
 
-ghost use Rattle.std.specs.Prelude.{◌≡◌, ◌↔◌, ◌<◌, ◌≤◌, ◌++◌, [], ◌∷◌, length, vec_len, vec_capacity, IfOk, IsTrue};
-ghost use Rattle.station.specs.Notes.{noted, call_of, size_of};
+ghost use Rattle.std.specs.Prelude.{drop, ◌^◌, ◌≡◌, ◌↔◌, ◌<◌, ◌≤◌, ◌++◌, [], ◌∷◌, length, vec_len, vec_capacity, IfOk, IsTrue};
+ghost use Rattle.station.specs.Notes.{noted, call_of, size_of, note_taken, notes_taken};
+ghost use Rattle.station.specs.Crashes.{taken_by};
 
 use crate::memory::Memory;
 use std::alloc::{AllocError, Global};
@@ -71,6 +72,42 @@ impl Notes {
     {
         keep(&mut self.list, note);
         let _ = self.bytes.append(bytes);
+    }
+
+    /// How many bytes the calls from that one on said.
+    pub fn taken_from(&self, call: usize) -> usize
+        requires { call ≤ length self.now.calls }
+        ensures { result ≡ taken_by (drop call self.now.calls) }
+    {
+        let _used = self.bytes.len;
+        taken(behind(&self.list, call))
+    }
+}
+
+fn behind(notes: &[Note], from: usize) -> &[Note]
+    requires { from ≤ length notes.now }
+    ensures { result.now ≡ drop from notes.now }
+{
+    &notes[from..]
+}
+
+fn taken(notes: &[Note]) -> usize
+    requires { notes_taken notes.now < 2 ^ 64 }
+    ensures { result ≡ notes_taken notes.now }
+{
+    let mut total: usize = 0;
+    for note in notes {
+        total += said_by(*note);
+    }
+    total
+}
+
+fn said_by(note: Note) -> usize
+    ensures { result ≡ note_taken note }
+{
+    match note {
+        Note::Say { count, taken } => taken.min(count),
+        Note::Other | Note::Write { .. } | Note::Resize { .. } | Note::Synced => 0,
     }
 }
 
