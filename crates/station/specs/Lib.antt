@@ -4,3 +4,8 @@ pub mod Steps
 pub mod Memory
 pub mod CallLog
 pub mod MemStation
+pub mod Crashes
+pub mod CrashLaws
+pub mod Notes
+pub mod CrashState
+pub mod CrashStation

@@ -6,12 +6,16 @@
 #![tactic(auto)]
 
 mod call_log;
+mod crash_station;
 mod durable;
 mod mem_station;
 mod memory;
+mod note;
 mod station;
+mod tally;
 mod travel;
 
+pub use crash_station::CrashStation;
 pub use durable::write_synced;
 pub use mem_station::MemStation;
 pub use station::{Failed, SayFailed, Station};
