@@ -1,0 +1,19 @@
+use Rattle.std.proofs.Common.{◌-◌, ◌<◌, ◌/◌, ap, subst, sym, ◌∙◌, arith, refl}
+use Rattle.spread_plan.specs.States.{IsSpreading, moves_to_spread}
+use Rattle.spread_plan.proofs.Steps.{spreading_on, spread_on, spread_then}
+use Rattle.spread_plan.proofs.spread.SpreadMovesIterator.next.Goals as goal
+
+pub loop-self-preserved : goal.loop-self-preserved
+loop-self-preserved c =
+    let s = c.loop-self.self-inside in let before = s.to - 1 in
+    let first = c.shared_before-self-inside.ensures in let stop = c.min-self-inside.ensures in
+    let is = c.loop-self.invariant.0 in let done = c.loop-self-test.true in let some : 0 < s.to = omega (arith, c.if-self-eq0.false) in (
+      subst (λ a. IsSpreading s.records s.segments before a c.min-self-inside.result) (sym first) (spreading_on s.records s.segments s.to s.start s.end is done some c.min-self-inside.result stop),
+      ap (λ a. moves_to_spread s.records s.segments before a c.min-self-inside.result) first ∙ spread_on s.records s.segments s.to s.start s.end is done some c.min-self-inside.result stop ∙ c.loop-self.invariant.1,
+    )
+
+pub returns-clause-steps : goal.returns-clause-steps
+returns-clause-steps c =
+    let s = c.loop-self.self-inside in
+    let is = c.loop-self.invariant.0 in let some : s.start < s.end = omega (arith, c.loop-self-test.false, is.forward) in
+    sym c.self.view_is ∙ sym c.loop-self.invariant.1 ∙ spread_then s.records s.segments s.to s.start s.end is some ((s.end - 1) / 64) c.max-first.result refl c.max-first.ensures

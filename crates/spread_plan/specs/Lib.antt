@@ -1,0 +1,4 @@
+pub mod Moves
+pub mod Stages
+pub mod Plans
+pub mod States
