@@ -24,6 +24,7 @@ halvings-is (suc tries) n some few = elim (cases_lt 1 n) [
 ]
 
 pub floor_log2-is : (n : ℕ) → 1 ≤ n → IsFloorLog2 (floor_log2 n) n
+unfolding floor_log2
 floor_log2-is n some = halvings-is n n some (omega arith)
 
 -- there is one such number

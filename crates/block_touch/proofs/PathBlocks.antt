@@ -7,10 +7,10 @@ use Rattle.std.proofs.lemmas.Nat.{shr_below, mod_below, pow_pos}
 use Rattle.std.proofs.Math.Nat.{mul-le-mul_right, mul-le-mul_left, add-mul, mul_assoc, mul_comm, le_of_mul-le-mul_right}
 use Rattle.std.proofs.Math.Pow.{pow_mono}
 use Rattle.veb_layout.specs.Layout.{top_levels, bottom_levels, part_start, path_to}
-use Rattle.veb_layout.proofs.Ways.{path_to-split, path_to-within}
+use Rattle.veb_layout.proofs.Ways.{length-way_to, path_to-split, path_to-within}
 use Rattle.block_touch.specs.Blocks.{blocks_touched, levels_in, block_bound}
 use Rattle.block_touch.proofs.Levels.{floor_log2-is, levels_in-some}
-use Rattle.block_touch.proofs.Touching.{blocks_touched-append, blocks_touched-moved, blocks_touched-short}
+use Rattle.block_touch.proofs.Touching.{blocks_touched-none, blocks_touched-append, blocks_touched-moved, blocks_touched-short}
 
 -- a path that is cut in two
 blocks_touched-cut : (h i block align : ℕ) → 2 ≤ h → blocks_touched (path_to h i) block align ≤ blocks_touched (path_to (top_levels h) (i / 2 ^ bottom_levels h)) block align + blocks_touched (path_to (bottom_levels h) (i % 2 ^ bottom_levels h)) block (align + part_start h (i / 2 ^ bottom_levels h))
@@ -64,9 +64,15 @@ some_groups : (h levels groups : ℕ) → 1 ≤ h → h ≤ groups * levels → 
 some_groups h levels zero some fits = absurd (omega arith)
 some_groups h levels (suc groups) some fits = omega arith
 
+-- a path of no node has the bound 0
+pub block_bound-none : (block : ℕ) → 1 ≤ block → block_bound 0 block ≡ 0
+unfolding block_bound
+block_bound-none block some = omega (arith, levels_in-some block some)
+
 -- the block law
 pub blocks_touched-path_to : (h block align i : ℕ) → 1 ≤ block → i < 2 ^ h → blocks_touched (path_to h i) block align ≤ block_bound h block
-blocks_touched-path_to zero block align i some lt = omega arith
+unfolding block_bound
+blocks_touched-path_to zero block align i some lt = omega (arith, blocks_touched-none (path_to 0 i) block align (length-way_to 0 0 i))
 blocks_touched-path_to (suc k) block align i some lt =
     let h = suc k in
     let levels = levels_in block in

@@ -10,7 +10,7 @@ abbrev pub block_of : ℕ → ℕ → ℕ → ℕ
 block_of block align place = (align + place) / block
 
 -- how many blocks the places touch
-abbrev pub blocks_touched : List ℕ → ℕ → ℕ → ℕ
+unfoldable pub blocks_touched : List ℕ → ℕ → ℕ → ℕ
 blocks_touched places block align = distinct_count nat_eq (map (block_of block align) places)
 
 -- how often a number can be halved before it is 1 or less, tried at most so many times
@@ -19,7 +19,7 @@ halvings zero n = 0
 halvings (suc tries) n = let more = halvings tries (n / 2) in if nat_le n 1 then 0 else suc more
 
 -- the logarithm to base 2 of a number from 1 on, rounded down: the greatest k with 2^k at most n
-abbrev pub floor_log2 : ℕ → ℕ
+unfoldable pub floor_log2 : ℕ → ℕ
 floor_log2 n = halvings n n
 
 -- the levels of the highest full tree that has its place in one block
@@ -27,5 +27,5 @@ abbrev pub levels_in : ℕ → ℕ
 levels_in block = floor_log2 (block + 1)
 
 -- the bound for a path of h nodes: four blocks for each group of so many levels, of which the last may be short
-abbrev pub block_bound : ℕ → ℕ → ℕ
+unfoldable pub block_bound : ℕ → ℕ → ℕ
 block_bound h block = 4 * div_ceil h (levels_in block)

@@ -1,6 +1,6 @@
 //! The block law, as the contract of a function that does nothing.
 
-ghost use Rattle.std.specs.Prelude.{ℕ, ◌+◌, ◌^◌, ◌<◌, ◌≤◌};
+ghost use Rattle.std.specs.Prelude.{◌≡◌, ℕ, ◌+◌, ◌^◌, ◌<◌, ◌≤◌};
 ghost use Rattle.veb_layout.specs.Layout.{path_to};
 ghost use Rattle.block_touch.specs.Blocks.{blocks_touched, levels_in, block_bound};
 
@@ -8,6 +8,7 @@ ghost use Rattle.block_touch.specs.Blocks.{blocks_touched, levels_in, block_boun
 pub fn paths_touch_few_blocks()
     ensures blocks { (h block align segment : ℕ) → 1 ≤ block → segment < 2 ^ h →
         blocks_touched (path_to h segment) block align ≤ block_bound h block }
+    ensures no_level { (block : ℕ) → 1 ≤ block → block_bound 0 block ≡ 0 }
     ensures levels_fit { (block : ℕ) → 1 ≤ block → 2 ^ levels_in block ≤ block + 1 }
     ensures no_more_fit { (block : ℕ) → 1 ≤ block → block + 1 < 2 ^ (levels_in block + 1) }
 {}

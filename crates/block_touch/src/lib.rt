@@ -22,17 +22,18 @@ mod trace;
 pub struct Probe {
     /// The number of the segment that the search found.
     pub segment: u32,
-    /// How many nodes it visited.
+    /// How many nodes it visited: one for each level.
     pub nodes: u32,
     /// How many blocks these touch.
     pub blocks: u32,
-    /// The most blocks that so many nodes of a path touch.
+    /// The bound on these for a path of so many nodes.
     pub bound: u32,
 }
 
-/// The most blocks of `block` places that the path to a segment touches in an index of `h` levels.
+/// A bound on the blocks of `block` nodes that the path to a segment touches in an index of `h` levels, however the
+/// blocks are aligned.
 ///
-/// It is 0 for no level.
+/// It is `4 * ceil(h / floor(log2(block + 1)))`, and 0 where there is no level.
 pub fn bound(h: u32, block: u32) -> u32
     requires height { h ≤ 16 }
     requires block { 1 ≤ block }

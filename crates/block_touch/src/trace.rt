@@ -55,7 +55,7 @@ impl Trace {
         self.len
     }
 
-    /// The position of number `i`, counted from 0.
+    /// The position that was added as number `i`, counted from 0.
     pub fn at(&self, i: u32) -> u32
         requires { i < length self.now }
         ensures { result ≡ slice_index self.now i }
@@ -63,7 +63,7 @@ impl Trace {
         self.positions[i as usize]
     }
 
-    /// How many blocks of `block` places the positions touch, where position 0 is place `align` of its block.
+    /// How many blocks of `block` nodes the positions touch, where position 0 is node `align` of its block.
     pub fn blocks(&self, block: u32, align: u32) -> u32
         requires { 1 ≤ block }
         ensures { result ≡ blocks_touched self.now block align }
@@ -91,7 +91,8 @@ fn block_number(position: u32, block: u32, align: u32) -> u64
 /// Whether one of the others lies in the block of this position.
 fn shares_block(position: u32, others: &[u32], block: u32, align: u32) -> bool
     requires { 1 ≤ block }
-    ensures { result ≡ list_any (λ p. block_of block align position == block_of block align p) others.now }
+    ensures { result
+        ≡ list_any (λ p. block_of block align position == block_of block align p) others.now }
 {
     let number = block_number(position, block, align);
     others

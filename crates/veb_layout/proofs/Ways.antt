@@ -6,7 +6,7 @@ use Rattle.std.proofs.lemmas.List.{map-append}
 use Rattle.std.proofs.lemmas.List.FromFn.{length-map-range_with_len, get_or-map-range_with_len, map-range_with_len_more}
 use Rattle.std.proofs.lemmas.Nat.{shr-shr, field_of, shr_below}
 use Rattle.veb_layout.specs.Layout.{top_levels, bottom_levels, part_start, position_of, way_to, path_to}
-use Rattle.veb_layout.proofs.Cut.{position_of-top, position_of-bottom}
+use Rattle.veb_layout.proofs.Cut.{position_of-root, position_of-top, position_of-bottom}
 use Rattle.veb_layout.proofs.Places.{position_of-within}
 
 range-append : (a m n : ℕ) → range_with_len a (m + n) ≡ range_with_len a m ++ range_with_len (a + m) n
@@ -24,13 +24,21 @@ map-range f g a b (suc n) same =
     λ i. here i ∷ rest i
 
 pub length-way_to : (h d p : ℕ) → length (way_to h d p) ≡ d
+unfolding way_to
 length-way_to h d p = length-map-range_with_len (λ e. position_of h e (p / 2 ^ (d - e))) 0 d
 
 pub get_or-way_to : (h d p e default : ℕ) → e < d → get_or (way_to h d p) e default ≡ position_of h e (p / 2 ^ (d - e))
+unfolding way_to
 get_or-way_to h d p e default lt = get_or-map-range_with_len (λ e. position_of h e (p / 2 ^ (d - e))) 0 d e e default lt (omega arith)
+
+-- a tree of one level has its root alone on each path
+pub path_to-single : (i : ℕ) → path_to 1 i ≡ 0 ∷ []
+unfolding way_to
+path_to-single i = λ j. position_of-root 1 (i / 2 ^ (1 - 0)) j ∷ []
 
 -- the way to a child is the way to its parent, and the parent
 pub way_to-child : (h d p side : ℕ) → side < 2 → way_to h (d + 1) (2 * p + side) ≡ way_to h d p ++ position_of h d p ∷ []
+unfolding way_to
 way_to-child h d p side lt =
     map-range_with_len_more (λ e. position_of h e ((2 * p + side) / 2 ^ (d + 1 - e))) 0 d d (omega arith)
     ∙ ap (λ (xs : List ℕ). xs ++ position_of h d ((2 * p + side) / 2 ^ (d + 1 - d)) ∷ []) (map-range _ (λ e. position_of h e (p / 2 ^ (d - e))) 0 0 d above)
@@ -73,6 +81,7 @@ module _ (h i : ℕ) (high : 2 ≤ h) where
       ∙ ap (λ (n : ℕ). part_start h (i / 2 ^ b) + position_of b n (i % 2 ^ b / 2 ^ (b - (0 + j)))) {x = j} {y = 0 + j} (omega arith)
 
   pub path_to-split : path_to h i ≡ path_to (top_levels h) (i / 2 ^ bottom_levels h) ++ map (λ x. part_start h (i / 2 ^ bottom_levels h) + x) (path_to (bottom_levels h) (i % 2 ^ bottom_levels h))
+  unfolding way_to
   path_to-split =
       let t = h / 2 in
       let b = h - h / 2 in
