@@ -5,3 +5,4 @@ pub mod Ranges
 pub mod Noting
 pub mod CrashSteps
 pub mod Taken
+pub mod Pictures

@@ -5,6 +5,7 @@ pub mod Memory
 pub mod CallLog
 pub mod MemStation
 pub mod Crashes
+pub mod CrashImage
 pub mod CrashLaws
 pub mod Notes
 pub mod CrashState

@@ -3,6 +3,7 @@
 ghost use Rattle.std.specs.Prelude.{◌≡◌, ◌+◌, ◌<◌, ◌≤◌, ◌++◌, ◌↔◌, if◌then◌else◌, length, take, None, Some, OnOk, OnErr, IfOk, IsErr, IsTrue, is_ok};
 ghost use Rattle.station.specs.CrashState.{CrashState, Recorded, HasRoom, crashes_after, opened, shut_disk, shut_say, reached};
 
+use crate::crash_image::Pick;
 use crate::mem_station::MemStation;
 use crate::note::{Note, Notes};
 use crate::station::{Failed, SayFailed, Station};
@@ -65,6 +66,16 @@ impl CrashStation {
         ensures { result.now ≡ (state_of self.now).inner }
     {
         &self.inner
+    }
+
+    /// The image after the first `calls` calls that were noted, one that a crash at that moment may leave.
+    ///
+    /// Each pending byte is the last settled one, the held one, or the given byte. `AllocError` is want of memory.
+    pub fn crash_image(&self, alloc: Global, calls: u32, pick: Pick) -> Result<Vec<u8>, AllocError>
+        requires { calls ≤ length (state_of self.now).kept.calls }
+        ensures { IfOk result (λ image. (crashes_after calls (state_of self.now)).now image.items) }
+    {
+        self.notes.image(alloc, calls as usize, &self.settled, pick)
     }
 
     /// How many bytes had been said after the first `calls` calls that were noted.

@@ -6,6 +6,7 @@
 #![tactic(auto)]
 
 mod call_log;
+mod crash_image;
 mod crash_station;
 mod durable;
 mod mem_station;
@@ -15,6 +16,7 @@ mod station;
 mod tally;
 mod travel;
 
+pub use crash_image::Pick;
 pub use crash_station::CrashStation;
 pub use durable::write_synced;
 pub use mem_station::MemStation;

@@ -1,9 +1,10 @@
 //! Notes of the calls on a station, in memory that is taken once.
 
-ghost use Rattle.std.specs.Prelude.{drop, ◌^◌, ◌≡◌, ◌↔◌, ◌<◌, ◌≤◌, ◌++◌, [], ◌∷◌, length, vec_len, vec_capacity, IfOk, IsTrue};
-ghost use Rattle.station.specs.Notes.{noted, call_of, size_of, note_taken, notes_taken};
-ghost use Rattle.station.specs.Crashes.{taken_by};
+ghost use Rattle.std.specs.Prelude.{drop, take, ◌-◌, List, ℕ, ◌^◌, ◌≡◌, ◌↔◌, ◌<◌, ◌≤◌, ◌++◌, [], ◌∷◌, length, vec_len, vec_capacity, IfOk, IsTrue};
+ghost use Rattle.station.specs.Notes.{noted, call_of, size_of, note_taken, notes_taken, calls_of, sizes_of};
+ghost use Rattle.station.specs.Crashes.{taken_by, run, settled_at};
 
+use crate::crash_image::{Pick, Picture};
 use crate::memory::Memory;
 use std::alloc::{AllocError, Global};
 use std::marker::Model;
@@ -74,6 +75,22 @@ impl Notes {
         let _ = self.bytes.append(bytes);
     }
 
+    /// The image after so many calls, over a file that held those bytes. `AllocError` is want of memory.
+    pub fn image(
+        &self,
+        alloc: Global,
+        calls: usize,
+        settled: &[u8],
+        pick: Pick,
+    ) -> Result<Vec<u8>, AllocError>
+        requires { calls ≤ length self.now.calls }
+        ensures { IfOk result (λ image. (said : List ℕ) → (run (settled_at settled.now said) (take calls self.now.calls)).now image.items) }
+    {
+        let _used = self.bytes.len;
+        let notes = front(&self.list, calls);
+        play(alloc, notes, self.bytes.bytes(), settled, pick)
+    }
+
     /// How many bytes the calls from that one on said.
     pub fn taken_from(&self, call: usize) -> usize
         requires { call ≤ length self.now.calls }
@@ -82,6 +99,54 @@ impl Notes {
         let _used = self.bytes.len;
         taken(behind(&self.list, call))
     }
+}
+
+/// Follows the notes from that file on.
+fn play(
+    alloc: Global,
+    notes: &[Note],
+    bytes: &[u8],
+    settled: &[u8],
+    pick: Pick,
+) -> Result<Vec<u8>, AllocError>
+    requires { sizes_of notes.now ≤ length bytes.now }
+    ensures { IfOk result (λ image. (said : List ℕ) → (run (settled_at settled.now said) (calls_of bytes.now notes.now)).now image.items) }
+{
+    let mut picture = Picture::new(alloc, settled, pick)?;
+    let _whole = bytes.len();
+    let mut at: usize = 0;
+    for note in notes {
+        let end = at + size(*note);
+        picture.step(alloc, *note, part(bytes, at, end))?;
+        at = end;
+    }
+    Ok(picture.image)
+}
+
+fn part(bytes: &[u8], at: usize, end: usize) -> &[u8]
+    requires { (at ≤ end) × (end ≤ length bytes.now) }
+    ensures { result.now ≡ take (end - at) (drop at bytes.now) }
+{
+    &bytes[at..end]
+}
+
+fn size(note: Note) -> usize
+    ensures { result ≡ size_of note }
+{
+    match note {
+        Note::Write { count, .. } => count,
+        Note::Say { count, .. } => count,
+        Note::Resize { .. } => 0,
+        Note::Synced => 0,
+        Note::Other => 0,
+    }
+}
+
+fn front(notes: &[Note], count: usize) -> &[Note]
+    requires { count ≤ length notes.now }
+    ensures { result.now ≡ take count notes.now }
+{
+    &notes[..count]
 }
 
 fn behind(notes: &[Note], from: usize) -> &[Note]
