@@ -7,7 +7,7 @@ use crate::file_station::FileStation;
 use crate::stdin_source::StdinSource;
 use line_source::{MemSource, Source};
 use pma_engine::run_words;
-use station::MemStation;
+use station::{CrashStation, MemStation, Pick};
 use std::alloc::Global;
 use std::fs;
 use std::test::Fail;
@@ -305,6 +305,38 @@ fn a_stop_at_any_call_keeps_what_was_answered(rt: HostRuntime) -> Result<(), Fai
         last = status;
     }
     assert_eq!(rt; last, 0);
+    Ok(())
+}
+
+#[test]
+fn a_crash_after_any_call_keeps_what_was_answered(rt: HostRuntime) -> Result<(), Fail> {
+    let (_, empty) = created(&rt, b"")?;
+    let bytes = &empty.held()[..empty.held().len().min(LENGTH)];
+    let inner = MemStation::new(rt.alloc(), bytes, LENGTH, 64, &[], None)?;
+    let mut station = CrashStation::new(rt.alloc(), inner, 40, 16384)?;
+    let mut source = MemSource::new(rt.alloc(), b"put a 1\n", 7, &[])?;
+    let words = words_to_run(rt.alloc())?;
+    let status = run_words(rt.alloc(), &words, &mut source, &mut station, SMOOTH.most);
+    assert_eq!(rt; status, 0);
+    let mut is_last_found = false;
+    for calls in 0..40u32 {
+        if calls as usize > station.noted() {
+            break;
+        }
+        for pick in [Pick::Settled, Pick::Held, Pick::Fill(0), Pick::Fill(255)] {
+            let image = station.crash_image(rt.alloc(), calls, pick)?;
+            let (opened, again) = session(&rt, &image, b"get a\n", SMOOTH)?;
+            let is_found = again.said() == b"found 1\n".as_slice();
+            let may_be_absent = station.said_after(calls) == 0;
+            assert_eq!(rt; opened, 0);
+            assert!(rt;
+                is_found || may_be_absent && again.said() == b"absent\n".as_slice(),
+                "after {calls} calls"
+            );
+            is_last_found = is_found;
+        }
+    }
+    assert!(rt; is_last_found);
     Ok(())
 }
 

@@ -68,6 +68,13 @@ impl CrashStation {
         &self.inner
     }
 
+    /// How many calls were noted.
+    pub fn noted(&self) -> usize
+        ensures { result ≡ length (state_of self.now).kept.calls }
+    {
+        self.notes.count()
+    }
+
     /// The image after the first `calls` calls that were noted, one that a crash at that moment may leave.
     ///
     /// Each pending byte is the last settled one, the held one, or the given byte. `AllocError` is want of memory.

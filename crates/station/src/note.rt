@@ -57,6 +57,14 @@ impl Notes {
         })
     }
 
+    /// How many calls are noted.
+    pub fn count(&self) -> usize
+        ensures { result ≡ length self.now.calls }
+    {
+        let _used = self.bytes.len;
+        self.list.as_slice().len()
+    }
+
     /// Whether there is room for a note more, with so many bytes.
     pub fn has_room(&self, count: usize) -> bool
         ensures { IsTrue result ↔ (0 < self.now.left) × (count ≤ self.now.bytes_left) }
