@@ -6,7 +6,7 @@ use Rattle.density_rule.specs.Spread.{shares}
 use Rattle.density_rule.proofs.Shares.{length-shares}
 use Rattle.spread_plan.specs.declared.Move.{Move}
 use Rattle.spread_plan.specs.declared.TheConstants.{SEGMENT_SLOTS}
-use Rattle.spread_plan.specs.Plans.{move_of, moves_between, pack_from, pack_moves, undoing, spread_moves}
+use Rattle.spread_plan.specs.Plans.{move_of, moves_between, pack_from, pack_moves, inverse_move, spread_moves}
 use Rattle.spread_plan.proofs.Packing.{move_of-none, move_of-some}
 
 length-move_of-le : (from to count : ℕ) → length (move_of from to count) ≤ 1
@@ -39,4 +39,4 @@ length-pack_moves-le (count ∷ counts) =
 
 pub length-spread_moves-le : (n m : ℕ) → length (spread_moves n m) ≤ 2 * (m - 1)
 length-spread_moves-le n m =
-    omega (arith, length-reverse (map undoing (pack_moves (shares n m))), length-map (pack_moves (shares n m)) undoing, length-pack_moves-le (shares n m), length-shares n m)
+    omega (arith, length-reverse (map inverse_move (pack_moves (shares n m))), length-map (pack_moves (shares n m)) inverse_move, length-pack_moves-le (shares n m), length-shares n m)

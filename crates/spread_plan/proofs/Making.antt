@@ -1,17 +1,42 @@
 -- What one move does to lists, and how it is undone.
-use Rattle.std.proofs.Common.{◌≡◌, ◌≢◌, ℕ, ◌-◌, ◌≤◌, ◌<◌, List, [], ◌++◌, length, take, drop, slice_set, nat_lt, ap, ap₂, ◌∙◌, arith}
-use Rattle.std.proofs.lemmas.Bool.{cond-true, cond-false, lt-ltb, false_from_ne_true, ltb-true}
-use Rattle.std.proofs.lemmas.List.{length-append, length-take-le, length-set, get_or-set_same, get_or-set_other, set-set, set_comm, set-get_or, take-append-drop}
+use Rattle.std.proofs.Common.{◌≡◌, ◌+◌, ◌≢◌, ℕ, ◌-◌, ◌≤◌, ◌<◌, List, [], ◌++◌, length, take, drop, slice_set, nat_lt, ap, ap₂, ◌∙◌, arith}
+use Rattle.std.proofs.lemmas.Bool.{cond-true, cond-false, cond_both, lt-ltb, false_from_ne_true, ltb-true}
+use Rattle.std.proofs.lemmas.List.{length-append, length-drop, length-take-le, length-set, get_or-set_same, get_or-set_other, set-set, set_comm, set-get_or, take-append-drop, map-set}
 use Rattle.std.proofs.Math.Seq.{take-append_seam, drop-append_seam}
 use Rattle.spread_plan.specs.declared.Move.{Move}
-use Rattle.spread_plan.specs.Moves.{list_at, after_move, after_move_left, after_move_right}
-use Rattle.spread_plan.specs.Plans.{undoing}
+use Rattle.spread_plan.specs.Moves.{counts_of, list_at, after_move, after_move_left, after_move_right}
+use Rattle.spread_plan.specs.Plans.{inverse_move}
 
 pub after_move-left : {X : Type 0} (m : Move) (lists : List (List X)) → m.to < m.from → after_move m lists ≡ after_move_left m lists
 after_move-left m lists lt = cond-true (nat_lt m.to m.from) (after_move_left m lists) (after_move_right m lists) (lt-ltb m.to m.from lt)
 
 pub after_move-right : {X : Type 0} (m : Move) (lists : List (List X)) → m.from < m.to → after_move m lists ≡ after_move_right m lists
 after_move-right m lists lt = cond-false (nat_lt m.to m.from) (after_move_left m lists) (after_move_right m lists) (false_from_ne_true (nat_lt m.to m.from) (λ e. omega (arith, lt, ltb-true m.to m.from e)))
+
+-- the counts after a move, whichever way it goes
+module _ {X : Type 0} (m : Move) (lists : List (List X)) (le : m.count ≤ length (list_at lists m.from)) where
+  abbrev had : List X
+  had = list_at lists m.from
+
+  abbrev gets : List X
+  gets = list_at lists m.to
+
+  abbrev HasCounts : List (List X) → Type 0
+  HasCounts after = counts_of after ≡ slice_set (slice_set (counts_of lists) m.to (length gets + m.count)) m.from (length had - m.count)
+
+  by_lengths : (xs ys : List X) → length xs ≡ length gets + m.count → length ys ≡ length had - m.count → HasCounts (slice_set (slice_set lists m.to xs) m.from ys)
+  by_lengths xs ys long short = map-set length (slice_set lists m.to xs) m.from ys ∙ ap₂ (λ (ns : List ℕ) (n : ℕ). slice_set ns m.from n) (map-set length lists m.to xs ∙ ap (slice_set (counts_of lists) m.to) long) short
+
+  counts_left : HasCounts (after_move_left m lists)
+  counts_left = by_lengths (gets ++ take m.count had) (drop m.count had) (omega (arith, length-append gets (take m.count had), length-take-le m.count had le)) (length-drop m.count had)
+
+  counts_right : HasCounts (after_move_right m lists)
+  counts_right =
+      let kept = length had - m.count in
+      by_lengths (drop kept had ++ gets) (take kept had) (omega (arith, length-append (drop kept had) gets, length-drop kept had, le)) (length-take-le kept had (omega arith))
+
+  pub counts_of-after_move : counts_of (after_move m lists) ≡ slice_set (slice_set (counts_of lists) m.to (length (list_at lists m.to) + m.count)) m.from (length (list_at lists m.from) - m.count)
+  counts_of-after_move = cond_both (nat_lt m.to m.from) (after_move_left m lists) (after_move_right m lists) HasCounts (λ e. counts_left) (λ e. counts_right)
 
 module _ {X : Type 0} (m : Move) (lists : List (List X)) (left : m.to < m.from) (within : m.from < length lists) where
   abbrev source : List X
@@ -35,9 +60,9 @@ module _ {X : Type 0} (m : Move) (lists : List (List X)) (left : m.to < m.from) 
   pub other_after_left : (i : ℕ) → i ≢ m.from → i ≢ m.to → list_at after i ≡ list_at lists i
   other_after_left i from to = get_or-set_other (slice_set lists m.to longer) m.from i (drop m.count source) [] from ∙ get_or-set_other lists m.to i longer [] to
 
-  pub undone : m.count ≤ length source → after_move (undoing m) after ≡ lists
+  pub undone : m.count ≤ length source → after_move (inverse_move m) after ≡ lists
   undone le =
-      let back : Move = undoing m in
+      let back : Move = inverse_move m in
       let taken : length (take m.count source) ≡ m.count = length-take-le m.count source le in
       let kept : length (list_at after m.to) - m.count ≡ length (list_at lists m.to) = omega (arith, ap length to_after_left, length-append (list_at lists m.to) (take m.count source), taken) in
       let brought : drop (length (list_at after m.to) - m.count) (list_at after m.to) ++ list_at after m.from ≡ source =

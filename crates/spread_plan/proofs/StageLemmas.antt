@@ -5,7 +5,7 @@ use Rattle.std.proofs.lemmas.List.Elements.{All-get_or}
 use Rattle.spread_plan.specs.declared.Move.{Move}
 use Rattle.spread_plan.specs.Moves.{list_at, after_move, after_move_left, after_moves}
 use Rattle.spread_plan.specs.Stages.{IsStage, CanMoveLeft, CanMoveRight, AllStages}
-use Rattle.spread_plan.specs.Plans.{undoing, undoing_all}
+use Rattle.spread_plan.specs.Plans.{inverse_move, inverse_moves}
 use Rattle.spread_plan.proofs.Making.{after_move-left, length-after_move_left, from_after_left, to_after_left, undone}
 use Rattle.spread_plan.proofs.Packing.{HasRoom}
 
@@ -29,6 +29,13 @@ module _ {X : Type 0} (Can : Move → List (List X) → Type 0) (P : List (List 
   AllStages-after [] ys lists all = all
   AllStages-after (m ∷ xs) ys lists all = AllStages-after xs ys (after_move m lists) all.2
 
+  -- P holds wherever the moves have come to, and the next one can be made
+  pub AllStages-at : (moves done rest : List Move) (lists : List (List X)) → moves ≡ done ++ rest → AllStages Can P moves lists → P (after_moves done lists)
+  AllStages-at moves done rest lists split all = AllStages-first rest (after_moves done lists) (AllStages-after done rest lists (subst (λ (ms : List Move). AllStages Can P ms lists) split all))
+
+  pub AllStages-can : (moves done rest : List Move) (m : Move) (lists : List (List X)) → moves ≡ done ++ m ∷ rest → AllStages Can P moves lists → Can m (after_moves done lists)
+  AllStages-can moves done rest m lists split all = (AllStages-after done (m ∷ rest) lists (subst (λ (ms : List Move). AllStages Can P ms lists) split all)).1
+
   pub AllStages-append : (xs ys : List Move) (lists : List (List X)) → AllStages Can P xs lists → AllStages Can P ys (after_moves xs lists) → AllStages Can P (xs ++ ys) lists
   AllStages-append [] ys lists xs_all ys_all = ys_all
   AllStages-append (m ∷ xs) ys lists xs_all ys_all = (xs_all.0, xs_all.1, AllStages-append xs ys (after_move m lists) xs_all.2 ys_all)
@@ -37,8 +44,8 @@ module _ {X : Type 0} (Can : Move → List (List X) → Type 0) (P : List (List 
   AllStages-weaker Q weaker [] lists all = weaker lists all
   AllStages-weaker Q weaker (m ∷ moves) lists all = (weaker lists all.0, all.1, AllStages-weaker Q weaker moves (after_move m lists) all.2)
 
-undoing_all-cons : (m : Move) (moves : List Move) → undoing_all (m ∷ moves) ≡ undoing_all moves ++ undoing m ∷ []
-undoing_all-cons m moves = reverse-append (undoing m ∷ []) (map undoing moves)
+inverse_moves-cons : (m : Move) (moves : List Move) → inverse_moves (m ∷ moves) ≡ inverse_moves moves ++ inverse_move m ∷ []
+inverse_moves-cons m moves = reverse-append (inverse_move m ∷ []) (map inverse_move moves)
 
 module _ {X : Type 0} (first : List (List X)) where
   -- a move to the left can be undone
@@ -49,8 +56,8 @@ module _ {X : Type 0} (first : List (List X)) where
     made_is : made ≡ after_move_left m now
     made_is = after_move-left m now can.0
 
-    pub unmade : after_move (undoing m) made ≡ now
-    unmade = ap (after_move (undoing m)) made_is ∙ undone m now can.0 can.1.from_in can.1.there
+    pub unmade : after_move (inverse_move m) made ≡ now
+    unmade = ap (after_move (inverse_move m)) made_is ∙ undone m now can.0 can.1.from_in can.1.there
 
     to_long : length (list_at made m.to) ≡ length (list_at now m.to) + m.count
     to_long =
@@ -63,7 +70,7 @@ module _ {X : Type 0} (first : List (List X)) where
     as_many : length made ≡ length now
     as_many = ap length made_is ∙ length-after_move_left m now can.0 can.1.from_in
 
-    can_undo : CanMoveRight (undoing m) made
+    can_undo : CanMoveRight (inverse_move m) made
     can_undo = (
       can.0,
       record {
@@ -77,15 +84,15 @@ module _ {X : Type 0} (first : List (List X)) where
 
   -- and so can moves to the left, through the same stages
   pub undone_all : (moves : List Move) (now : List (List X)) → AllStages CanMoveLeft (IsStage first) moves now
-      → AllStages CanMoveRight (IsStage first) (undoing_all moves) (after_moves moves now) × (after_moves (undoing_all moves) (after_moves moves now) ≡ now)
+      → AllStages CanMoveRight (IsStage first) (inverse_moves moves) (after_moves moves now) × (after_moves (inverse_moves moves) (after_moves moves now) ≡ now)
   undone_all [] now all = (all, refl)
   undone_all (m ∷ moves) now all =
       let made = after_move m now in let end = after_moves moves made in
       let later = undone_all moves made all.2 in
-      let back : after_move (undoing m) made ≡ now = unmade m now all.0 all.1 in
+      let back : after_move (inverse_move m) made ≡ now = unmade m now all.0 all.1 in
       let stage : IsStage first made = AllStages-first CanMoveLeft (IsStage first) moves made all.2 in
-      let last : AllStages CanMoveRight (IsStage first) (undoing m ∷ []) made = (stage, can_undo m now all.0 all.1, subst (IsStage first) (sym back) all.0) in (
-        subst (λ (ms : List Move). AllStages CanMoveRight (IsStage first) ms end) (sym (undoing_all-cons m moves))
-            (AllStages-append CanMoveRight (IsStage first) (undoing_all moves) (undoing m ∷ []) end later.0 (subst (AllStages CanMoveRight (IsStage first) (undoing m ∷ [])) (sym later.1) last)),
-        ap (λ (ms : List Move). after_moves ms end) (undoing_all-cons m moves) ∙ after_moves-append (undoing_all moves) (undoing m ∷ []) end ∙ ap (after_move (undoing m)) later.1 ∙ back,
+      let last : AllStages CanMoveRight (IsStage first) (inverse_move m ∷ []) made = (stage, can_undo m now all.0 all.1, subst (IsStage first) (sym back) all.0) in (
+        subst (λ (ms : List Move). AllStages CanMoveRight (IsStage first) ms end) (sym (inverse_moves-cons m moves))
+            (AllStages-append CanMoveRight (IsStage first) (inverse_moves moves) (inverse_move m ∷ []) end later.0 (subst (AllStages CanMoveRight (IsStage first) (inverse_move m ∷ [])) (sym later.1) last)),
+        ap (λ (ms : List Move). after_moves ms end) (inverse_moves-cons m moves) ∙ after_moves-append (inverse_moves moves) (inverse_move m ∷ []) end ∙ ap (after_move (inverse_move m)) later.1 ∙ back,
       )

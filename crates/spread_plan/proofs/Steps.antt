@@ -8,7 +8,7 @@ use Rattle.density_rule.proofs.Quotients.{div_rises}
 use Rattle.density_rule.proofs.Shares.{length-shares, get_or-shares, total-shares}
 use Rattle.spread_plan.specs.declared.Move.{Move}
 use Rattle.spread_plan.specs.declared.TheConstants.{SEGMENT_SLOTS}
-use Rattle.spread_plan.specs.Plans.{moves_between, pack_from, pack_moves, undoing, undoing_all, spread_moves}
+use Rattle.spread_plan.specs.Plans.{moves_between, pack_from, pack_moves, inverse_move, inverse_moves, spread_moves}
 use Rattle.spread_plan.specs.States.{moves_to_pack, IsPacking, moves_to_spread, IsSpreading}
 use Rattle.spread_plan.proofs.Fewness.{moves_between-none}
 use Rattle.spread_plan.proofs.Coming.{moves_between-first, moves_between-last}
@@ -56,13 +56,13 @@ pack_from-append segment before (x ∷ xs) ys =
     ap (λ (ms : List Move). first ++ ms) (pack_from-append (segment + 1) (before + x) xs ys ∙ ap₂ (λ (s : ℕ) (b : ℕ). pack_from (segment + 1) (before + x) xs ++ pack_from s b ys) here so_many)
     ∙ sym (append_assoc first (pack_from (segment + 1) (before + x) xs) (pack_from (segment + length (x ∷ xs)) (before + sum (x ∷ xs)) ys))
 
-undoing_all-push : (moves : List Move) (m : Move) → undoing_all (moves ++ m ∷ []) ≡ undoing m ∷ undoing_all moves
-undoing_all-push moves m = ap reverse (map-append undoing moves (m ∷ [])) ∙ reverse-append (map undoing moves) (undoing m ∷ [])
+inverse_moves-push : (moves : List Move) (m : Move) → inverse_moves (moves ++ m ∷ []) ≡ inverse_move m ∷ inverse_moves moves
+inverse_moves-push moves m = ap reverse (map-append inverse_move moves (m ∷ [])) ∙ reverse-append (map inverse_move moves) (inverse_move m ∷ [])
 
 -- a spread begins
 pub spread_begins : (n m : ℕ) → moves_to_spread n m m n n ≡ spread_moves n m
 spread_begins n m =
-    ap undoing_all (ap₂ (λ (ns : List ℕ) (ms : List Move). pack_moves ns ++ ms) (take_all m (shares n m) (omega (arith, length-shares n m))) (moves_between-none m n n (omega arith)) ∙ append-nil (pack_moves (shares n m)))
+    ap inverse_moves (ap₂ (λ (ns : List ℕ) (ms : List Move). pack_moves ns ++ ms) (take_all m (shares n m) (omega (arith, length-shares n m))) (moves_between-none m n n (omega arith)) ∙ append-nil (pack_moves (shares n m)))
 
 -- a spread goes on to the next segment
 module _ (n m to start end : ℕ) (is : IsSpreading n m to start end) (done : start ≡ end) (some : 0 < to) where
@@ -106,7 +106,7 @@ module _ (n m to start end : ℕ) (is : IsSpreading n m to start end) (done : st
       let here : 0 + length (take before ns) ≡ before = omega (arith, long) in
       let so_many : 0 + sum (take before ns) ≡ first = omega (arith, total-shares n m before is.some (omega (arith, is.to_is))) in
       let stops : min (first + share n m before) (before * SEGMENT_SLOTS) ≡ stop = omega (arith, last, stop_is) in
-      ap undoing_all (
+      ap inverse_moves (
       ap (λ (ms : List Move). pack_moves (take before ns) ++ ms) (
       sym (append-nil (moves_between before first stop)) ∙ ap (λ (k : ℕ). moves_between before first k ++ []) (sym stops)
       ∙ ap₂ (λ (s : ℕ) (b : ℕ). pack_from s b (share n m before ∷ [])) (sym here) (sym so_many)
@@ -120,5 +120,5 @@ module _ (n m to start end : ℕ) (is : IsSpreading n m to start end) (some : st
   pub spread_then : moves_to_spread n m to start end ≡ record { from = from; to = to; count = end - first } ∷ moves_to_spread n m to start first
   spread_then =
       let before = pack_moves (take to (shares n m)) in let last : Move = record { from = to; to = from; count = end - first } in
-      ap undoing_all (ap (λ (ms : List Move). before ++ ms) (moves_between-last to start end some is.near from first from_is first_is) ∙ sym (append_assoc before (moves_between to start first) (last ∷ [])))
-      ∙ undoing_all-push (before ++ moves_between to start first) last
+      ap inverse_moves (ap (λ (ms : List Move). before ++ ms) (moves_between-last to start end some is.near from first from_is first_is) ∙ sym (append_assoc before (moves_between to start first) (last ∷ [])))
+      ∙ inverse_moves-push (before ++ moves_between to start first) last

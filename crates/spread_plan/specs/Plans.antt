@@ -20,8 +20,8 @@ moves_between from a b =
     let to = a / SEGMENT_SLOTS in let edge = (to + 1) * SEGMENT_SLOTS in
     move_of from to (min b edge - a) ++ move_of from (to + 1) (b - edge)
 
--- the moves to the left from the segments with these counts, the first of which is this segment, with so many records
--- before it. What is numbered as in a full segment's own room stays
+-- the moves to the left from the segments with these counts, of which this one is the first and has so many records
+-- before it. Records whose numbers fall in the room of the segment that has them stay
 abbrev pub pack_from : ℕ → ℕ → List ℕ → List Move
 pack_from segment before [] = []
 pack_from segment before (count ∷ counts) = moves_between segment before (min (before + count) (segment * SEGMENT_SLOTS)) ++ pack_from (segment + 1) (before + count) counts
@@ -31,13 +31,13 @@ abbrev pub pack_moves : List ℕ → List Move
 pack_moves counts = pack_from 0 0 counts
 
 -- the move that undoes this one
-abbrev pub undoing : Move → Move
-undoing m = record { from = m.to; to = m.from; count = m.count }
+abbrev pub inverse_move : Move → Move
+inverse_move m = record { from = m.to; to = m.from; count = m.count }
 
 -- the moves that undo these, the last of them first
-abbrev pub undoing_all : List Move → List Move
-undoing_all moves = reverse (map undoing moves)
+abbrev pub inverse_moves : List Move → List Move
+inverse_moves moves = reverse (map inverse_move moves)
 
 -- the moves that spread n packed records over m segments: they undo a pack of their shares
 abbrev pub spread_moves : ℕ → ℕ → List Move
-spread_moves n m = undoing_all (pack_moves (shares n m))
+spread_moves n m = inverse_moves (pack_moves (shares n m))

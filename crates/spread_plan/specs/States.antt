@@ -3,7 +3,7 @@ use Rattle.std.specs.Prelude.{◌≡◌, ℕ, ◌+◌, ◌-◌, ◌*◌, ◌/◌
 use Rattle.density_rule.specs.Spread.{shares}
 use Rattle.spread_plan.specs.declared.Move.{Move}
 use Rattle.spread_plan.specs.declared.TheConstants.{SEGMENT_SLOTS}
-use Rattle.spread_plan.specs.Plans.{moves_between, pack_from, pack_moves, undoing_all}
+use Rattle.spread_plan.specs.Plans.{moves_between, pack_from, pack_moves, inverse_moves}
 
 -- the moves of a pack that are still to come: those of the records from `next` to below `end` of the segment looked
 -- at last, and those of the segments with the other counts
@@ -21,7 +21,7 @@ pub record IsPacking (rest : List ℕ) (segments records next end : ℕ) : Type 
 -- the moves of a spread that are still to come: they undo a pack of the shares of the first segments, and of the
 -- records from `start` to below `end` of the next one
 abbrev pub moves_to_spread : ℕ → ℕ → ℕ → ℕ → ℕ → List Move
-moves_to_spread n m to start end = undoing_all (pack_moves (take to (shares n m)) ++ moves_between to start end)
+moves_to_spread n m to start end = inverse_moves (pack_moves (take to (shares n m)) ++ moves_between to start end)
 
 pub record IsSpreading (n m to start end : ℕ) : Type 0 where
   pub some : 1 ≤ m

@@ -9,7 +9,8 @@ use super::{Move, SEGMENT_SLOTS};
 use std::iter::FusedIterator;
 use std::marker::Model;
 
-/// The moves that pack segments to the left, in the order in which they are made: seen as the list of those to come.
+/// The moves that pack segments to the left, in the order in which they are made. Contracts see the list of those that
+/// are still to come.
 #[derive(Drop)]
 pub struct PackMoves<'a> {
     // The counts of the segments that were not looked at.
@@ -36,7 +37,7 @@ impl<'a> Model for PackMoves<'a> {
 }
 
 impl<'a> PackMoves<'a> {
-    /// The moves that pack segments which hold so many records each.
+    /// The moves that pack the segments of a window, whose counts of records these are, in order.
     pub fn over(counts: &'a [u32]) -> PackMoves<'a>
         requires segments { length counts.now ≤ 2 ^ 16 }
         requires room { All (λ count. count ≤ SEGMENT_SLOTS) counts.now }

@@ -9,7 +9,8 @@ use super::{Move, SEGMENT_SLOTS, shared_before};
 use std::iter::FusedIterator;
 use std::marker::Model;
 
-/// The moves that spread packed records, in the order in which they are made: seen as the list of those to come.
+/// The moves that spread packed records, in the order in which they are made. Contracts see the list of those that are
+/// still to come.
 #[derive(Drop)]
 pub struct SpreadMoves {
     records: u32,
@@ -35,7 +36,7 @@ impl Model for SpreadMoves {
 }
 
 impl SpreadMoves {
-    /// The moves that spread `n` packed records over `m` segments.
+    /// The moves that spread `n` records over `m` segments, where they were packed before.
     pub fn new(n: u32, m: u32) -> SpreadMoves
         requires some { 1 ≤ m }
         requires segments { m ≤ 2 ^ 16 }

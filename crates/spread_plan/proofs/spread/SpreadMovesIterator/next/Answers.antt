@@ -1,4 +1,5 @@
 use Rattle.std.proofs.Common.{◌-◌, ◌<◌, ◌/◌, ap, subst, sym, ◌∙◌, arith, refl}
+use Rattle.spread_plan.specs.declared.TheConstants.{SEGMENT_SLOTS}
 use Rattle.spread_plan.specs.States.{IsSpreading, moves_to_spread}
 use Rattle.spread_plan.proofs.Steps.{spreading_on, spread_on, spread_then}
 use Rattle.spread_plan.proofs.spread.SpreadMovesIterator.next.Goals as goal
@@ -16,4 +17,4 @@ pub returns-clause-steps : goal.returns-clause-steps
 returns-clause-steps c =
     let s = c.loop-self.self-inside in
     let is = c.loop-self.invariant.0 in let some : s.start < s.end = omega (arith, c.loop-self-test.false, is.forward) in
-    sym c.self.view_is ∙ sym c.loop-self.invariant.1 ∙ spread_then s.records s.segments s.to s.start s.end is some ((s.end - 1) / 64) c.max-first.result refl c.max-first.ensures
+    sym c.self.view_is ∙ sym c.loop-self.invariant.1 ∙ spread_then s.records s.segments s.to s.start s.end is some ((s.end - 1) / SEGMENT_SLOTS) c.max-first.result refl c.max-first.ensures
