@@ -28,7 +28,9 @@ pub const SEGMENT_SLOTS: u32 = 64;
 /// higher segment the last ones, at its front.
 #[derive(Clone, Copy, Debug, PartialEq, Eq)]
 pub struct Move {
+    /// The segment that gives them, counted in the window from 0.
     pub from: u32,
+    /// The segment that takes them.
     pub to: u32,
     /// How many records.
     pub count: u32,

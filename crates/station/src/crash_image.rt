@@ -23,9 +23,13 @@ pub enum Pick {
 /// The bytes that were settled last, the held bytes, and an image that a crash may leave.
 #[derive(Drop)]
 pub struct Picture {
+    /// What was held when the last sync answered Ok, or at the start.
     pub settled: Vec<u8>,
+    /// What is held.
     pub held: Vec<u8>,
+    /// What a crash may leave.
     pub image: Vec<u8>,
+    /// What the image has in the pending places.
     pub pick: Pick,
 }
 

@@ -32,6 +32,7 @@ mod tree;
 pub struct Since {
     /// 0 where the window is not rested.
     pub updates: u64,
+    /// Whether a larger window around it was spread, and no rest was forgotten since.
     pub rested: bool,
 }
 
