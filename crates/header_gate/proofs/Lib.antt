@@ -4,3 +4,8 @@ pub mod Making
 pub mod Pages
 pub mod Vectors
 pub mod Soundness
+pub mod RecoveredBytes
+pub mod RecoveredSegments
+pub mod Recoveries
+pub mod Journals
+pub mod LaidSegments

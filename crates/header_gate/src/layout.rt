@@ -26,8 +26,11 @@ pub(crate) const NAME_BACK: u32 = 0x4552_4f54;
 /// The bytes of the header page.
 pub(crate) const PAGE: usize = 4096;
 
+/// The place of the journal's table, behind the header page.
+pub const TABLE: u64 = 4096;
+
 /// The bytes of a segment.
-const SEGMENT: u64 = 4096;
+pub const SEGMENT: usize = 4096;
 
 /// What a file was made with: its height limit, 0 to 16, and its journal size in segments, 4 to max(4, 2^hmax).
 #[derive(Clone, Copy, Debug, PartialEq, Eq)]
@@ -54,7 +57,7 @@ impl Layout {
         requires { IsLayout self.now }
         ensures { result ≡ image_place self.now k }
     {
-        PAGE as u64 + self.table_size() + SEGMENT * k as u64
+        TABLE + self.table_size() + SEGMENT as u64 * k as u64
     }
 
     /// The place of a segment of region 0 or 1. Region 2 would begin at the end of the file.
@@ -64,15 +67,15 @@ impl Layout {
         ensures { result ≡ segment_place self.now region segment }
     {
         self.image_at(self.journal)
-            + SEGMENT * self.segments() * region as u64
-            + SEGMENT * segment as u64
+            + SEGMENT as u64 * self.segments() * region as u64
+            + SEGMENT as u64 * segment as u64
     }
 
     /// The bytes of a segment.
     pub fn segment_bytes(&self) -> usize
         ensures { result ≡ segment_size }
     {
-        SEGMENT as usize
+        SEGMENT
     }
 
     // The journal's table is a count and so many numbers, in whole pages.
