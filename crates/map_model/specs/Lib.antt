@@ -1,2 +1,4 @@
 pub mod Store
 pub mod Image
+pub mod Reasons
+pub mod Batches

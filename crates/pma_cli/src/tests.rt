@@ -12,6 +12,8 @@ use std::alloc::Global;
 use std::fs;
 use std::test::Fail;
 
+mod updates;
+
 // The length of a store of one segment, in bytes.
 const LENGTH: usize = 32768;
 

@@ -1,9 +1,7 @@
-pub mod SingleImages
-pub mod SingleSteps
+pub mod StoreLaws
 pub mod SessionLaws
 pub mod ScriptCommands
-pub mod EditLaws
+pub mod CommandLines
 pub mod Answering
 pub mod ServingLaws
 pub mod OutcomeLaws
-pub mod EmptyImage

@@ -11,39 +11,37 @@ use Rattle.line_source.specs.ReaderView.{ReaderView, rest}
 use Rattle.line_source.specs.Progress.{HasGiven}
 use Rattle.line_source.proofs.Progress.{given-none}
 use Rattle.map_model.specs.Store.{State}
+use Rattle.map_model.specs.Image.{RepresentsMap}
 use Rattle.command_text.specs.declared.command.Command.{Command}
 use Rattle.command_text.specs.declared.command.Command.TheVariants.{Nothing}
 use Rattle.command_text.specs.Script.{command_of_raw, commands_in, commands_of}
 use Rattle.command_text.specs.Answers.{reply_of, step}
-use Rattle.pma_engine.specs.Session.{state_after, replies_after, Headline, AnswerPair, RepresentsMap}
+use Rattle.pma_store.specs.Store.{StoreView, Stands}
+use Rattle.pma_engine.specs.Session.{state_after, replies_after, Headline, AnswerPair}
 use Rattle.pma_engine.specs.Serving.{GivesCommand, ScriptPair, IsServed}
-use Rattle.pma_engine.specs.Single.{IsStore, state_in, map_in}
-use Rattle.pma_engine.proofs.SingleImages.{represents_of}
+use Rattle.pma_engine.specs.Replies.{state_in}
+use Rattle.pma_engine.proofs.StoreLaws.{held_stands}
 use Rattle.pma_engine.proofs.SessionLaws.{headline_of, headline_at, state_after-append, replies_after-append}
 use Rattle.pma_engine.proofs.ScriptCommands.{if_any_is, commands_in-nothing, commands_in-some, commands_in-append, all_answered}
 
 -- the lines given so far were answered, and nothing is under way
-pub record Serving (a0 : View) (r0 : ReaderView) (s0 : SourceView) (a : View) (r : ReaderView) (s : SourceView) (live : ℕ) : Type 0 where
+pub record Serving (a0 : View) (r0 : ReaderView) (s0 : SourceView) (a : View) (r : ReaderView) (s : SourceView) (view : StoreView) : Type 0 where
   pub given : List (List ℕ)
   pub reading : HasGiven r0 s0 given r s
   pub run : Run (ScriptPair a0 r0 s0) a0 a
-  pub store : EachHeld (IsStore live) a
+  pub store : EachHeld (Stands view) a
   pub nothing : NothingPending a
   pub served : source.Told s0 → Told a0 → IsServed a0 (commands_in given) a
 
--- a store's held bytes represent their map
-held_stands : (live : ℕ) (a : View) → EachHeld (IsStore live) a → Told a → RepresentsMap a.held (map_in a.held)
-held_stands live a store told = (0, represents_of live (map_in a.held) a.held (store a.held (inl (told, refl))))
-
 -- at the start nothing was answered
-pub serving_start : (a : View) (r : ReaderView) (s : SourceView) (live : ℕ) → r.done ≡ false → EachHeld (IsStore live) a → NothingPending a → Serving a r s a r s live
-serving_start a r s live fresh store nothing = record {
+pub serving_start : (a : View) (r : ReaderView) (s : SourceView) (view : StoreView) → r.done ≡ false → EachHeld (Stands view) a → NothingPending a → Serving a r s a r s view
+serving_start a r s view fresh store nothing = record {
   given = [];
   reading = given-none r s fresh;
   run = run_none (ScriptPair a r s) a;
   store = store;
   nothing = nothing;
-  served = λ told told_a. record { said = λ said_told. sym (append-nil a.said); state = refl; stands = held_stands live a store told_a };
+  served = λ told told_a. record { said = λ said_told. sym (append-nil a.said); state = refl; stands = held_stands view a store told_a };
 }
 
 -- one line: its command's reply, and the state after it
@@ -69,7 +67,7 @@ pair_nothing s c said_before image said is pair = by (subst (λ (d : Command). A
     by (inr ((zero, within, same), new)) = (same ∙ append-nil said_before, new)
     by (inr ((suc n, within, same), new)) = absurd (omega (arith, within))
 
-module _ (a0 : View) (r0 : ReaderView) (s0 : SourceView) (a : View) (r : ReaderView) (s : SourceView) (live : ℕ) (here : Serving a0 r0 s0 a r s live) where
+module _ (a0 : View) (r0 : ReaderView) (s0 : SourceView) (a : View) (r : ReaderView) (s : SourceView) (view : StoreView) (here : Serving a0 r0 s0 a r s view) where
   -- what is held at rest, with what was said
   pub pair_at_rest : Told a0 → SaidTold a0 → ScriptPair a0 r0 s0 a.held a.said
   pair_at_rest told said_told told_s =
@@ -112,9 +110,9 @@ module _ (a0 : View) (r0 : ReaderView) (s0 : SourceView) (a : View) (r : ReaderV
     run_turn law run = run_on (ScriptPair a0 r0 s0) here.run run (λ honest image said pair. pair) (λ honest image said pair told_s. pair_turn image said told_s (law.tells honest).0 (law.tells honest).1 pair)
 
     -- the present command was answered
-    pub served_turn : (live1 : ℕ) → Lawful a0 → Run (AnswerPair 0 (state_in a.held) c a.said) a b → EachHeld (IsStore live1) b → NothingPending b
-        → (Told a → state_in b.held ≡ step 0 (state_in a.held) c) → (Told a → SaidTold a → b.said ≡ a.said ++ reply_of 0 (state_in a.held) c) → Serving a0 r0 s0 b r1 s1 live1
-    served_turn live1 law run store nothing state replied = record {
+    pub served_turn : (view1 : StoreView) → Lawful a0 → Run (AnswerPair 0 (state_in a.held) c a.said) a b → EachHeld (Stands view1) b → NothingPending b
+        → (Told a → state_in b.held ≡ step 0 (state_in a.held) c) → (Told a → SaidTold a → b.said ≡ a.said ++ reply_of 0 (state_in a.held) c) → Serving a0 r0 s0 b r1 s1 view1
+    served_turn view1 law run store nothing state replied = record {
       given = here.given ++ next.raw ∷ [];
       reading = next.more;
       run = run_turn law run;
@@ -138,6 +136,6 @@ module _ (a0 : View) (r0 : ReaderView) (s0 : SourceView) (a : View) (r : ReaderV
                 ∙ ap (λ (l : List ℕ). a0.said ++ l) (sym (replies_after-append 0 (state_in a0.held) (commands_in here.given) (commands_in (next.raw ∷ []))))
                 ∙ ap (λ (cs : List Command). a0.said ++ replies_after 0 (state_in a0.held) cs) (sym commands);
             state = state_is;
-            stands = subst (λ (t : State). RepresentsMap b.held t.map) state_is (held_stands live1 b store (ap (λ f. f.tells_held) run.fixed ∙ told_a));
+            stands = subst (λ (t : State). RepresentsMap b.held t.map) state_is (held_stands view1 b store (ap (λ f. f.tells_held) run.fixed ∙ told_a));
           };
     }

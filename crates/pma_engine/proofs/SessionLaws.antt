@@ -3,9 +3,10 @@ use Rattle.std.proofs.Common.{◌≡◌, ◌⊎◌, inl, inr, ℕ, zero, suc, �
 use Rattle.std.proofs.lemmas.List.{append-nil, take-append-drop}
 use Rattle.key_slot.specs.Record.{Bytes}
 use Rattle.map_model.specs.Store.{State}
+use Rattle.map_model.specs.Image.{RepresentsMap}
 use Rattle.command_text.specs.declared.command.Command.{Command}
 use Rattle.command_text.specs.Answers.{step, reply_of}
-use Rattle.pma_engine.specs.Session.{state_after, replies, replies_after, replies_begun, RepresentsMap, Headline, AnswerPair}
+use Rattle.pma_engine.specs.Session.{state_after, replies, replies_after, replies_begun, Headline, AnswerPair}
 
 -- every command of the list has a reply of at least one byte
 abbrev pub AllAnswered : ℕ → State → List Command → Type 0

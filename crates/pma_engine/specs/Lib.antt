@@ -1,5 +1,5 @@
 pub mod Words
-pub mod Single
+pub mod Replies
 pub mod Session
 pub mod Faults
 pub mod Serving

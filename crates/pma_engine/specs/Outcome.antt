@@ -3,11 +3,12 @@ use Rattle.std.specs.Prelude.{◌≡◌, ◌⊎◌, ℕ, List, ◌++◌}
 use Rattle.station.specs.View.{View, SaidTold}
 use Rattle.std.specs.FinMap.{empty}
 use Rattle.map_model.specs.Store.{Map, State}
+use Rattle.map_model.specs.Image.{RepresentsMap}
 use Rattle.header_gate.specs.declared.layout.TheConstants.{TALLEST}
 use Rattle.command_text.specs.declared.command.Command.{Command}
 use Rattle.command_text.specs.Script.{complete_commands}
-use Rattle.pma_engine.specs.declared.status.TheConstants.{DONE, REFUSED, DISK_FAULT, SCRIPT_FAULT, REPLY_FAULT, TOO_LONG}
-use Rattle.pma_engine.specs.Session.{Headline, RepresentsMap, state_after, replies_after}
+use Rattle.pma_engine.specs.declared.status.TheConstants.{DONE, REFUSED, DISK_FAULT, SCRIPT_FAULT, REPLY_FAULT, OUT_OF_MEMORY, TOO_LONG}
+use Rattle.pma_engine.specs.Session.{Headline, state_after, replies_after}
 
 -- the state of a map at a height
 abbrev pub state_of : Map → ℕ → State
@@ -27,7 +28,7 @@ IsRest status = (status ≡ DONE) ⊎ ((status ≡ SCRIPT_FAULT) ⊎ (status ≡
 
 -- the statuses with which a run may end
 abbrev pub IsRunStatus : ℕ → Type 0
-IsRunStatus status = IsRest status ⊎ ((status ≡ REFUSED) ⊎ ((status ≡ DISK_FAULT) ⊎ (status ≡ REPLY_FAULT)))
+IsRunStatus status = IsRest status ⊎ ((status ≡ REFUSED) ⊎ ((status ≡ DISK_FAULT) ⊎ ((status ≡ REPLY_FAULT) ⊎ (status ≡ OUT_OF_MEMORY))))
 
 -- the headline of a run that began at a map, of a pair of an image and the bytes said
 abbrev pub RunHeadline : Map → ℕ → List Command → List ℕ → List ℕ → List ℕ → Type 0

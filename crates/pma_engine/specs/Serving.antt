@@ -5,12 +5,23 @@ use Rattle.line_source.specs.ReaderView.{ReaderView, rest}
 use Rattle.line_source.specs.Progress.{HasGiven, GivesAll}
 use Rattle.line_source.specs.declared.reader.LineStep.TheVariants as step
 use Rattle.station.specs.View as station
+use Rattle.map_model.specs.Image.{RepresentsMap}
+use Rattle.command_text.specs.Command.{command_of}
 use Rattle.command_text.specs.declared.command.Command.{Command}
+use Rattle.command_text.specs.declared.command.Command.TheVariants.{Bad}
+use Rattle.command_text.specs.declared.command.Why.TheVariants as why
 use Rattle.command_text.specs.Script.{command_of_raw, commands_of, complete_commands}
 use Rattle.pma_engine.specs.declared.fault.ServeFault.{ServeFault}
 use Rattle.pma_engine.specs.declared.fault.ServeFault.TheVariants.{Disk, Damaged, Script, Reply, Spent}
-use Rattle.pma_engine.specs.Session.{Headline, RepresentsMap, state_after, replies_after}
-use Rattle.pma_engine.specs.Single.{state_in}
+use Rattle.pma_engine.specs.declared.next.Given.{Given}
+use Rattle.pma_engine.specs.declared.next.Given.TheVariants.{Line, Long}
+use Rattle.pma_engine.specs.Session.{Headline, state_after, replies_after}
+use Rattle.pma_engine.specs.Replies.{state_in}
+
+-- what a line asks for that the reader gave: a long one is refused
+abbrev pub given_command : Given → List ℕ → Command
+given_command Line line = command_of line
+given_command Long line = Bad why.Line
 
 -- one line more was given, and this is its command
 pub record GivesCommand (r0 : ReaderView) (s0 : SourceView) (given : List (List ℕ)) (c : Command) (r : ReaderView) (s : SourceView) : Type 0 where
@@ -18,9 +29,9 @@ pub record GivesCommand (r0 : ReaderView) (s0 : SourceView) (given : List (List 
   pub command_is : Told s0 → c ≡ command_of_raw raw
   pub more : HasGiven r0 s0 (given ++ raw ∷ []) r s
 
--- what the answer to the question for the next command says of all lines since r0 and s0
-abbrev pub IsNextCommand : Result (Option Command) ServeFault → ReaderView → SourceView → List (List ℕ) → ReaderView → SourceView → Type 0
-IsNextCommand (Ok (Some c)) r0 s0 given r s = GivesCommand r0 s0 given c r s
+-- what the answer to the question for the next line says of all lines since r0 and s0
+abbrev pub IsNextCommand : Result (Option Given) ServeFault → ReaderView → SourceView → List (List ℕ) → ReaderView → SourceView → Type 0
+IsNextCommand (Ok (Some kind)) r0 s0 given r s = GivesCommand r0 s0 given (given_command kind r.line) r s
 IsNextCommand (Ok None) r0 s0 given r s = Told s0 → GivesAll step.End r0 s0 given s
 IsNextCommand (Err Script) r0 s0 given r s = (Told s0 → GivesAll step.ReadFailed r0 s0 given s) × Rose s0 s
 IsNextCommand (Err Spent) r0 s0 given r s = Told s0 → GivesAll step.Spent r0 s0 given s

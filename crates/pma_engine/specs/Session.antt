@@ -2,8 +2,8 @@
 use Rattle.std.specs.Prelude.{◌≡◌, ◌⊎◌, ℕ, suc, ◌+◌, ◌-◌, ◌≤◌, ◌==◌, if◌then◌else◌, List, [], ◌∷◌, ◌++◌, length, take}
 use Rattle.std.specs.List.{flat_map}
 use Rattle.key_slot.specs.Record.{Bytes}
-use Rattle.map_model.specs.Store.{Map, State}
-use Rattle.map_model.specs.Image.{Represents}
+use Rattle.map_model.specs.Store.{State}
+use Rattle.map_model.specs.Image.{RepresentsMap}
 use Rattle.command_text.specs.declared.command.Command.{Command}
 use Rattle.command_text.specs.Answers.{step, reply_of}
 
@@ -25,10 +25,6 @@ replies_after hmax s cs = flat_map (λ r. r) (replies hmax s cs)
 abbrev pub replies_begun : List Bytes → ℕ → ℕ
 replies_begun [] n = 0
 replies_begun (r ∷ rs) n = let more = replies_begun rs (n - length r) in if n == 0 then 0 else suc more
-
--- the image is a valid file for this map, at the height that it names
-abbrev pub RepresentsMap : List ℕ → Map → Type 0
-RepresentsMap image m = (height : ℕ) × Represents image m height
 
 -- The headline, of a pair of an image and the bytes said: what was said since the entry is a front of the replies, and
 -- with n of them begun the image represents the map after n commands, or after n + 1.

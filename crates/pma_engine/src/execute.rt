@@ -1,36 +1,39 @@
 //! One command on the store.
 
-ghost use Rattle.std.specs.Prelude.{◌≡◌, ◌≤◌, OnOk, IfOk, IfErr, IsErrOf};
-ghost use Rattle.station.specs.Bytes.{Same};
+ghost use Rattle.std.specs.Prelude.{◌≡◌, ◌≤◌, false, OnOk, IfOk, IfErr, IsErrOf, is_err};
 ghost use Rattle.station.specs.View.{Told, EachHeld, NothingPending, Rose};
 ghost use Rattle.station.specs.Steps.{Steps};
 ghost use Rattle.header_gate.specs.Places.{file_length};
+ghost use Rattle.map_model.specs.Image.{map_of};
 ghost use Rattle.command_text.specs.Answers.{answers, step};
-ghost use Rattle.pma_engine.specs.Single.{IsStore, Becomes, map_in, state_in, lines_of, put_reply};
+ghost use Rattle.pma_store.specs.Store.{Stands, Becomes};
+ghost use Rattle.pma_engine.specs.Replies.{state_in, lines_of, put_reply};
 
-use crate::put::Put;
-use crate::single::{LAYOUT, Single};
 use command_text::{Command, Reply};
 use key_slot::{Key, Value};
+use pma_store::{Put, Store};
 use segment::StoreFault;
 use station::Station;
 
 /// Does what a command asks for, and answers the line of its reply: None where it asks for nothing.
 ///
-/// A change is committed and synced before this returns.
+/// A change is committed and synced before this returns. After a fault the store is closed.
 pub(crate) fn execute<S: Station>(
-    store: &mut Single,
+    store: &mut Store,
     station: &mut S,
     command: &Command,
 ) -> Result<Option<Reply>, StoreFault>
-    requires store { EachHeld (IsStore store.old.live) (S.view station.old) }
+    requires open { store.old.closed ≡ false }
+    requires store { EachHeld (Stands store.old) (S.view station.old) }
     requires nothing { NothingPending (S.view station.old) }
-    requires reach { file_length LAYOUT ≤ (S.view station.old).fixed.reach }
+    requires reach { file_length store.old.place.layout ≤ (S.view station.old).fixed.reach }
     ensures answer { IfOk result (λ reply. Told (S.view station.old) → lines_of reply ≡ answers 0 (state_in (S.view station.old).held) command.now) }
     ensures state { OnOk result (Told (S.view station.old) → state_in (S.view station.new).held ≡ step 0 (state_in (S.view station.old).held) command.now) }
-    ensures store { OnOk result (EachHeld (IsStore store.new.live) (S.view station.new)) }
+    ensures store { OnOk result (EachHeld (Stands store.new) (S.view station.new)) }
     ensures settled { OnOk result (NothingPending (S.view station.new)) }
-    ensures steps { Steps (Becomes (map_in (S.view station.old).held) (step 0 (state_in (S.view station.old).held) command.now).map) (S.view station.old) (S.view station.new) }
+    ensures steps { Steps (Becomes (map_of (S.view station.old).held) (step 0 (state_in (S.view station.old).held) command.now).map) (S.view station.old) (S.view station.new) }
+    ensures place { store.new.place ≡ store.old.place }
+    ensures closed { store.new.closed ≡ is_err result }
     ensures damaged { IfErr result (λ fault. Told (S.view station.old) → fault ≡ StoreFault.Failed) }
     ensures failed { IsErrOf result StoreFault.Failed → Rose (S.view station.old).disk_faults (S.view station.new).disk_faults }
 {
@@ -46,23 +49,26 @@ pub(crate) fn execute<S: Station>(
 }
 
 fn execute_put<S: Station>(
-    store: &mut Single,
+    store: &mut Store,
     station: &mut S,
     key: &Key,
     value: &Value,
 ) -> Result<Option<Reply>, StoreFault>
-    requires store { EachHeld (IsStore store.old.live) (S.view station.old) }
+    requires open { store.old.closed ≡ false }
+    requires store { EachHeld (Stands store.old) (S.view station.old) }
     requires nothing { NothingPending (S.view station.old) }
-    requires reach { file_length LAYOUT ≤ (S.view station.old).fixed.reach }
+    requires reach { file_length store.old.place.layout ≤ (S.view station.old).fixed.reach }
     ensures answer { IfOk result (λ reply. Told (S.view station.old) → lines_of reply ≡ answers 0 (state_in (S.view station.old).held) (Command.Put key.now value.now)) }
     ensures state { OnOk result (Told (S.view station.old) → state_in (S.view station.new).held ≡ step 0 (state_in (S.view station.old).held) (Command.Put key.now value.now)) }
-    ensures store { OnOk result (EachHeld (IsStore store.new.live) (S.view station.new)) }
+    ensures store { OnOk result (EachHeld (Stands store.new) (S.view station.new)) }
     ensures settled { OnOk result (NothingPending (S.view station.new)) }
-    ensures steps { Steps (Becomes (map_in (S.view station.old).held) (step 0 (state_in (S.view station.old).held) (Command.Put key.now value.now)).map) (S.view station.old) (S.view station.new) }
+    ensures steps { Steps (Becomes (map_of (S.view station.old).held) (step 0 (state_in (S.view station.old).held) (Command.Put key.now value.now)).map) (S.view station.old) (S.view station.new) }
+    ensures place { store.new.place ≡ store.old.place }
+    ensures closed { store.new.closed ≡ is_err result }
     ensures damaged { IfErr result (λ fault. Told (S.view station.old) → fault ≡ StoreFault.Failed) }
     ensures failed { IsErrOf result StoreFault.Failed → Rose (S.view station.old).disk_faults (S.view station.new).disk_faults }
 {
-    let put = store.put(station, key, value)?;
+    let (put, _) = store.put(station, key, value)?;
     Ok(Some(reply_to(put)))
 }
 
@@ -78,22 +84,26 @@ fn reply_to(put: Put) -> Reply
 }
 
 fn execute_remove<S: Station>(
-    store: &mut Single,
+    store: &mut Store,
     station: &mut S,
     key: &Key,
 ) -> Result<Option<Reply>, StoreFault>
-    requires store { EachHeld (IsStore store.old.live) (S.view station.old) }
+    requires open { store.old.closed ≡ false }
+    requires store { EachHeld (Stands store.old) (S.view station.old) }
     requires nothing { NothingPending (S.view station.old) }
-    requires reach { file_length LAYOUT ≤ (S.view station.old).fixed.reach }
+    requires reach { file_length store.old.place.layout ≤ (S.view station.old).fixed.reach }
     ensures answer { IfOk result (λ reply. Told (S.view station.old) → lines_of reply ≡ answers 0 (state_in (S.view station.old).held) (Command.Remove key.now)) }
     ensures state { OnOk result (Told (S.view station.old) → state_in (S.view station.new).held ≡ step 0 (state_in (S.view station.old).held) (Command.Remove key.now)) }
-    ensures store { OnOk result (EachHeld (IsStore store.new.live) (S.view station.new)) }
+    ensures store { OnOk result (EachHeld (Stands store.new) (S.view station.new)) }
     ensures settled { OnOk result (NothingPending (S.view station.new)) }
-    ensures steps { Steps (Becomes (map_in (S.view station.old).held) (step 0 (state_in (S.view station.old).held) (Command.Remove key.now)).map) (S.view station.old) (S.view station.new) }
+    ensures steps { Steps (Becomes (map_of (S.view station.old).held) (step 0 (state_in (S.view station.old).held) (Command.Remove key.now)).map) (S.view station.old) (S.view station.new) }
+    ensures place { store.new.place ≡ store.old.place }
+    ensures closed { store.new.closed ≡ is_err result }
     ensures damaged { IfErr result (λ fault. Told (S.view station.old) → fault ≡ StoreFault.Failed) }
     ensures failed { IsErrOf result StoreFault.Failed → Rose (S.view station.old).disk_faults (S.view station.new).disk_faults }
 {
-    if store.remove(station, key)? {
+    let (was, _) = store.remove(station, key)?;
+    if was {
         Ok(Some(Reply::Removed))
     } else {
         Ok(Some(Reply::Absent))
@@ -101,14 +111,21 @@ fn execute_remove<S: Station>(
 }
 
 fn execute_get<S: Station>(
-    store: &Single,
+    store: &mut Store,
     station: &mut S,
     key: &Key,
 ) -> Result<Option<Reply>, StoreFault>
-    requires store { EachHeld (IsStore store.now.live) (S.view station.old) }
-    requires reach { file_length LAYOUT ≤ (S.view station.old).fixed.reach }
+    requires open { store.old.closed ≡ false }
+    requires store { EachHeld (Stands store.old) (S.view station.old) }
+    requires nothing { NothingPending (S.view station.old) }
+    requires reach { file_length store.old.place.layout ≤ (S.view station.old).fixed.reach }
     ensures answer { IfOk result (λ reply. Told (S.view station.old) → lines_of reply ≡ answers 0 (state_in (S.view station.old).held) (Command.Get key.now)) }
-    ensures steps { Steps Same (S.view station.old) (S.view station.new) }
+    ensures state { OnOk result (Told (S.view station.old) → state_in (S.view station.new).held ≡ step 0 (state_in (S.view station.old).held) (Command.Get key.now)) }
+    ensures store { OnOk result (EachHeld (Stands store.new) (S.view station.new)) }
+    ensures settled { OnOk result (NothingPending (S.view station.new)) }
+    ensures steps { Steps (Becomes (map_of (S.view station.old).held) (step 0 (state_in (S.view station.old).held) (Command.Get key.now)).map) (S.view station.old) (S.view station.new) }
+    ensures place { store.new.place ≡ store.old.place }
+    ensures closed { store.new.closed ≡ is_err result }
     ensures damaged { IfErr result (λ fault. Told (S.view station.old) → fault ≡ StoreFault.Failed) }
     ensures failed { IsErrOf result StoreFault.Failed → Rose (S.view station.old).disk_faults (S.view station.new).disk_faults }
 {

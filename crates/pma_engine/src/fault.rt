@@ -1,24 +1,14 @@
-//! Why a script or a store isn't served further.
+//! Why a script isn't served further.
 
 ghost use Rattle.std.specs.Prelude.{◌≡◌};
 ghost use Rattle.pma_engine.specs.Faults.{fault_of};
 
-use header_gate::Reason;
 use segment::{Damage, StoreFault};
 use thiserror::Error;
 
-/// Why a store could not be opened.
-#[derive(Clone, Copy, Debug, PartialEq, Eq)]
-pub(crate) enum OpenFault {
-    /// A disk call failed.
-    Failed,
-    /// The file is no store.
-    NotStore(Reason),
-}
-
-/// Why a script was not answered to its end.
+/// Why a line or a script was not answered to its end.
 #[derive(Clone, Copy, Debug, PartialEq, Eq, Error)]
-pub(crate) enum ServeFault {
+pub enum ServeFault {
     /// A disk call failed.
     #[error("a disk call failed")]
     Disk,

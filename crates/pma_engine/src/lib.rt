@@ -1,28 +1,28 @@
 //! All that the program does: making a store, and answering a script.
 //!
-//! `run_words` reads the command line (`words`) and makes a store (`create`) or opens one (`open`), and then answers
-//! the commands of a script, one after another (`run`, `serve`, `next`, `answer`). A command changes the file first
-//! (`execute`, `single`, `edits`) and syncs it, and only then is its reply said (`saying`).
+//! `run_words` reads the command line (`words`) and makes a store (`create`), or opens one and answers the commands of a
+//! script, one after another (`run`, `script`, `next`, `line`). A command changes the store first (`execute`), which
+//! commits and syncs the change, and only then is its reply said (`answer`, `saying`).
 //!
-//! The store is one segment, kept in two regions. An update writes the region that isn't live and flips the selector,
-//! as with the shadow pages of Lorie (ACM TODS 2, 1977), so a crash leaves the map before it or the map after it.
+//! The ordered map is `pma_store`'s. Since a reply comes after its change, a crash at any moment leaves the map after as
+//! many commands as had a reply begun, or after one more.
 #![tactic(auto)]
 
 mod answer;
 mod create;
-mod edits;
 mod execute;
 mod fault;
+mod line;
 mod next;
-mod open;
 mod program;
-mod put;
 mod run;
 mod saying;
-mod serve;
-mod single;
+mod script;
 mod status;
 mod words;
 
+pub use fault::ServeFault;
+pub use line::serve_line;
 pub use program::run_words;
+pub use script::serve;
 pub use words::{Job, read_words};

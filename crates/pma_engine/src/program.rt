@@ -4,7 +4,9 @@ ghost use Rattle.std.specs.Prelude.{◌≡◌, ◌+◌, ◌<◌, ◌≤◌, ◌�
 ghost use Rattle.station.specs.Bytes.{Same};
 ghost use Rattle.station.specs.View.{Told, SaidTold, Honest, NothingPending, Rose, NamedBy, attached_by};
 ghost use Rattle.station.specs.Steps.{Steps};
+ghost use Rattle.header_gate.specs.Header.{gate, layout_in};
 ghost use Rattle.header_gate.specs.Places.{file_length};
+ghost use Rattle.header_gate.specs.Recovered.{recovered};
 ghost use Rattle.header_gate.specs.EmptyStore.{IsEmptyStore, Anything};
 ghost use Rattle.line_source.specs.SourceView.{Told as SourceTold, Rose as SourceRose, Went};
 ghost use Rattle.map_model.specs.Store.{Map};
@@ -17,7 +19,9 @@ ghost use Rattle.pma_engine.specs.declared.words.Job.TheVariants.{Create, Run};
 
 use crate::create::create_file;
 use crate::run::run_file;
-use crate::status::{DISK_FAULT, DONE, REFUSED, REPLY_FAULT, SCRIPT_FAULT, TOO_LONG, USAGE};
+use crate::status::{
+    DISK_FAULT, DONE, OUT_OF_MEMORY, REFUSED, REPLY_FAULT, SCRIPT_FAULT, TOO_LONG, USAGE,
+};
 use crate::words::{Job, read_words};
 use header_gate::Layout;
 use line_source::Source;
@@ -30,9 +34,10 @@ use std::alloc::Global;
 /// source gives, of which it takes at most `most` bytes. Other words end with status 2, and no call is made.
 ///
 /// The statuses: 0 done; 2 usage; 3 the file is refused; 4 a disk call failed; 5 a read of the script failed; 6 a reply
-/// could not be sent whole; 8 the script has `most` bytes or more. No memory is taken, so it never ends with 7.
+/// could not be sent whole; 7 there is not enough memory to open the store, and nothing is written; 8 the script has
+/// `most` bytes or more. `create` takes no memory.
 pub fn run_words<I: Source, S: Station>(
-    _alloc: Global,
+    alloc: Global,
     words: &[String],
     source: &mut I,
     station: &mut S,
@@ -73,12 +78,14 @@ pub fn run_words<I: Source, S: Station>(
         IsAnsweredToCut m height (I.view source.old).left (I.view source.new).left (S.view station.old) (S.view station.new) }
     ensures run_settled { job_of (map string_bytes words.now) ≡ Some Run → IsRest result → NothingPending (S.view station.new) }
     ensures run_refused { job_of (map string_bytes words.now) ≡ Some Run → result ≡ REFUSED → Told (S.view station.old) → (m : Map) (height : ℕ) → Represents (S.view station.old).held m height → ⊥ }
-    ensures run_no_store { job_of (map string_bytes words.now) ≡ Some Run → Told (S.view station.old) → ((m : Map) (height : ℕ) → Represents (S.view station.old).held m height → ⊥) → (result ≡ REFUSED) ⊎ (result ≡ DISK_FAULT) }
-    ensures run_untouched { job_of (map string_bytes words.now) ≡ Some Run → result ≡ REFUSED → Told (S.view station.old) → ((S.view station.new).held ≡ (S.view station.old).held) × ((S.view station.new).said ≡ (S.view station.old).said) }
+    ensures run_no_store { job_of (map string_bytes words.now) ≡ Some Run → Told (S.view station.old) → ((m : Map) (height : ℕ) → Represents (S.view station.old).held m height → ⊥) → (result ≡ REFUSED) ⊎ ((result ≡ DISK_FAULT) ⊎ (result ≡ OUT_OF_MEMORY)) }
+    ensures run_untouched { job_of (map string_bytes words.now) ≡ Some Run → result ≡ REFUSED → Told (S.view station.old) → (recovered (layout_in (S.view station.old).held) (S.view station.new).held ≡ recovered (layout_in (S.view station.old).held) (S.view station.old).held) × ((S.view station.new).said ≡ (S.view station.old).said) }
+    ensures run_even { job_of (map string_bytes words.now) ≡ Some Run → result ≡ REFUSED → Told (S.view station.old) → gate (S.view station.old).held ≡ 0 → (S.view station.new).held ≡ (S.view station.old).held }
+    ensures memory { job_of (map string_bytes words.now) ≡ Some Run → result ≡ OUT_OF_MEMORY → Steps Same (attached_by false (S.view station.old)) (S.view station.new) }
     ensures too_long { job_of (map string_bytes words.now) ≡ Some Run → result ≡ TOO_LONG → SourceTold (I.view source.old) → length (I.view source.old).left ≡ length (I.view source.new).left + most }
     ensures whole { job_of (map string_bytes words.now) ≡ Some Run → result ≡ DONE → SourceTold (I.view source.old) → length (I.view source.old).left < most }
     ensures complete { job_of (map string_bytes words.now) ≡ Some Run → SourceTold (I.view source.old) → Told (S.view station.old) → (m : Map) (height : ℕ) → Represents (S.view station.old).held m height →
-        length (I.view source.old).left < most → ¬ Rose (S.view station.old).disk_faults (S.view station.new).disk_faults → ¬ Rose (S.view station.old).say_faults (S.view station.new).say_faults → ¬ SourceRose (I.view source.old) (I.view source.new) → result ≡ DONE }
+        length (I.view source.old).left < most → ¬ Rose (S.view station.old).disk_faults (S.view station.new).disk_faults → ¬ Rose (S.view station.old).say_faults (S.view station.new).say_faults → ¬ SourceRose (I.view source.old) (I.view source.new) → (result ≡ DONE) ⊎ (result ≡ OUT_OF_MEMORY) }
 
     // Causes.
     ensures disk { result ≡ DISK_FAULT → Rose (S.view station.old).disk_faults (S.view station.new).disk_faults }
@@ -95,6 +102,6 @@ pub fn run_words<I: Source, S: Station>(
             };
             create_file(station, words[1].as_str(), layout)
         }
-        Some(Job::Run) => run_file(source, station, words[1].as_str(), most),
+        Some(Job::Run) => run_file(alloc, source, station, words[1].as_str(), most),
     }
 }

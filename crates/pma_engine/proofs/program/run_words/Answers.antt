@@ -2,11 +2,12 @@ use Rattle.std.specs.Prelude.{map, string_bytes}
 use Rattle.std.proofs.Common.{Some, subst, sym, ap, ◌∙◌}
 use Rattle.header_gate.specs.declared.layout.Layout.{Layout}
 use Rattle.header_gate.specs.EmptyStore.{IsEmptyStore}
-use Rattle.pma_engine.proofs.EmptyImage.{represents_empty, one_layout}
+use Rattle.map_model.proofs.EmptyFile.{represents_empty_one}
+use Rattle.pma_engine.proofs.CommandLines.{one_layout}
 use Rattle.pma_engine.proofs.program.run_words.Goals as goal
 
 pub returns-in-Some-Create-clause-create_represents : goal.returns-in-Some-Create-clause-create_represents
 returns-in-Some-Create-clause-create_represents g c height journal asks done told =
     let made = c.create_file.ensures.made done told in
-    represents_empty (g.S.Station.view c.create_file.new.station).held
+    represents_empty_one (g.S.Station.view c.create_file.new.station).held
     (subst (λ (l : Layout). IsEmptyStore l (g.S.Station.view c.create_file.new.station).held) (one_layout (map string_bytes c.args.words.now) c.in-Some-Create.height c.in-Some-Create.journal (sym c.read_words.ensures ∙ c.in-Some-Create.is ∙ ap Some c.in-Some-Create.field-0-is)) made.1)

@@ -1,0 +1,23 @@
+-- The file of a store.
+use Rattle.std.proofs.Common.{◌≡◌, inl, ℕ, List, refl, sym, subst, arith}
+use Rattle.station.specs.Bytes.{Same}
+use Rattle.station.specs.View.{View, Told, EachHeld, NothingPending}
+use Rattle.station.specs.Steps.{Steps}
+use Rattle.station.proofs.Composition.{weaken, only_held}
+use Rattle.map_model.specs.Store.{Map}
+use Rattle.map_model.specs.Image.{Represents, RepresentsMap, map_of}
+use Rattle.pma_store.specs.Store.{StoreView, Stands, Becomes}
+
+-- there is one height yet
+pub no_height : (image : List ℕ) (m : Map) (height : ℕ) → Represents image m height → height ≡ 0
+no_height image m height is = omega (arith, is.height_is, is.header.height, is.header.hmax)
+
+-- what a store stands for represents its map
+pub held_stands : (s : StoreView) (a : View) → EachHeld (Stands s) a → Told a → RepresentsMap a.held (map_of a.held)
+held_stands s a store told = (store a.held (inl (told, refl))).represents
+
+-- what changes no byte leaves the map
+pub read_becomes : (s : StoreView) (a b : View) (new : Map) → EachHeld (Stands s) a → NothingPending a → Steps Same a b → Steps (Becomes (map_of a.held) new) a b
+read_becomes s a b new store nothing ab = weaken ab (λ d i left step.
+    inl (subst (λ (x : List ℕ). RepresentsMap x (map_of a.held)) (sym step)
+    (subst (λ (x : List ℕ). RepresentsMap d (map_of x)) (only_held a nothing d left) (store d left).represents)))

@@ -1,0 +1,82 @@
+//! One line of a script.
+
+ghost use Rattle.std.specs.Prelude.{◌≡◌, ◌≤◌, ◌++◌, false, OnOk, IfErr, IsErrOf};
+ghost use Rattle.station.specs.View.{Told, SaidTold, EachHeld, NothingPending, Rose};
+ghost use Rattle.station.specs.Steps.{Run};
+ghost use Rattle.header_gate.specs.Places.{file_length};
+ghost use Rattle.command_text.specs.Command.{command_of};
+ghost use Rattle.command_text.specs.Answers.{reply_of, step};
+ghost use Rattle.pma_store.specs.Store.{Stands};
+ghost use Rattle.pma_engine.specs.Faults.{IsLineFault, IsNoScriptFault, is_of_store};
+ghost use Rattle.pma_engine.specs.Session.{AnswerPair};
+ghost use Rattle.pma_engine.specs.Replies.{state_in};
+ghost use Rattle.pma_engine.specs.Serving.{given_command};
+
+use crate::answer::answer;
+use crate::fault::ServeFault;
+use crate::next::Given;
+use command_text::{Command, Why, parse_line};
+use pma_store::Store;
+use station::Station;
+
+/// Answers one line, as `LineReader::line` gives it: does what its command asks for, and then says the reply.
+///
+/// A line without a command has no reply. It fails with `Disk` where a disk call fails and with `Damaged` where a
+/// segment is damaged, after which the store is closed, and with `Reply` where the reply can't be said whole. A reply is
+/// begun only once its command's change is committed and synced.
+pub fn serve_line<S: Station>(
+    store: &mut Store,
+    station: &mut S,
+    line: &[u8],
+) -> Result<(), ServeFault>
+    requires open { store.old.closed ≡ false }
+    requires store { EachHeld (Stands store.old) (S.view station.old) }
+    requires nothing { NothingPending (S.view station.old) }
+    requires reach { file_length store.old.place.layout ≤ (S.view station.old).fixed.reach }
+    ensures run { Run (AnswerPair 0 (state_in (S.view station.old).held) (command_of line.now) (S.view station.old).said) (S.view station.old) (S.view station.new) }
+    ensures pair { Told (S.view station.old) → SaidTold (S.view station.old) → AnswerPair 0 (state_in (S.view station.old).held) (command_of line.now) (S.view station.old).said (S.view station.new).held (S.view station.new).said }
+    ensures state { OnOk result (Told (S.view station.old) → state_in (S.view station.new).held ≡ step 0 (state_in (S.view station.old).held) (command_of line.now)) }
+    ensures store { OnOk result (EachHeld (Stands store.new) (S.view station.new)) }
+    ensures settled { OnOk result (NothingPending (S.view station.new)) }
+    ensures replied { OnOk result (Told (S.view station.old) → SaidTold (S.view station.old) → (S.view station.new).said ≡ (S.view station.old).said ++ reply_of 0 (state_in (S.view station.old).held) (command_of line.now)) }
+    ensures place { store.new.place ≡ store.old.place }
+    ensures open { OnOk result (store.new.closed ≡ false) }
+    ensures closed { IfErr result (λ fault. store.new.closed ≡ is_of_store fault) }
+    ensures disk { IsErrOf result ServeFault.Disk → Rose (S.view station.old).disk_faults (S.view station.new).disk_faults }
+    ensures reply { IsErrOf result ServeFault.Reply → Rose (S.view station.old).say_faults (S.view station.new).say_faults }
+    ensures told { IfErr result (λ fault. Told (S.view station.old) → IsLineFault fault) }
+    ensures never { IfErr result IsNoScriptFault }
+{
+    answer(store, station, &parse_line(line))
+}
+
+/// Answers a line of this kind that the reader gave, and now shows.
+pub(crate) fn serve_given<S: Station>(
+    store: &mut Store,
+    station: &mut S,
+    given: Given,
+    line: &[u8],
+) -> Result<(), ServeFault>
+    requires open { store.old.closed ≡ false }
+    requires store { EachHeld (Stands store.old) (S.view station.old) }
+    requires nothing { NothingPending (S.view station.old) }
+    requires reach { file_length store.old.place.layout ≤ (S.view station.old).fixed.reach }
+    ensures run { Run (AnswerPair 0 (state_in (S.view station.old).held) (given_command given line.now) (S.view station.old).said) (S.view station.old) (S.view station.new) }
+    ensures pair { Told (S.view station.old) → SaidTold (S.view station.old) → AnswerPair 0 (state_in (S.view station.old).held) (given_command given line.now) (S.view station.old).said (S.view station.new).held (S.view station.new).said }
+    ensures state { OnOk result (Told (S.view station.old) → state_in (S.view station.new).held ≡ step 0 (state_in (S.view station.old).held) (given_command given line.now)) }
+    ensures store { OnOk result (EachHeld (Stands store.new) (S.view station.new)) }
+    ensures settled { OnOk result (NothingPending (S.view station.new)) }
+    ensures replied { OnOk result (Told (S.view station.old) → SaidTold (S.view station.old) → (S.view station.new).said ≡ (S.view station.old).said ++ reply_of 0 (state_in (S.view station.old).held) (given_command given line.now)) }
+    ensures place { store.new.place ≡ store.old.place }
+    ensures open { OnOk result (store.new.closed ≡ false) }
+    ensures closed { IfErr result (λ fault. store.new.closed ≡ is_of_store fault) }
+    ensures disk { IsErrOf result ServeFault.Disk → Rose (S.view station.old).disk_faults (S.view station.new).disk_faults }
+    ensures reply { IsErrOf result ServeFault.Reply → Rose (S.view station.old).say_faults (S.view station.new).say_faults }
+    ensures told { IfErr result (λ fault. Told (S.view station.old) → IsLineFault fault) }
+    ensures never { IfErr result IsNoScriptFault }
+{
+    match given {
+        Given::Line => serve_line(store, station, line),
+        Given::Long => answer(store, station, &Command::Bad(Why::Line)),
+    }
+}

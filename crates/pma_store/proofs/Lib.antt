@@ -1,0 +1,3 @@
+mod EditLaws
+mod Opening
+mod Storing
