@@ -19,8 +19,8 @@ use Rattle.header_gate.specs.Recovered.{IsBatch, recovered, laid_over, table_num
 use Rattle.map_model.specs.Store.{Map}
 use Rattle.map_model.specs.Image.{Represents, RepresentsMap, array_in, live_segment, map_of, height_of}
 use Rattle.map_model.specs.Batches.{KeepsHeader, LaysBatch}
-use Rattle.map_model.proofs.Headers.{segment_is, even_segment}
-use Rattle.map_model.proofs.Recovering.{kept, determined, represents_own, segment_one, entries_one}
+use Rattle.map_model.proofs.Headers.{segment_read}
+use Rattle.map_model.proofs.Recovering.{array_one, kept, determined, represents_own, segment_one, entries_one}
 use Rattle.map_model.proofs.Batches.{only_first, batch_header, updated_one}
 use Rattle.redo_journal.specs.declared.place.Place.{Place}
 use Rattle.redo_journal.specs.Commit.{IsAt, Commits, frame_byte}
@@ -30,11 +30,6 @@ use Rattle.density_rule.specs.Updates.{counts_after}
 use Rattle.window_tally.specs.View.{TallyView, IsTally}
 use Rattle.pma_store.specs.Store.{Becomes}
 use Rattle.pma_store.specs.Rewrites.{HasFrame, Rewrites, HoldsRows}
-
--- the array of height 0
-array_one : (image : List ℕ) → array_in image 0 ≡ segment_of (live_segment image 0) ∷ []
-unfolding array_in
-array_one image = refl
 
 -- What a store that stands for a file knows of it.
 
@@ -54,11 +49,8 @@ module _ (place : Place) (tally : TallyView) (image : List ℕ) (flat : place.la
   -- what is read of it is the segment of the map's records
   pub segment_held : IsSegment (entries (map_of image)) (segment_in place.layout image 0)
   segment_held =
-      let l = layout_in image in
       let same : live_segment image 0 ≡ segment_in place.layout image 0 =
-      even_segment image own_map.header stands.gate_even 0 (pow_pos l.hmax)
-      ∙ sym (segment_is l image (live_copy image) 0 refl)
-      ∙ ap (λ (x : Layout). segment_in x image 0) stands.agrees.layout_is in
+      sym (segment_read image own_map.header stands.gate_even 0 (pow_pos (layout_in image).hmax)) ∙ ap (λ (l : Layout). segment_in l image 0) stands.agrees.layout_is in
       subst (IsSegment (entries (map_of image))) same (segment_one image (map_of image) own_map)
 
   -- and there are as many as the tally keeps

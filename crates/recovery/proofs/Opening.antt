@@ -17,8 +17,9 @@ use Rattle.header_gate.proofs.Soundness.{none_of_sound}
 use Rattle.map_model.specs.Image.{Represents, array_in, live_segment, map_of, height_of}
 use Rattle.map_model.specs.Reasons.{reason_of, slot_reason}
 use Rattle.map_model.specs.Batches.{KeepsHeader}
-use Rattle.map_model.proofs.Headers.{segment_is, even_segment, same_segments}
-use Rattle.map_model.proofs.Recovering.{kept, same_header, represents_own}
+use Rattle.map_model.proofs.Headers.{segment_read, same_segments}
+use Rattle.std.proofs.lemmas.Nat.{pow_pos}
+use Rattle.map_model.proofs.Recovering.{array_one, kept, same_header, represents_own}
 use Rattle.map_model.proofs.Reasonings.{represents_of_none}
 use Rattle.redo_journal.specs.declared.place.Place.{Place}
 use Rattle.redo_journal.specs.Commit.{IsAt, Replays, IsRegionPlace}
@@ -31,15 +32,6 @@ use Rattle.window_tally.specs.View.{TallyView, empty_tally}
 -- a layout and a region
 abbrev pub place_of : Layout → ℕ → Place
 place_of layout region = record { layout = layout; region = region }
-
-power_above : (n : ℕ) → 0 < 2 ^ n
-power_above zero = omega arith
-power_above (suc n) = omega (arith, power_above n)
-
--- the array of height 0
-array_one : (image : List ℕ) → array_in image 0 ≡ segment_of (live_segment image 0) ∷ []
-unfolding array_in
-array_one image = refl
 
 -- nothing is changed
 pub restores_same : (old new : List ℕ) → new ≡ old → Restores old new
@@ -97,9 +89,8 @@ module _ (place : Place) (height : ℕ) (odd : Bool) (old : List ℕ) (header : 
     -- what is read of the file is the segment
     pub segment_restored : gate new ≡ 0 → segment_in place.layout new 0 ≡ live_segment old 0
     segment_restored even =
-        segment_is place.layout new (live_copy new) 0 refl
-        ∙ ap (λ (l : Layout). slice_range new (segment_place l (live_copy new) 0) (segment_place l (live_copy new) 0 + segment_size)) (sym (keeps.layout_is ∙ header.layout_is))
-        ∙ sym (even_segment new keeps.sound even 0 (power_above (layout_in new).hmax))
+        ap (λ (l : Layout). segment_in l new 0) (sym (keeps.layout_is ∙ header.layout_is))
+        ∙ segment_read new keeps.sound even 0 (pow_pos (layout_in new).hmax)
         ∙ same_segments old new keeps.layout_is restores.recovers 0
 
     pub no_reason : journal_reason place.layout height old ≡ None → gate new ≡ 0 → IsSegment (segment_of (segment_in place.layout new 0)) (segment_in place.layout new 0) → reason_of old ≡ None

@@ -3,17 +3,12 @@ use Rattle.std.proofs.Common.{◌≡◌, inl, inr, ℕ, zero, suc, [], ◌∷◌
 use Rattle.std.proofs.lemmas.Bool.{cases_eq}
 use Rattle.station.specs.Bytes.{byte, InRange, Written}
 use Rattle.header_gate.specs.declared.layout.Layout.{Layout}
-use Rattle.header_gate.specs.Places.{segment_size, region_place, segment_place, file_length}
+use Rattle.header_gate.specs.Places.{segment_size, region_place, file_length}
 use Rattle.header_gate.specs.Recovered.{Ascends}
 use Rattle.header_gate.proofs.Recoveries.{IsOutside}
+use Rattle.header_gate.proofs.RecoveredSegments.{segment_within}
 use Rattle.redo_journal.specs.Commit.{IsNamed}
 use Rattle.redo_journal.specs.Applying.{IsPlaced}
-
--- a segment lies within the file
-pub segment_fits : (l : Layout) (region n : ℕ) → region < 2 → n < 2 ^ l.hmax → segment_place l region n + segment_size ≤ file_length l
-segment_fits l zero n small below = omega arith
-segment_fits l (suc zero) n small below = omega arith
-segment_fits l (suc (suc r)) n small below = absurd (omega arith)
 
 -- one segment more holds its image
 pub placed_more : (region : ℕ) (numbers images image old new : List ℕ) (k number : ℕ) → Ascends numbers → k < length numbers → number ≡ get_or numbers k 0 → image ≡ take segment_size (drop (segment_size * k) images) → length image ≡ segment_size
@@ -51,7 +46,7 @@ named_behind region p (n ∷ numbers) (inr named) = named_behind region p number
 -- and within the file
 pub named_within : (l : Layout) (region p : ℕ) (numbers : List ℕ) → region < 2 → ((k : ℕ) → k < length numbers → get_or numbers k 0 < 2 ^ l.hmax) → IsNamed (region_place l region) numbers p → p < file_length l
 named_within l region p [] small below named = absurd named
-named_within l region p (n ∷ numbers) small below (inl r) = omega (arith, r.1, segment_fits l region n small (below 0 (omega arith)))
+named_within l region p (n ∷ numbers) small below (inl r) = omega (arith, r.1, segment_within l region n small (below 0 (omega arith)))
 named_within l region p (n ∷ numbers) small below (inr named) = named_within l region p numbers small (λ k lt. below (suc k) (omega arith)) named
 
 -- no named segment holds the place
