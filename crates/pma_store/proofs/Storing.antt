@@ -87,7 +87,7 @@ module _ (place : Place) (slots : List (List ℕ)) (rows : List Record) (start i
   journal_of : IsSoundHeader start → (gate image ≡ 1 → table_numbers image ≡ 0 ∷ []) → gate image ≡ 1 → IsBatch (layout_in start).journal (2 ^ 0) (table_numbers image)
   journal_of sound table odd = subst (IsBatch (layout_in start).journal (2 ^ 0)) (sym (table odd)) (record {
     least_is = omega arith;
-    most_is = omega (arith, sound.journal);
+    most_is = omega (arith, sound.layout.least);
     ascends = λ i j lt below. absurd (omega (arith, lt, below));
     below = λ k d lt. let first : k ≡ 0 = omega (arith, lt) in subst (λ (j : ℕ). get_or (0 ∷ []) j d < 2 ^ 0) (sym first) (omega arith);
   })

@@ -6,7 +6,7 @@ ghost use Rattle.station.specs.Bytes.{Same};
 ghost use Rattle.station.specs.View.{Told, EachHeld, NothingPending, Rose, after_read};
 ghost use Rattle.station.specs.Steps.{Steps};
 ghost use Rattle.header_gate.specs.Places.{file_length, segment_place, segment_size};
-ghost use Rattle.header_gate.specs.declared.layout.TheConstants.{TALLEST};
+ghost use Rattle.recovery.specs.declared.open.TheConstants.{TALLEST};
 ghost use Rattle.density_rule.specs.Windows.{count_in};
 ghost use Rattle.window_tally.specs.View.{IsTally};
 ghost use Rattle.map_model.specs.Store.{bind, unbind, map_after};
