@@ -4,6 +4,7 @@ pub mod Steps
 pub mod Memory
 pub mod CallLog
 pub mod MemStation
+pub mod SureStation
 pub mod Crashes
 pub mod CrashImage
 pub mod CrashLaws

@@ -14,6 +14,7 @@ mod mem_station;
 mod memory;
 mod note;
 mod station;
+mod sure_station;
 mod tally;
 mod travel;
 
@@ -23,7 +24,5 @@ pub use durable::write_synced;
 pub use laws::crashes_change_what_is_pending;
 pub use mem_station::MemStation;
 pub use station::{Failed, SayFailed, Station};
+pub use sure_station::SureStation;
 pub use travel::Travel;
-
-#[cfg(test)]
-mod tests;
