@@ -6,6 +6,7 @@ ghost use Rattle.station.specs.View.{Told, EachHeld, NothingPending, Rose};
 ghost use Rattle.station.specs.Steps.{Steps};
 ghost use Rattle.header_gate.specs.Places.{file_length};
 ghost use Rattle.header_gate.specs.Header.{gate, layout_in};
+ghost use Rattle.header_gate.specs.Reasons.{header_reason};
 ghost use Rattle.density_rule.specs.Marks.{no_marks};
 ghost use Rattle.map_model.specs.Store.{Map};
 ghost use Rattle.map_model.specs.Image.{Represents, map_of};
@@ -49,8 +50,10 @@ impl Store {
     /// the records.
     ///
     /// `NotStore` comes exactly where the file represents no map, and names the first reason, or where its height limit is
-    /// above 0, the greatest that is opened today; a file that it refuses by its header or its journal is as before, and one
-    /// that it refuses later recovers to what it recovered to. `Memory` is want of memory; nothing is written then. It may be stopped or refused and called again any number of times.
+    /// above 0, the greatest that is opened today; a file that it refuses by its header or its journal is as before, and
+    /// one that it refuses later recovers to what it recovered to. `Memory` is want of memory; it comes behind the sync and
+    /// a sound header, with no disk call failed, and nothing is written then. It may be stopped or refused and called again
+    /// any number of times.
     pub fn open_on<S: Station>(alloc: Global, station: &mut S) -> Result<Store, OpenFault>
         ensures store { IfOk result (λ store. EachHeld (Stands store) (S.view station.new)) }
         ensures fits { IfOk result (λ store. IsStore store × (file_length store.place.layout ≤ (S.view station.old).fixed.reach)) }
@@ -65,6 +68,7 @@ impl Store {
         ensures unwritten { Told (S.view station.old) → gate (S.view station.old).held ≡ 0 → (S.view station.new).travel.written ≡ (S.view station.old).travel.written }
         ensures early { IfErr result (λ e. (r : Reason) → e ≡ OpenFault.NotStore r → IsEarly r → Steps Same (S.view station.old) (S.view station.new)) }
         ensures memory { IsErrOf result OpenFault.Memory → Steps Same (S.view station.old) (S.view station.new) }
+        ensures memory_last { IsErrOf result OpenFault.Memory → NothingPending (S.view station.new) × (Told (S.view station.old) → header_reason (S.view station.old).held ≡ None) }
         ensures undamaged { IfErr result IsNoDamage }
         ensures failed { IsErrOf result OpenFault.Failed → Rose (S.view station.old).disk_faults (S.view station.new).disk_faults }
         // It opens again what represents a map in one segment, and keeps it.
