@@ -59,7 +59,7 @@ drop_at (y ∷ xs) (suc n) x is = drop_at xs n x is ∙ ap (λ (k : ℕ). x ∷ 
 
 -- The records of segments.
 
-rows-append : (a b : Array) → rows (a ++ b) ≡ rows a ++ rows b
+pub rows-append : (a b : Array) → rows (a ++ b) ≡ rows a ++ rows b
 rows-append a b = flat_map-append (λ s. s) a b
 
 -- those from one segment on are its own and those behind it

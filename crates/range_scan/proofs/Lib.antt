@@ -7,6 +7,7 @@ pub mod Inside
 pub mod Onward
 pub mod Giving
 pub mod Going
+pub mod Needed
 pub mod Checks
 pub mod Beginning
 pub mod Vectors

@@ -40,6 +40,10 @@ pub record IsSweeping (s : SweepView) (image : List ℕ) : Type 0 where
   pub stands : StandsBalanced s.reader.layout s.reader.region s.tally.height s.tally.counts image
   pub amid : IsAmid s (entries (map_of image))
 
+-- the records of the segments from one number to below another
+abbrev pub between : ℕ → ℕ → Array → List Record
+between from to segments = rows (take (to - from) (drop from segments))
+
 -- every record that isn't below a bound stands in segment `first` or later
 abbrev pub StartsBy : Option Bytes → ℕ → Array → Type 0
 StartsBy low first segments = T (are_before low (rows (take first segments)))

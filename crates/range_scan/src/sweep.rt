@@ -10,6 +10,7 @@ ghost use Rattle.header_gate.specs.Places.{IsLayout, file_length};
 ghost use Rattle.key_slot.specs.Record.{IsAscending};
 ghost use Rattle.key_slot.specs.Row.{record_of};
 ghost use Rattle.map_model.specs.Image.{map_of, array_in};
+ghost use Rattle.map_model.specs.Array.{cut, segment_at};
 ghost use Rattle.map_model.specs.Scan.{is_below, scanned};
 ghost use Rattle.map_model.specs.Standing.{StandsBalanced};
 ghost use Rattle.range_scan.specs.Bounds.{are_from, are_before, begins_below, is_void};
@@ -75,7 +76,7 @@ impl<'a> Model for Sweep<'a> {
 
 impl<'a> Sweep<'a> {
     ghost use Rattle.range_scan.specs.SweepView.{IsSweep, GoesOn};
-    ghost use Rattle.range_scan.specs.Sweeping.{IsSweeping, BeginsThere, StartsBy, ahead};
+    ghost use Rattle.range_scan.specs.Sweeping.{IsSweeping, BeginsThere, StartsBy, first_for, ahead, between};
     ghost use Rattle.range_scan.specs.Reading.{behind};
     ghost use Rattle.range_scan.specs.Faults.{IsDamageAt};
     ghost use Rattle.range_scan.specs.Walk.{after_walk};
@@ -108,6 +109,7 @@ impl<'a> Sweep<'a> {
         } }
         ensures is_sweep { IsSweep result }
         ensures sweeping { (image : List ℕ) → StandsBalanced layout region tally.now.height tally.now.counts image → StartsBy low first (array_in image tally.now.height) → IsSweeping result image }
+        ensures begins { (image : List ℕ) → StandsBalanced layout region tally.now.height tally.now.counts image → first ≡ first_for low (array_in image tally.now.height) → BeginsThere result (entries (map_of image)) }
     {
         Sweep {
             reader: RegionReader::new(layout, region, first, segment_count(tally)),
@@ -142,7 +144,9 @@ impl<'a> Sweep<'a> {
         ensures failed { IsErrOf result StoreFault.Failed → Rose (S.view station.old).disk_faults (S.view station.new).disk_faults }
         ensures steps { Steps Same (S.view station.old) (S.view station.new) }
         ensures reads { (S.view station.new).travel ≡ after_walk self.old.reader.layout self.old.reader.region self.old.reader.next self.new.reader.next (S.view station.old).travel }
-        // It reads no more than it needs: at most two segments besides one for each four records that it answered.
+        // It reads another segment only where those before it have no record that isn't below the lower bound.
+        ensures needed { Told (S.view station.old) → T (are_before self.old.low (between self.old.reader.next (self.new.reader.next - 1) (cut self.old.tally.counts (entries (map_of (S.view station.old).held))))) }
+        // Where the scan begins in its first segment, it reads at most two besides one for each four records that it answered.
         ensures few { Told (S.view station.old) → BeginsThere self.old (entries (map_of (S.view station.old).held)) → self.new.reader.next - self.old.first ≤ self.new.given / 4 + 2 }
         ensures idle { 0 < length self.old.kept → self.new.reader ≡ self.old.reader }
         ensures at_limit { self.old.given ≡ self.old.limit → self.new ≡ self.old }
@@ -173,6 +177,7 @@ impl<'a> Sweep<'a> {
         ensures failed { IsErrOf result StoreFault.Failed → Rose (S.view station.old).disk_faults (S.view station.new).disk_faults }
         ensures steps { Steps Same (S.view station.old) (S.view station.new) }
         ensures reads { (S.view station.new).travel ≡ after_walk self.old.reader.layout self.old.reader.region self.old.reader.next self.new.reader.next (S.view station.old).travel }
+        ensures needed { Told (S.view station.old) → T (are_before self.old.low (between self.old.reader.next (self.new.reader.next - 1) (cut self.old.tally.counts (entries (map_of (S.view station.old).held))))) }
         ensures few { Told (S.view station.old) → BeginsThere self.old (entries (map_of (S.view station.old).held)) → self.new.reader.next - self.old.first ≤ self.new.given / 4 + 2 }
         ensures idle { 0 < length self.old.kept → self.new ≡ self.old }
         ensures void { is_void self.old.low self.old.high ≡ true → self.new.reader ≡ self.old.reader }
@@ -201,6 +206,8 @@ impl<'a> Sweep<'a> {
         requires sweeping { Told (S.view station.old) → IsSweeping self.old (S.view station.old).held }
         requires reach { file_length self.old.reader.layout ≤ (S.view station.old).fixed.reach }
         ensures more { IfOk result (λ more. more ≡ true → self.new.reader.next ≡ self.old.reader.next + 1) }
+        ensures step { self.new.reader.next ≤ self.old.reader.next + 1 }
+        ensures all_below { IfOk result (λ more. more ≡ true → Told (S.view station.old) → self.new.kept ≡ [] → T (are_before self.old.low (segment_at (cut self.old.tally.counts (entries (map_of (S.view station.old).held))) self.old.reader.next))) }
         ensures no_more { IfOk result (λ more. more ≡ false → self.new ≡ self.old) }
         ensures used_up { IfOk result (λ more. more ≡ false → Told (S.view station.old) → scanned self.new.low self.new.high (self.new.limit - self.new.given) (ahead self.new (entries (map_of (S.view station.old).held))) ≡ []) }
         ensures given { self.new.given ≡ self.old.given }

@@ -1,13 +1,15 @@
-use Rattle.std.proofs.Common.{sym, ap, subst, ◌∙◌, refl, arith, List, [], false, None}
+use Rattle.std.proofs.Common.{ℕ, ◌+◌, ◌<◌, T, length, drop, sym, ap, subst, ◌∙◌, refl, arith, List, [], false, None}
 use Rattle.std.specs.FinMap.{entries, entries_sorted}
 use Rattle.std.proofs.Math.Pow.{pow_mono}
-use Rattle.key_slot.specs.Record.{Record}
-use Rattle.map_model.specs.Array.{rows}
-use Rattle.map_model.specs.Image.{map_of}
+use Rattle.key_slot.specs.Record.{Record, IsAscending}
+use Rattle.map_model.specs.Array.{Array, rows}
+use Rattle.map_model.specs.Image.{array_in, map_of}
+use Rattle.range_scan.specs.Bounds.{are_from}
 use Rattle.range_scan.specs.ReaderView.{ReaderView}
 use Rattle.range_scan.specs.SweepView.{SweepView}
 use Rattle.range_scan.specs.Sweeping.{StartsBy, IsSweeping}
-use Rattle.range_scan.proofs.Standing.{own, cut_is}
+use Rattle.range_scan.proofs.Standing.{own, array_size, cut_is}
+use Rattle.range_scan.proofs.Beginning.{begins_behind}
 use Rattle.range_scan.proofs.Amid.{amid_start}
 use Rattle.range_scan.proofs.sweep.Sweep.over.Goals as goal
 use Rattle.range_scan.proofs.sweep.Sweep.over.Goals.{After-empty}
@@ -33,3 +35,12 @@ returns-clause-sweeping c image stands starts =
     } in
     let by_reader = subst (λ (reader : ReaderView). IsSweeping (made here reader []) image) (sym c.new.ensures.reader) is in
     subst (λ (kept : List Record). IsSweeping (made here c.new.result kept) image) (sym c.empty.ensures) by_reader
+
+pub returns-clause-begins : goal.returns-clause-begins
+returns-clause-begins c image stands first_is =
+    let a = c.args in
+    let segments = array_in image a.tally.now.height in
+    let some : 0 < length segments = omega (arith, array_size a.layout a.region a.tally.now.height a.tally.now.counts image stands.stands, c.requires.first) in
+    let ascending = subst IsAscending (sym (own a.layout a.region a.tally.now.height a.tally.now.counts image stands.stands).rows_are) (entries_sorted (map_of image)) in
+    let behind = subst (λ (n : ℕ). T (are_from a.low (rows (drop (n + 1) segments)))) (sym first_is) (begins_behind a.low segments some ascending) in
+    subst (λ (s : Array). T (are_from a.low (rows (drop (a.first + 1) s)))) (sym (cut_is a.layout a.region a.tally.now.height a.tally.now.counts image stands.stands)) behind

@@ -1,13 +1,15 @@
-use Rattle.std.proofs.Common.{◌<◌, ◌-◌, List, drop, sym, ap, subst, ◌∙◌, arith}
+use Rattle.std.proofs.Common.{T, get_or, ◌<◌, ◌-◌, List, [], drop, sym, ap, subst, ◌∙◌, arith}
 use Rattle.std.specs.FinMap.{entries}
 use Rattle.station.proofs.Composition.{told_back}
 use Rattle.key_slot.specs.Record.{Record}
 use Rattle.map_model.specs.Image.{map_of}
+use Rattle.map_model.specs.Array.{cut}
 use Rattle.map_model.specs.Scan.{scanned}
+use Rattle.range_scan.specs.Bounds.{are_before}
 use Rattle.range_scan.specs.ReaderView.{ReaderView}
 use Rattle.range_scan.specs.SweepView.{SweepView}
 use Rattle.range_scan.specs.Sweeping.{IsSweeping, ahead}
-use Rattle.range_scan.proofs.Onward.{few, few_next, next_fine, next_count, void_used, end_used, sweeping_read}
+use Rattle.range_scan.proofs.Onward.{few, few_next, next_fine, next_count, void_used, end_used, sweeping_read, all_before}
 use Rattle.range_scan.proofs.sweep.Sweep.read_on.Goals as goal
 use Rattle.range_scan.proofs.sweep.Sweep.read_on.Goals.{After-start_in-self-inside, In-Ok-false}
 
@@ -81,3 +83,12 @@ returns-in-Err-clause-few g c told begins =
     let lt : c.args.self.now.reader.next < c.args.self.now.reader.end = omega (arith, c.next_counted.ensures.is_reader.within, step, c.in-Err.ensures.after_fault.end_is, next, end) in
     let bound = few_next c.args.self.now (g.S.Station.view c.args.station.now).held c.has_no_room.ensures.is_sweep (c.requires.sweeping told) c.requires.none lt begins in
     omega (arith, bound, step, next, ap (λ (s : SweepView). s.given) c.self.view_is)
+
+pub returns-in-Ok-true-clause-all_below : goal.returns-in-Ok-true-clause-all_below
+returns-in-Ok-true-clause-all_below g c _ told none =
+    let held = (g.S.Station.view c.args.station.now).held in
+    let after = rw c.in-Ok-true.field-0-test at c.in-Ok-true.ensures.after in
+    let lt : c.self.inside.reader.next < c.self.inside.reader.end = omega (arith, c.next_counted.ensures.is_reader.within, ap (λ (r : ReaderView). r.next) after, ap (λ (r : ReaderView). r.end) after) in
+    let below = all_before _ held c.self.invariant.1 (subst (λ (s : SweepView). IsSweeping s held) (sym c.self.view_is) (c.requires.sweeping told))
+    c.next_counted.new.rows c.start_in-self-inside.result lt (c.in-Ok-true.ensures.segment c.in-Ok-true.field-0-test told) c.start_in-self-inside.ensures.below none in
+    subst (λ (s : SweepView). T (are_before s.low (get_or (cut s.tally.counts (entries (map_of held))) s.reader.next []))) c.self.view_is below
