@@ -2,8 +2,11 @@
 
 ghost use Rattle.std.specs.Prelude.{◌≡◌, ◌^◌, ◌≤◌};
 
-/// The greatest height limit that is opened.
-pub const TALLEST: u32 = 0;
+/// The greatest height limit that a file may have.
+pub const GREATEST_HEIGHT: u32 = 16;
+
+/// The fewest segments that a journal may hold.
+pub(crate) const LEAST_JOURNAL: u32 = 4;
 
 /// The place of the selector, a byte whose low bit names the live copy and the live region.
 pub(crate) const SELECTOR: u64 = 0;

@@ -9,7 +9,7 @@ use Rattle.line_source.specs.Progress.{BeginsWith, HasGiven, IsLineOf, GivesOne,
 use Rattle.line_source.specs.declared.reader.LineStep.{LineStep}
 use Rattle.line_source.specs.declared.reader.LineStep.TheVariants.{Line, LongLine, End, ReadFailed, Spent}
 use Rattle.line_source.proofs.LineLaws.{complete_lines-line, complete_lines-part}
-use Rattle.line_source.proofs.Reading.{went_on}
+use Rattle.line_source.proofs.Reading.{went_on, took_none, took_on}
 
 true_false : true ≡ false → ⊥
 true_false e = cc
@@ -36,6 +36,7 @@ given-none r s fresh = record {
   lines = λ _. refl;
   begins = λ _ _. record { front = []; is = refl; complete = λ tail. refl };
   taken = λ _. refl;
+  front = λ _. took_none s;
   met = λ _ e f. absurd (true_false (sym f ∙ e));
 }
 
@@ -76,14 +77,14 @@ module _ (r0 : ReaderView) (s0 : SourceView) (given : List (List ℕ)) (r : Read
   taken_now told = omega (arith, here.taken told, (takes (told_here told)).count)
 
   -- the end is met with fewer bytes than may be taken
-  met_now : Told s0 → r0.ended ≡ false → r1.ended ≡ true → length s0.left < r0.room
+  met_now : Told s0 → r0.ended ≡ false → r1.ended ≡ true → (s1.left ≡ []) × (length s0.left < r0.room)
   met_now told more ended = by r.ended refl
     where
-      by : (b : Bool) → r.ended ≡ b → length s0.left < r0.room
-      by true e = here.met told more e
+      by : (b : Bool) → r.ended ≡ b → (s1.left ≡ []) × (length s0.left < r0.room)
+      by true e = let met = here.met told more e in (ap (λ (x : SourceView). x.left) (stays e).1 ∙ met.0, met.1)
       by false e =
           let end = (takes (told_here told)).end e ended in
-          omega (arith, taken_now told, ap length end.0, end.1)
+          (end.0, omega (arith, taken_now told, ap length end.0, end.1))
 
   -- a line was given
   pub given-more : is_last step ≡ false → r1.done ≡ is_last step → r1.room ≤ r.room → Went s s1 → GivesOne r0 s0 given step r1 s1
@@ -100,6 +101,7 @@ module _ (r0 : ReaderView) (s0 : SourceView) (given : List (List ℕ)) (r : Read
           lines = λ told. here.lines told ∙ ap (λ (l : List (List ℕ)). given ++ l) (found.1 (told_here told)).next.lines ∙ sym (append_assoc given (found.0 ∷ []) (raw_lines (rest r1 s1)));
           begins = λ told more. by_split found.0 (found.1 (told_here told)).next told more;
           taken = taken_now;
+          front = λ told. took_on s0 s s1 (here.front told) (takes (told_here told)).front;
           met = met_now;
         };
       }

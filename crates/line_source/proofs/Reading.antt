@@ -3,7 +3,7 @@ use Rattle.std.proofs.Common.{◌≡◌, ◌≢◌, ℕ, zero, suc, ◌+◌, ◌
 use Rattle.std.proofs.lemmas.List.{append-nil, take_at}
 use Rattle.std.proofs.lemmas.List.Elements.{All-append, All-nil}
 use Rattle.line_source.specs.Lines.{NoFeed, line_limit}
-use Rattle.line_source.specs.SourceView.{SourceView, Told, Went}
+use Rattle.line_source.specs.SourceView.{SourceView, Told, TookFront, Went}
 use Rattle.line_source.specs.ReaderView.{ReaderView, rest, IsFirstFeed}
 use Rattle.line_source.specs.LineStep.{IsCut}
 use Rattle.line_source.specs.Filling.{IsPiece, a_piece, no_piece, HasTaken, IsKept, LetsGo, drops, keeps}
@@ -19,6 +19,7 @@ pub record Reading (r0 : ReaderView) (s0 : SourceView) (long : Bool) (r : Reader
   pub went : Went s0 s
   pub room : r.room ≤ r0.room
   pub taken : Told s0 → length s0.left + r.room ≡ length s.left + r0.room
+  pub front : Told s0 → TookFront s0 s
   pub total : r0.room + length r0.held ≡ length dropped + (r.room + length r.held)
   pub idle : (at : ℕ) → IsFirstFeed r0.held at → (s ≡ s0) × (r.held ≡ r0.held)
   pub ended : r0.ended ≡ true → (s ≡ s0) × (r.ended ≡ true)
@@ -51,6 +52,18 @@ rest-ended r s e = ap (λ b. cond b r.held (r.held ++ s.left)) e
 pub went_on : (a b c : SourceView) → Went a b → Went b c → Went a c
 went_on a b c p q = record { tells = q.tells ∙ p.tells; faults = omega (arith, p.faults, q.faults) }
 
+-- nothing was taken
+pub took_none : (s : SourceView) → TookFront s s
+took_none s = record { front = []; is = refl }
+
+-- a front, and a front of the rest
+pub took_on : (a b c : SourceView) → TookFront a b → TookFront b c → TookFront a c
+took_on a b c p q = record { front = p.front ++ q.front; is = p.is ∙ ap (λ (l : List ℕ). p.front ++ l) q.is ∙ sym (append_assoc p.front q.front c.left) }
+
+-- a front, and then nothing more
+pub took_same : (a b c : SourceView) → TookFront a b → c.left ≡ b.left → TookFront a c
+took_same a b c p same = record { front = p.front; is = p.is ∙ ap (λ (l : List ℕ). p.front ++ l) (sym same) }
+
 reading_starts : (r : ReaderView) (s : SourceView) → r.done ≡ false → Reading r s false r s
 reading_starts r s fresh = record {
   dropped = [];
@@ -62,6 +75,7 @@ reading_starts r s fresh = record {
   went = record { tells = refl; faults = omega arith };
   room = omega arith;
   taken = λ _. refl;
+  front = λ _. took_none s;
   total = omega arith;
   idle = λ _ _. (refl, refl);
   ended = λ e. (refl, e);
@@ -101,6 +115,7 @@ module _ (r0 : ReaderView) (s0 : SourceView) (long : Bool) (r : ReaderView) (s :
           went = here.went;
           room = omega (arith, kept.room, here.room);
           taken = λ told. ap (λ (n : ℕ). length s0.left + n) kept.room ∙ here.taken told;
+          front = here.front;
           total = omega (arith, here.total, length-append here.dropped r.held, kept.room, ap length gone);
           idle = λ at feed. absurd (no_line at feed);
           ended = λ e. absurd (was_open e);
@@ -140,6 +155,7 @@ module _ (r0 : ReaderView) (s0 : SourceView) (long : Bool) (r : ReaderView) (s :
           went = went_on s0 s s1 here.went went;
           room = omega (arith, took.room, here.room);
           taken = λ told. omega (arith, here.taken told, took.room, ap length (took.left (told_here told)), length-append took.piece s1.left);
+          front = λ told. took_on s0 s s1 (here.front told) (record { front = took.piece; is = took.left (told_here told) });
           total = omega (arith, here.total, took.room, ap length took.held, length-append r.held took.piece);
           idle = λ at feed. absurd (no_line at feed);
           ended = λ e. absurd (was_open e);

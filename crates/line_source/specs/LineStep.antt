@@ -2,7 +2,7 @@
 use Rattle.std.specs.Prelude.{◌≡◌, ℕ, ◌+◌, ◌<◌, ◌≤◌, ◌⊎◌, Bool, true, false, List, [], ◌∷◌, ◌++◌, length, take}
 use Rattle.std.specs.Str.Lines.{strip_carriage_return}
 use Rattle.line_source.specs.Lines.{NoFeed, raw_lines, line_limit}
-use Rattle.line_source.specs.SourceView.{SourceView, Rose}
+use Rattle.line_source.specs.SourceView.{SourceView, TookFront, Rose}
 use Rattle.line_source.specs.ReaderView.{ReaderView, rest}
 use Rattle.line_source.specs.declared.reader.LineStep.{LineStep}
 use Rattle.line_source.specs.declared.reader.LineStep.TheVariants.{Line, LongLine, End, ReadFailed, Spent}
@@ -72,7 +72,9 @@ pub record IsExact (step : LineStep) (reader : ReaderView) (source : SourceView)
   pub only : step ≡ Spent → IsSpent reader source
   pub always : IsSpent reader source → (step ≡ Spent) ⊎ (step ≡ ReadFailed)
 
--- each byte taken lowers the room by one, and the end is seen only where nothing is left and there is room for more
+-- each byte taken lowers the room by one, what was taken is a front of what was left, and the end is seen only where
+-- nothing is left and there is room for more
 pub record Takes (old : ReaderView) (before : SourceView) (new : ReaderView) (after : SourceView) : Type 0 where
   pub count : length before.left + new.room ≡ length after.left + old.room
   pub end : old.ended ≡ false → new.ended ≡ true → (after.left ≡ []) × (0 < new.room)
+  pub front : TookFront before after

@@ -30,6 +30,10 @@ complete_lines script = without_last (slice_split (λ b. b == 10) script)
 abbrev pub line_limit : ℕ
 line_limit = 512
 
+-- the most bytes that a reader holds: the start of a line, and what it took ahead
+abbrev pub most_held : ℕ
+most_held = 4096
+
 -- whether a line as it stands in the script is long
 abbrev pub is_long : List ℕ → Bool
 is_long raw = nat_lt line_limit (length raw)

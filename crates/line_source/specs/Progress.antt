@@ -2,7 +2,7 @@
 use Rattle.std.specs.Prelude.{◌≡◌, ℕ, ◌+◌, ◌<◌, ◌≤◌, true, false, List, [], ◌∷◌, ◌++◌, length}
 use Rattle.std.specs.Str.Lines.{strip_carriage_return}
 use Rattle.line_source.specs.Lines.{raw_lines, complete_lines, line_limit}
-use Rattle.line_source.specs.SourceView.{SourceView, Told, Went}
+use Rattle.line_source.specs.SourceView.{SourceView, Told, TookFront, Went}
 use Rattle.line_source.specs.ReaderView.{ReaderView, rest}
 use Rattle.line_source.specs.declared.reader.LineStep.{LineStep}
 use Rattle.line_source.specs.declared.reader.LineStep.TheVariants.{Line, LongLine, End, ReadFailed, Spent}
@@ -22,7 +22,8 @@ pub record HasGiven (r0 : ReaderView) (s0 : SourceView) (given : List (List ℕ)
   pub lines : Told s0 → raw_lines (rest r0 s0) ≡ given ++ raw_lines (rest r s)
   pub begins : Told s0 → r.ended ≡ false → BeginsWith (rest r0 s0) (rest r s) given
   pub taken : Told s0 → length s0.left + r.room ≡ length s.left + r0.room
-  pub met : Told s0 → r0.ended ≡ false → r.ended ≡ true → length s0.left < r0.room
+  pub front : Told s0 → TookFront s0 s
+  pub met : Told s0 → r0.ended ≡ false → r.ended ≡ true → (s.left ≡ []) × (length s0.left < r0.room)
 
 -- `raw` is the line, as it stands in the script, that an answer speaks of; `line` is what the reader shows then
 abbrev pub IsLineOf : LineStep → List ℕ → List ℕ → Type 0
@@ -44,12 +45,12 @@ pub record IsCutShort (script left : List ℕ) (given : List (List ℕ)) : Type 
   pub is : script ≡ taken ++ left
   pub complete : complete_lines taken ≡ given
 
--- what a last answer says of all that was to be given, where the source tells it: at the end every line was given, and
--- fewer bytes were there than might have been taken; else the complete lines among the bytes taken were, and at `Spent`
+-- what a last answer says of all that was to be given, where the source tells it: at the end every line was given,
+-- nothing is left, and fewer bytes were there than might have been taken; else the complete lines among the bytes taken were, and at `Spent`
 -- these bytes are as many as might be taken
 abbrev pub GivesAll : LineStep → ReaderView → SourceView → List (List ℕ) → SourceView → Type 0
 GivesAll Line r0 s0 given s = ⊥
 GivesAll LongLine r0 s0 given s = ⊥
-GivesAll End r0 s0 given s = (raw_lines (rest r0 s0) ≡ given) × (r0.ended ≡ false → length s0.left < r0.room)
+GivesAll End r0 s0 given s = (raw_lines (rest r0 s0) ≡ given) × (r0.ended ≡ false → (s.left ≡ []) × (length s0.left < r0.room))
 GivesAll ReadFailed r0 s0 given s = IsCutShort (rest r0 s0) s.left given
 GivesAll Spent r0 s0 given s = IsCutShort (rest r0 s0) s.left given × (length s0.left ≡ length s.left + r0.room)

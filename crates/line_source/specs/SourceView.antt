@@ -1,5 +1,5 @@
 -- What a source means to those who read it.
-use Rattle.std.specs.Prelude.{◌≡◌, ℕ, ◌+◌, ◌-◌, ◌^◌, ◌≤◌, min, Bool, true, List}
+use Rattle.std.specs.Prelude.{◌≡◌, ℕ, ◌+◌, ◌-◌, ◌^◌, ◌≤◌, min, Bool, true, List, ◌++◌}
 
 pub record SourceView : Type 0 where
   -- whether the source tells what it has left
@@ -16,6 +16,11 @@ Told source = source.tells ≡ true
 pub record Went (old new : SourceView) : Type 0 where
   pub tells : new.tells ≡ old.tells
   pub faults : old.faults ≤ new.faults
+
+-- what was taken is a front of what was left
+pub record TookFront (old new : SourceView) : Type 0 where
+  pub front : List ℕ
+  pub is : old.left ≡ front ++ new.left
 
 -- one more; a count stands still at the last value of a `u64`
 abbrev pub one_more : ℕ → ℕ

@@ -2,7 +2,7 @@
 
 ghost use Rattle.std.specs.Prelude.{◌≡◌, ℕ, ◌<◌, ◌≤◌, ◌+◌, [], length, take, drop, OnOk, OnErr, false, true};
 ghost use Rattle.line_source.specs.SourceView.{Told, Went};
-ghost use Rattle.line_source.specs.Lines.{line_limit};
+ghost use Rattle.line_source.specs.Lines.{line_limit, most_held};
 ghost use Rattle.line_source.specs.ReaderView.{ReaderView, rest, IsFirstFeed};
 ghost use Rattle.line_source.specs.LineStep.{Gives, Means, is_last, IsExact, Takes};
 ghost use Rattle.line_source.specs.Filling.{HasTaken, HasFailed, IsKept, IsGiven, GivesLast, LetsGo};
@@ -106,6 +106,7 @@ impl LineReader {
         // On every source.
         ensures means { Means result self.new (I.view source.old) (I.view source.new) }
         ensures done { self.new.done ≡ is_last result }
+        ensures ahead { length self.new.held ≤ most_held }
         ensures falls { is_last result ≡ false
             → self.new.room + length self.new.held < self.old.room + length self.old.held }
         ensures room { self.new.room ≤ self.old.room }
@@ -148,6 +149,7 @@ impl LineReader {
         requires line { at ≤ behind }
         requires within { behind ≤ length self.old.held }
         ensures held { self.new.held ≡ drop behind self.old.held }
+        ensures ahead { length self.new.held ≤ most_held }
         ensures kept { IsKept self.old self.new }
         ensures line { IsGiven result long (take at self.old.held) self.new.line }
     {
@@ -170,6 +172,7 @@ impl LineReader {
     // Gives all that is held as the last line, or the end where there is none.
     fn give_last(&mut self, long: bool) -> LineStep
         ensures last { GivesLast result long self.old self.new }
+        ensures ahead { length self.new.held ≤ most_held }
     {
         let at = self.held().len();
         if at == 0 && !long {
@@ -181,6 +184,7 @@ impl LineReader {
     // Gives the last answer.
     fn stop(&mut self, step: LineStep) -> LineStep
         ensures step { result ≡ step }
+        ensures ahead { length self.new.held ≤ most_held }
         ensures stopped { self.new ≡ record self.old { line = []; done = true } }
     {
         self.line_start = 0;

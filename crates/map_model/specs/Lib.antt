@@ -1,4 +1,11 @@
 pub mod Store
+pub mod Array
+pub mod ArrayUpdates
+pub mod Holding
+pub mod Repairing
 pub mod Image
 pub mod Reasons
 pub mod Batches
+pub mod ArrayState
+pub mod Scan
+pub mod Standing

@@ -4,7 +4,7 @@ use Rattle.station.specs.View.{View, SaidTold}
 use Rattle.std.specs.FinMap.{empty}
 use Rattle.map_model.specs.Store.{Map, State}
 use Rattle.map_model.specs.Image.{RepresentsMap}
-use Rattle.header_gate.specs.declared.layout.TheConstants.{TALLEST}
+use Rattle.recovery.specs.declared.open.TheConstants.{TALLEST}
 use Rattle.command_text.specs.declared.command.Command.{Command}
 use Rattle.command_text.specs.Script.{complete_commands}
 use Rattle.pma_engine.specs.declared.status.TheConstants.{DONE, REFUSED, DISK_FAULT, SCRIPT_FAULT, REPLY_FAULT, OUT_OF_MEMORY, TOO_LONG}

@@ -10,6 +10,7 @@ ghost use Rattle.header_gate.specs.Recovered.{recovered};
 ghost use Rattle.header_gate.specs.EmptyStore.{IsEmptyStore, Anything};
 ghost use Rattle.line_source.specs.SourceView.{Told as SourceTold, Rose as SourceRose, Went};
 ghost use Rattle.map_model.specs.Store.{Map};
+ghost use Rattle.recovery.specs.declared.open.TheConstants.{TALLEST};
 ghost use Rattle.map_model.specs.Image.{Represents};
 ghost use Rattle.command_text.specs.Script.{commands_of};
 ghost use Rattle.pma_engine.specs.Words.{job_of, file_of, layout_of};
@@ -77,14 +78,14 @@ pub fn run_words<I: Source, S: Station>(
     ensures cut { job_of (map string_bytes words.now) ≡ Some Run → (result ≡ SCRIPT_FAULT) ⊎ (result ≡ TOO_LONG) → SourceTold (I.view source.old) → Told (S.view station.old) → (m : Map) (height : ℕ) → Represents (S.view station.old).held m height →
         IsAnsweredToCut m height (I.view source.old).left (I.view source.new).left (S.view station.old) (S.view station.new) }
     ensures run_settled { job_of (map string_bytes words.now) ≡ Some Run → IsRest result → NothingPending (S.view station.new) }
-    ensures run_refused { job_of (map string_bytes words.now) ≡ Some Run → result ≡ REFUSED → Told (S.view station.old) → (m : Map) (height : ℕ) → Represents (S.view station.old).held m height → ⊥ }
+    ensures run_refused { job_of (map string_bytes words.now) ≡ Some Run → result ≡ REFUSED → Told (S.view station.old) → (m : Map) (height : ℕ) → Represents (S.view station.old).held m height → (layout_in (S.view station.old).held).hmax ≤ TALLEST → ⊥ }
     ensures run_no_store { job_of (map string_bytes words.now) ≡ Some Run → Told (S.view station.old) → ((m : Map) (height : ℕ) → Represents (S.view station.old).held m height → ⊥) → (result ≡ REFUSED) ⊎ ((result ≡ DISK_FAULT) ⊎ (result ≡ OUT_OF_MEMORY)) }
     ensures run_untouched { job_of (map string_bytes words.now) ≡ Some Run → result ≡ REFUSED → Told (S.view station.old) → (recovered (layout_in (S.view station.old).held) (S.view station.new).held ≡ recovered (layout_in (S.view station.old).held) (S.view station.old).held) × ((S.view station.new).said ≡ (S.view station.old).said) }
     ensures run_even { job_of (map string_bytes words.now) ≡ Some Run → result ≡ REFUSED → Told (S.view station.old) → gate (S.view station.old).held ≡ 0 → (S.view station.new).held ≡ (S.view station.old).held }
     ensures memory { job_of (map string_bytes words.now) ≡ Some Run → result ≡ OUT_OF_MEMORY → Steps Same (attached_by false (S.view station.old)) (S.view station.new) }
     ensures too_long { job_of (map string_bytes words.now) ≡ Some Run → result ≡ TOO_LONG → SourceTold (I.view source.old) → length (I.view source.old).left ≡ length (I.view source.new).left + most }
     ensures whole { job_of (map string_bytes words.now) ≡ Some Run → result ≡ DONE → SourceTold (I.view source.old) → length (I.view source.old).left < most }
-    ensures complete { job_of (map string_bytes words.now) ≡ Some Run → SourceTold (I.view source.old) → Told (S.view station.old) → (m : Map) (height : ℕ) → Represents (S.view station.old).held m height →
+    ensures complete { job_of (map string_bytes words.now) ≡ Some Run → SourceTold (I.view source.old) → Told (S.view station.old) → (m : Map) (height : ℕ) → Represents (S.view station.old).held m height → (layout_in (S.view station.old).held).hmax ≤ TALLEST →
         length (I.view source.old).left < most → ¬ Rose (S.view station.old).disk_faults (S.view station.new).disk_faults → ¬ Rose (S.view station.old).say_faults (S.view station.new).say_faults → ¬ SourceRose (I.view source.old) (I.view source.new) → (result ≡ DONE) ⊎ (result ≡ OUT_OF_MEMORY) }
 
     // Causes.

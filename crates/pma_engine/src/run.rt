@@ -9,6 +9,7 @@ ghost use Rattle.header_gate.specs.Recovered.{recovered};
 ghost use Rattle.header_gate.specs.Places.{file_length};
 ghost use Rattle.line_source.specs.SourceView.{Told as SourceTold, Rose as SourceRose, Went};
 ghost use Rattle.map_model.specs.Store.{Map};
+ghost use Rattle.recovery.specs.declared.open.TheConstants.{TALLEST};
 ghost use Rattle.map_model.specs.Image.{Represents};
 ghost use Rattle.command_text.specs.Script.{commands_of};
 ghost use Rattle.pma_engine.specs.Outcome.{IsRest, IsRunStatus, RunHeadline, IsAnswered, IsAnsweredToCut};
@@ -46,7 +47,7 @@ pub(crate) fn run_file<I: Source, S: Station>(
     ensures cut { (result ≡ SCRIPT_FAULT) ⊎ (result ≡ TOO_LONG) → SourceTold (I.view source.old) → Told (S.view station.old) → (m : Map) (height : ℕ) → Represents (S.view station.old).held m height →
         IsAnsweredToCut m height (I.view source.old).left (I.view source.new).left (S.view station.old) (S.view station.new) }
     ensures settled { IsRest result → NothingPending (S.view station.new) }
-    ensures refused { result ≡ REFUSED → Told (S.view station.old) → (m : Map) (height : ℕ) → Represents (S.view station.old).held m height → ⊥ }
+    ensures refused { result ≡ REFUSED → Told (S.view station.old) → (m : Map) (height : ℕ) → Represents (S.view station.old).held m height → (layout_in (S.view station.old).held).hmax ≤ TALLEST → ⊥ }
     ensures no_store { Told (S.view station.old) → ((m : Map) (height : ℕ) → Represents (S.view station.old).held m height → ⊥) → (result ≡ REFUSED) ⊎ ((result ≡ DISK_FAULT) ⊎ (result ≡ OUT_OF_MEMORY)) }
     ensures untouched { result ≡ REFUSED → Told (S.view station.old) → (recovered (layout_in (S.view station.old).held) (S.view station.new).held ≡ recovered (layout_in (S.view station.old).held) (S.view station.old).held) × ((S.view station.new).said ≡ (S.view station.old).said) }
     ensures even { result ≡ REFUSED → Told (S.view station.old) → gate (S.view station.old).held ≡ 0 → (S.view station.new).held ≡ (S.view station.old).held }

@@ -1,6 +1,6 @@
 -- A store of one segment, from call to call.
-use Rattle.std.proofs.Common.{◌≡◌, ◌⊎◌, inl, inr, ℕ, zero, suc, [], ◌∷◌, ◌+◌, ◌-◌, ◌^◌, ◌<◌, ◌≤◌, List, length, get_or, Some, None, false, Result, Ok, Err, refl, sym, ◌∙◌, ap, subst, arith}
-use Rattle.std.specs.Prelude.{map}
+use Rattle.std.proofs.Common.{◌≡◌, ◌⊎◌, inl, inr, ℕ, zero, suc, [], ◌∷◌, ◌+◌, ◌-◌, ◌^◌, ◌<◌, ◌≤◌, List, length, get_or, Some, None, false, Result, Ok, Err, refl, sym, ◌∙◌, ap, subst, arith, eq-eqb}
+use Rattle.std.specs.Prelude.{map, if◌then◌else◌}
 use Rattle.std.specs.Result.{OnOk}
 use Rattle.std.specs.FinMap.{entries, len, len-entries}
 use Rattle.std.proofs.lemmas.Nat.{pow_pos}
@@ -16,7 +16,7 @@ use Rattle.header_gate.specs.Header.{gate, live_copy, layout_in, segment_in}
 use Rattle.header_gate.specs.Places.{segment_size, segment_place, file_length}
 use Rattle.header_gate.specs.Reasons.{IsSoundHeader}
 use Rattle.header_gate.specs.Recovered.{IsBatch, recovered, laid_over, table_numbers}
-use Rattle.map_model.specs.Store.{Map}
+use Rattle.map_model.specs.Store.{Map, Update, map_after, state_after_update}
 use Rattle.map_model.specs.Image.{Represents, RepresentsMap, array_in, live_segment, map_of, height_of}
 use Rattle.map_model.specs.Batches.{KeepsHeader, LaysBatch}
 use Rattle.map_model.proofs.Headers.{segment_read}
@@ -28,13 +28,18 @@ use Rattle.recovery.specs.Parts.{Fits, StandsFor}
 use Rattle.density_rule.specs.Windows.{count_in}
 use Rattle.density_rule.specs.Updates.{counts_after}
 use Rattle.window_tally.specs.View.{TallyView, IsTally}
+use Rattle.segment.specs.declared.fault.Damage.{Damage}
+use Rattle.segment.specs.declared.fault.Damage.TheVariants.{OtherCount}
+use Rattle.segment.specs.Judged.{damage_of, damage_by}
 use Rattle.pma_store.specs.Store.{Becomes}
+use Rattle.pma_store.specs.Answers.{state_in}
+use Rattle.pma_store.proofs.EditLaws.{flat_state}
 use Rattle.pma_store.specs.Rewrites.{HasFrame, Rewrites, HoldsRows}
 
 -- What a store that stands for a file knows of it.
 
 module _ (place : Place) (tally : TallyView) (image : List ℕ) (flat : place.layout.hmax ≤ 0) (low : tally.height ≤ place.layout.hmax) (stands : StandsFor place tally image) where
-  zero_height : height_of image ≡ 0
+  pub zero_height : height_of image ≡ 0
   zero_height = omega (arith, stands.agrees.height_is, low, flat)
 
   -- it represents its map at height 0
@@ -64,11 +69,13 @@ module _ (place : Place) (tally : TallyView) (image : List ℕ) (flat : place.la
 pub rows_held : (rows held : List Record) (bytes : List ℕ) → IsSegment rows bytes → IsSegment held bytes → rows ≡ held
 rows_held rows held bytes is also = sym (segment_rows rows bytes is) ∙ segment_rows held bytes also
 
--- a segment of the map's records has no bad slot
-pub no_bad_slot : (held : List Record) (bytes : List ℕ) (slot : ℕ) → IsSegment held bytes → first_bad_slot bytes ≡ Some slot → ⊥
-no_bad_slot held bytes slot is bad =
+-- a segment of the map's records with as many of them as are kept isn't damaged
+pub no_damage : (held : List Record) (bytes : List ℕ) (kept : ℕ) (why : Damage) → IsSegment held bytes → kept ≡ length held → damage_of bytes kept ≡ Some why → ⊥
+no_damage held bytes kept why is count bad =
     let none : first_bad_slot bytes ≡ None = segment_sound held bytes is in
-    let both : None ≡ Some slot = sym none ∙ bad in
+    let found : length (segment_of bytes) ≡ kept = ap length (segment_rows held bytes is) ∙ sym count in
+    let sound : damage_of bytes kept ≡ None = (λ t. damage_by (none t) (found t) kept) ∙ ap (λ b. if b then None else Some (OtherCount kept kept)) (eq-eqb kept kept refl) in
+    let both : None ≡ Some why = sym sound ∙ bad in
     absurd cc
 
 -- A commit of the one segment.
@@ -87,7 +94,7 @@ module _ (place : Place) (slots : List (List ℕ)) (rows : List Record) (start i
   journal_of : IsSoundHeader start → (gate image ≡ 1 → table_numbers image ≡ 0 ∷ []) → gate image ≡ 1 → IsBatch (layout_in start).journal (2 ^ 0) (table_numbers image)
   journal_of sound table odd = subst (IsBatch (layout_in start).journal (2 ^ 0)) (sym (table odd)) (record {
     least_is = omega arith;
-    most_is = omega (arith, sound.journal);
+    most_is = omega (arith, sound.layout.least);
     ascends = λ i j lt below. absurd (omega (arith, lt, below));
     below = λ k d lt. let first : k ≡ 0 = omega (arith, lt) in subst (λ (j : ℕ). get_or (0 ∷ []) j d < 2 ^ 0) (sym first) (omega arith);
   })
@@ -133,8 +140,10 @@ stands_after place tally rows next image holds are low counts =
       };
     }
 
-pub map_after_rows : (place : Place) (rows : List Record) (next : Map) (image : List ℕ) → HoldsRows place rows image → rows ≡ entries next → map_of image ≡ next
-map_after_rows place rows next image holds are = sym (determined image next 0 (holds.represents next are)).0
+pub state_after_rows : (hmax : ℕ) → hmax ≤ 0 → (place : Place) (rows : List Record) (old new : List ℕ) (u : Update) → height_of old ≡ 0 → HoldsRows place rows new → rows ≡ entries (map_after hmax (map_of old) u) → state_in new ≡ state_after_update hmax (state_in old) u
+state_after_rows hmax flat place rows old new u low holds are =
+    let is = holds.represents (map_after hmax (map_of old) u) are in
+    flat_state hmax flat old new u low is.height_is (sym (determined new (map_after hmax (map_of old) u) 0 is).0)
 
 -- Calls one after another.
 

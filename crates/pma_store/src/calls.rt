@@ -1,18 +1,17 @@
 //! The calls on the map.
 
-ghost use Rattle.std.specs.Prelude.{◌≡◌, ◌≢◌, ◌+◌, ◌≤◌, ℕ, false, OnOk, IfOk, IfErr, IsErrOf, is_err, length, slice_index, [], ◌∷◌, ◌<◌};
+ghost use Rattle.std.specs.Prelude.{◌≡◌, ◌≢◌, ◌+◌, ◌≤◌, ℕ, true, false, OnOk, IfOk, IfErr, IsErrOf, is_err, length, slice_index, [], ◌∷◌, ◌<◌};
 ghost use Rattle.std.specs.FinMap.{entries, contains_key, get};
 ghost use Rattle.station.specs.Bytes.{Same};
 ghost use Rattle.station.specs.View.{Told, EachHeld, NothingPending, Rose, after_read};
 ghost use Rattle.station.specs.Steps.{Steps};
 ghost use Rattle.header_gate.specs.Places.{file_length, segment_place, segment_size};
-ghost use Rattle.header_gate.specs.declared.layout.TheConstants.{TALLEST};
 ghost use Rattle.density_rule.specs.Windows.{count_in};
 ghost use Rattle.window_tally.specs.View.{IsTally};
-ghost use Rattle.map_model.specs.Store.{bind, unbind, map_after};
+ghost use Rattle.map_model.specs.Store.{bind, unbind, map_after, state_after_update};
 ghost use Rattle.map_model.specs.Image.{map_of};
-ghost use Rattle.pma_store.specs.Answers.{put_answer, quiet, count_after_put};
-ghost use Rattle.pma_store.specs.Store.{IsStore, Stands, Becomes};
+ghost use Rattle.pma_store.specs.Answers.{state_in, put_answer, quiet, count_after_put};
+ghost use Rattle.pma_store.specs.Store.{IsStore, Stands, Becomes, LeavesAll};
 
 use crate::answers::{Put, QUIET, Report};
 use crate::edits::{bind_key, unbind_key, value_at};
@@ -39,18 +38,19 @@ impl Store {
         requires store { EachHeld (Stands self.old) (S.view station.old) }
         requires nothing { NothingPending (S.view station.old) }
         requires reach { file_length self.old.place.layout ≤ (S.view station.old).fixed.reach }
-        ensures answer { IfOk result (λ answer. Told (S.view station.old) → answer.0 ≡ put_answer TALLEST (map_of (S.view station.old).held) key.now) }
+        ensures answer { IfOk result (λ answer. Told (S.view station.old) → answer.0 ≡ put_answer self.old.place.layout.hmax (map_of (S.view station.old).held) key.now) }
         ensures report { IfOk result (λ answer. answer.1 ≡ quiet) }
-        ensures map { OnOk result (Told (S.view station.old) → map_of (S.view station.new).held ≡ map_after TALLEST (map_of (S.view station.old).held) (bind key.now value.now)) }
+        ensures state { OnOk result (Told (S.view station.old) → state_in (S.view station.new).held ≡ state_after_update self.old.place.layout.hmax (state_in (S.view station.old).held) (bind key.now value.now)) }
         ensures store { OnOk result (EachHeld (Stands self.new) (S.view station.new)) }
         ensures settled { OnOk result (NothingPending (S.view station.new)) }
-        ensures steps { Steps (Becomes (map_of (S.view station.old).held) (map_after TALLEST (map_of (S.view station.old).held) (bind key.now value.now))) (S.view station.old) (S.view station.new) }
+        ensures steps { Steps (Becomes (map_of (S.view station.old).held) (map_after self.old.place.layout.hmax (map_of (S.view station.old).held) (bind key.now value.now))) (S.view station.old) (S.view station.new) }
         ensures place { self.new.place ≡ self.old.place }
         ensures closed { self.new.closed ≡ is_err result }
         ensures damaged { IfErr result (λ fault. Told (S.view station.old) → fault ≡ StoreFault.Failed) }
         ensures other_count { (segment found kept : ℕ) → result ≡ Err (StoreFault.Damaged segment (Damage.OtherCount found kept)) → (kept ≡ count_in self.old.tally.counts 0 0) × (found ≢ kept) }
         ensures failed { IsErrOf result StoreFault.Failed → Rose (S.view station.old).disk_faults (S.view station.new).disk_faults }
-        ensures full { (most : ℕ) → IfOk result (λ answer. answer.0 ≡ Put.Full most → (S.view station.new).travel.written ≡ (S.view station.old).travel.written) }
+        ensures full { (most : ℕ) → IfOk result (λ answer. answer.0 ≡ Put.Full most → LeavesAll self.old self.new (S.view station.old) (S.view station.new)) }
+        ensures damage { (segment : ℕ) (why : Damage) → result ≡ Err (StoreFault.Damaged segment why) → LeavesAll (record self.old { closed = true }) self.new (S.view station.old) (S.view station.new) }
         ensures cost { (S.view station.new).travel.written ≤ (S.view station.old).travel.written + 8202 }
     {
         match self.bind(station, key, value) {
@@ -76,16 +76,17 @@ impl Store {
         requires reach { file_length self.old.place.layout ≤ (S.view station.old).fixed.reach }
         ensures answer { IfOk result (λ answer. Told (S.view station.old) → answer.0 ≡ contains_key (map_of (S.view station.old).held) key.now) }
         ensures report { IfOk result (λ answer. answer.1 ≡ quiet) }
-        ensures map { OnOk result (Told (S.view station.old) → map_of (S.view station.new).held ≡ map_after TALLEST (map_of (S.view station.old).held) (unbind key.now)) }
+        ensures state { OnOk result (Told (S.view station.old) → state_in (S.view station.new).held ≡ state_after_update self.old.place.layout.hmax (state_in (S.view station.old).held) (unbind key.now)) }
         ensures store { OnOk result (EachHeld (Stands self.new) (S.view station.new)) }
         ensures settled { OnOk result (NothingPending (S.view station.new)) }
-        ensures steps { Steps (Becomes (map_of (S.view station.old).held) (map_after TALLEST (map_of (S.view station.old).held) (unbind key.now))) (S.view station.old) (S.view station.new) }
+        ensures steps { Steps (Becomes (map_of (S.view station.old).held) (map_after self.old.place.layout.hmax (map_of (S.view station.old).held) (unbind key.now))) (S.view station.old) (S.view station.new) }
         ensures place { self.new.place ≡ self.old.place }
         ensures closed { self.new.closed ≡ is_err result }
         ensures damaged { IfErr result (λ fault. Told (S.view station.old) → fault ≡ StoreFault.Failed) }
         ensures other_count { (segment found kept : ℕ) → result ≡ Err (StoreFault.Damaged segment (Damage.OtherCount found kept)) → (kept ≡ count_in self.old.tally.counts 0 0) × (found ≢ kept) }
         ensures failed { IsErrOf result StoreFault.Failed → Rose (S.view station.old).disk_faults (S.view station.new).disk_faults }
-        ensures absent { IfOk result (λ answer. answer.0 ≡ false → (S.view station.new).travel.written ≡ (S.view station.old).travel.written) }
+        ensures absent { IfOk result (λ answer. answer.0 ≡ false → LeavesAll self.old self.new (S.view station.old) (S.view station.new)) }
+        ensures damage { (segment : ℕ) (why : Damage) → result ≡ Err (StoreFault.Damaged segment why) → LeavesAll (record self.old { closed = true }) self.new (S.view station.old) (S.view station.new) }
         ensures cost { (S.view station.new).travel.written ≤ (S.view station.old).travel.written + 8202 }
     {
         match self.unbind(station, key) {
@@ -136,16 +137,17 @@ impl Store {
         requires store { EachHeld (Stands self.old) (S.view station.old) }
         requires nothing { NothingPending (S.view station.old) }
         requires reach { file_length self.old.place.layout ≤ (S.view station.old).fixed.reach }
-        ensures answer { IfOk result (λ put. Told (S.view station.old) → put ≡ put_answer 0 (map_of (S.view station.old).held) key.now) }
-        ensures map { OnOk result (Told (S.view station.old) → map_of (S.view station.new).held ≡ map_after 0 (map_of (S.view station.old).held) (bind key.now value.now)) }
+        ensures answer { IfOk result (λ put. Told (S.view station.old) → put ≡ put_answer self.old.place.layout.hmax (map_of (S.view station.old).held) key.now) }
+        ensures state { OnOk result (Told (S.view station.old) → state_in (S.view station.new).held ≡ state_after_update self.old.place.layout.hmax (state_in (S.view station.old).held) (bind key.now value.now)) }
         ensures store { OnOk result (EachHeld (Stands self.new) (S.view station.new)) }
         ensures settled { OnOk result (NothingPending (S.view station.new)) }
-        ensures steps { Steps (Becomes (map_of (S.view station.old).held) (map_after 0 (map_of (S.view station.old).held) (bind key.now value.now))) (S.view station.old) (S.view station.new) }
+        ensures steps { Steps (Becomes (map_of (S.view station.old).held) (map_after self.old.place.layout.hmax (map_of (S.view station.old).held) (bind key.now value.now))) (S.view station.old) (S.view station.new) }
         ensures kept { self.new ≡ record self.old { tally = self.new.tally } }
         ensures damaged { IfErr result (λ fault. Told (S.view station.old) → fault ≡ StoreFault.Failed) }
         ensures other_count { (segment found kept : ℕ) → result ≡ Err (StoreFault.Damaged segment (Damage.OtherCount found kept)) → (kept ≡ count_in self.old.tally.counts 0 0) × (found ≢ kept) }
         ensures failed { IsErrOf result StoreFault.Failed → Rose (S.view station.old).disk_faults (S.view station.new).disk_faults }
-        ensures full { (most : ℕ) → IfOk result (λ put. put ≡ Put.Full most → (S.view station.new).travel.written ≡ (S.view station.old).travel.written) }
+        ensures full { (most : ℕ) → IfOk result (λ put. put ≡ Put.Full most → LeavesAll self.old self.new (S.view station.old) (S.view station.new)) }
+        ensures damage { (segment : ℕ) (why : Damage) → result ≡ Err (StoreFault.Damaged segment why) → LeavesAll self.old self.new (S.view station.old) (S.view station.new) }
         ensures cost { (S.view station.new).travel.written ≤ (S.view station.old).travel.written + 8202 }
     {
         let mut rows = self.read(station)?;
@@ -168,15 +170,16 @@ impl Store {
         requires nothing { NothingPending (S.view station.old) }
         requires reach { file_length self.old.place.layout ≤ (S.view station.old).fixed.reach }
         ensures answer { IfOk result (λ was. Told (S.view station.old) → was ≡ contains_key (map_of (S.view station.old).held) key.now) }
-        ensures map { OnOk result (Told (S.view station.old) → map_of (S.view station.new).held ≡ map_after 0 (map_of (S.view station.old).held) (unbind key.now)) }
+        ensures state { OnOk result (Told (S.view station.old) → state_in (S.view station.new).held ≡ state_after_update self.old.place.layout.hmax (state_in (S.view station.old).held) (unbind key.now)) }
         ensures store { OnOk result (EachHeld (Stands self.new) (S.view station.new)) }
         ensures settled { OnOk result (NothingPending (S.view station.new)) }
-        ensures steps { Steps (Becomes (map_of (S.view station.old).held) (map_after 0 (map_of (S.view station.old).held) (unbind key.now))) (S.view station.old) (S.view station.new) }
+        ensures steps { Steps (Becomes (map_of (S.view station.old).held) (map_after self.old.place.layout.hmax (map_of (S.view station.old).held) (unbind key.now))) (S.view station.old) (S.view station.new) }
         ensures kept { self.new ≡ record self.old { tally = self.new.tally } }
         ensures damaged { IfErr result (λ fault. Told (S.view station.old) → fault ≡ StoreFault.Failed) }
         ensures other_count { (segment found kept : ℕ) → result ≡ Err (StoreFault.Damaged segment (Damage.OtherCount found kept)) → (kept ≡ count_in self.old.tally.counts 0 0) × (found ≢ kept) }
         ensures failed { IsErrOf result StoreFault.Failed → Rose (S.view station.old).disk_faults (S.view station.new).disk_faults }
-        ensures absent { IfOk result (λ was. was ≡ false → (S.view station.new).travel.written ≡ (S.view station.old).travel.written) }
+        ensures absent { IfOk result (λ was. was ≡ false → LeavesAll self.old self.new (S.view station.old) (S.view station.new)) }
+        ensures damage { (segment : ℕ) (why : Damage) → result ≡ Err (StoreFault.Damaged segment why) → LeavesAll self.old self.new (S.view station.old) (S.view station.new) }
         ensures cost { (S.view station.new).travel.written ≤ (S.view station.old).travel.written + 8202 }
     {
         let mut rows = self.read(station)?;
@@ -209,38 +212,17 @@ impl Store {
         let Ok(()) = read_segment(station, &self.parts.place, 0, &mut page) else {
             return Err(StoreFault::Failed);
         };
-        let rows = match Segment::decode(&page) {
-            Ok(rows) => rows,
-            Err(bad) => {
-                return Err(StoreFault::Damaged {
-                    segment: 0,
-                    why: Damage::NotSegment { slot: bad.slot },
-                });
-            }
-        };
-        self.judge_count(rows)
+        Segment::judge(&page, 0, self.kept())
     }
 
-    // The rows, where there are as many as the store keeps for segment 0.
-    fn judge_count(&self, rows: Segment) -> Result<Segment, StoreFault>
-        ensures rows { IfOk result (λ kept. kept ≡ rows) }
-        ensures count { IfOk result (λ kept. length rows ≡ count_in self.now.tally.counts 0 0) }
-        ensures other { IfErr result (λ fault. (fault ≡ StoreFault.Damaged 0 (Damage.OtherCount (length rows) (count_in self.now.tally.counts 0 0))) × (length rows ≢ count_in self.now.tally.counts 0 0)) }
+    // How many records the store keeps for segment 0.
+    fn kept(&self) -> u32
+        ensures { result ≡ count_in self.now.tally.counts 0 0 }
     {
-        let segment = Window {
+        self.parts.tally.count(Window {
             height: 0,
             number: 0,
-        };
-        let kept = self.parts.tally.count(segment);
-        let found = rows.len();
-        if found == kept {
-            Ok(rows)
-        } else {
-            Err(StoreFault::Damaged {
-                segment: 0,
-                why: Damage::OtherCount { found, kept },
-            })
-        }
+        })
     }
 }
 

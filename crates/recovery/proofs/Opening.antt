@@ -1,6 +1,6 @@
 -- What an opening makes of a file.
-use Rattle.std.proofs.Common.{◌≡◌, ◌⊎◌, ⊎_elim, ℕ, zero, suc, [], ◌∷◌, ◌+◌, ◌^◌, ◌<◌, List, length, Option, Some, None, Bool, refl, sym, ◌∙◌, ap, subst, arith}
-use Rattle.std.specs.Prelude.{map, slice_range, slice_set}
+use Rattle.std.proofs.Common.{◌≡◌, ◌⊎◌, ⊎_elim, ℕ, [], ◌∷◌, ◌^◌, ◌≤◌, List, length, Option, Some, None, Bool, true, sym, ◌∙◌, ap, subst, arith}
+use Rattle.std.specs.Prelude.{map, slice_set}
 use Rattle.station.specs.Bytes.{byte, Touched}
 use Rattle.key_slot.specs.Segment.{IsSegment, segment_of, first_bad_slot}
 use Rattle.key_slot.proofs.SegmentLaws.{segment_sound}
@@ -8,24 +8,27 @@ use Rattle.header_gate.specs.declared.layout.Layout.{Layout}
 use Rattle.header_gate.specs.declared.reason.Reason.{Reason}
 use Rattle.header_gate.specs.declared.header.HeaderFault.{HeaderFault}
 use Rattle.header_gate.specs.declared.header.HeaderFault.TheVariants as header
-use Rattle.header_gate.specs.Header.{gate, live_copy, layout_in, segment_in, IsGatePlace}
-use Rattle.header_gate.specs.Places.{journal_end, file_length, segment_place, segment_size}
+use Rattle.header_gate.specs.Header.{gate, layout_in, segment_in, IsGatePlace}
+use Rattle.header_gate.specs.Places.{journal_end, file_length}
 use Rattle.header_gate.specs.Reasons.{or_else, header_reason}
 use Rattle.header_gate.specs.Recovered.{IsBatch, recovered, table_numbers, journal_reason}
 use Rattle.header_gate.proofs.Recoveries.{table_same}
 use Rattle.header_gate.proofs.Soundness.{none_of_sound}
 use Rattle.map_model.specs.Image.{Represents, array_in, live_segment, map_of, height_of}
-use Rattle.map_model.specs.Reasons.{reason_of, slot_reason}
+use Rattle.map_model.specs.Reasons.{reason_of, array_reason, segment_reason}
 use Rattle.map_model.specs.Batches.{KeepsHeader}
 use Rattle.map_model.proofs.Headers.{segment_read, same_segments}
 use Rattle.std.proofs.lemmas.Nat.{pow_pos}
 use Rattle.map_model.proofs.Recovering.{array_one, kept, same_header, represents_own}
 use Rattle.map_model.proofs.Reasonings.{represents_of_none}
+use Rattle.recovery.proofs.OneSegment.{array_reason_one, refused_low}
 use Rattle.redo_journal.specs.declared.place.Place.{Place}
 use Rattle.redo_journal.specs.Commit.{IsAt, Replays, IsRegionPlace}
 use Rattle.recovery.specs.Parts.{HasHeader, StandsFor}
 use Rattle.recovery.specs.Restores.{Restores}
+use Rattle.recovery.specs.declared.open.TheConstants.{TALLEST}
 use Rattle.recovery.specs.Faults.{fault_of}
+use Rattle.recovery.specs.Refusals.{refusal_of}
 use Rattle.recovery.specs.declared.fault.OpenFault.TheVariants.{NotStore}
 use Rattle.window_tally.specs.View.{TallyView, empty_tally}
 
@@ -69,13 +72,17 @@ module _ (place : Place) (height : ℕ) (odd : Bool) (old : List ℕ) (header : 
   unfolding reason_of
   by_journal r is =
       let e : journal_reason (layout_in old) (height_of old) old ≡ Some r = (λ t. journal_reason (header.layout_is t) (header.height_is t) old) ∙ is in
-      (λ t. or_else (no_header_reason t) (or_else (e t) (slot_reason 0 (first_bad_slot (live_segment old 0)))))
+      (λ t. or_else (no_header_reason t) (or_else (e t) (array_reason (live_segment old) (height_of old))))
 
-  pub by_slot : (answer : Option Reason) → journal_reason place.layout height old ≡ None → slot_reason 0 (first_bad_slot (live_segment old 0)) ≡ answer → reason_of old ≡ answer
+  -- it is opened today, so that its first reason is why it isn't
+  pub refusal_is : place.layout.hmax ≤ TALLEST → refusal_of old ≡ reason_of old
+  refusal_is low = refused_low old no_header_reason (omega (arith, low, ap (λ (l : Layout). l.hmax) header.layout_is))
+
+  pub by_slot : (answer : Option Reason) → height ≡ 0 → journal_reason place.layout height old ≡ None → segment_reason 0 (first_bad_slot (live_segment old 0)) true ≡ answer → reason_of old ≡ answer
   unfolding reason_of
-  by_slot answer none is =
+  by_slot answer flat none is =
       let e : journal_reason (layout_in old) (height_of old) old ≡ None = (λ t. journal_reason (header.layout_is t) (header.height_is t) old) ∙ none in
-      (λ t. or_else (no_header_reason t) (or_else (e t) (slot_reason 0 (first_bad_slot (live_segment old 0))))) ∙ is
+      (λ t. or_else (no_header_reason t) (or_else (e t) (array_reason (live_segment old) ((header.height_is ∙ flat) t)))) ∙ array_reason_one old header.sound ∙ is
 
   -- After a replay.
 
@@ -93,14 +100,14 @@ module _ (place : Place) (height : ℕ) (odd : Bool) (old : List ℕ) (header : 
         ∙ segment_read new keeps.sound even 0 (pow_pos (layout_in new).hmax)
         ∙ same_segments old new keeps.layout_is restores.recovers 0
 
-    pub no_reason : journal_reason place.layout height old ≡ None → gate new ≡ 0 → IsSegment (segment_of (segment_in place.layout new 0)) (segment_in place.layout new 0) → reason_of old ≡ None
-    no_reason none even is =
+    pub no_reason : height ≡ 0 → journal_reason place.layout height old ≡ None → gate new ≡ 0 → IsSegment (segment_of (segment_in place.layout new 0)) (segment_in place.layout new 0) → reason_of old ≡ None
+    no_reason flat none even is =
         let b = segment_in place.layout new 0 in
         let good : first_bad_slot b ≡ None = segment_sound (segment_of b) b is in
-        by_slot None none (ap (λ (s : List ℕ). slot_reason 0 (first_bad_slot s)) (sym (segment_restored even)) ∙ ap (slot_reason 0) good)
+        by_slot None flat none (ap (λ (s : List ℕ). segment_reason 0 (first_bad_slot s) true) (sym (segment_restored even)) ∙ ap (λ (bad : Option ℕ). segment_reason 0 bad true) good)
 
-    pub bad_slot : (r : Reason) → journal_reason place.layout height old ≡ None → gate new ≡ 0 → slot_reason 0 (first_bad_slot (segment_in place.layout new 0)) ≡ Some r → reason_of old ≡ Some r
-    bad_slot r none even is = by_slot (Some r) none (ap (λ (s : List ℕ). slot_reason 0 (first_bad_slot s)) (sym (segment_restored even)) ∙ is)
+    pub bad_slot : (r : Reason) → height ≡ 0 → journal_reason place.layout height old ≡ None → gate new ≡ 0 → segment_reason 0 (first_bad_slot (segment_in place.layout new 0)) true ≡ Some r → reason_of old ≡ Some r
+    bad_slot r flat none even is = by_slot (Some r) flat none (ap (λ (s : List ℕ). segment_reason 0 (first_bad_slot s) true) (sym (segment_restored even)) ∙ is)
 
     pub stands : (tally : TallyView) → height ≡ 0 → tally.height ≡ 0 → tally.counts ≡ length (segment_of (segment_in place.layout new 0)) ∷ [] → reason_of old ≡ None → gate new ≡ 0 → StandsFor place tally new
     stands tally flat low counts none even =
@@ -130,8 +137,3 @@ empty_height t hmax is = ap (λ (x : TallyView). x.height) is
 
 pub first_count : (t : TallyView) (hmax n : ℕ) → t ≡ empty_tally hmax 0 → slice_set t.counts 0 n ≡ n ∷ []
 first_count t hmax n is = ap (λ (x : TallyView). slice_set x.counts 0 n) is
-
--- a header that is refused
-pub by_header : (old : List ℕ) (r : Reason) → header_reason old ≡ Some r → reason_of old ≡ Some r
-unfolding reason_of
-by_header old r is = ap (λ (first : Option Reason). or_else first (or_else (journal_reason (layout_in old) (height_of old) old) (slot_reason 0 (first_bad_slot (live_segment old 0))))) is

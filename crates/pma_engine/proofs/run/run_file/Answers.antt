@@ -6,11 +6,13 @@ use Rattle.header_gate.specs.Header.{gate}
 use Rattle.map_model.specs.Store.{Map}
 use Rattle.map_model.specs.Image.{Represents, map_of, height_of}
 use Rattle.map_model.specs.Reasons.{reason_of}
+use Rattle.recovery.specs.Refusals.{refusal_of}
 use Rattle.map_model.proofs.Reasonings.{represents_of_none}
 use Rattle.recovery.specs.Restores.{Restores}
 use Rattle.command_text.specs.Script.{commands_of, complete_commands}
 use Rattle.pma_engine.specs.Outcome.{RunHeadline}
 use Rattle.pma_engine.proofs.OutcomeLaws.{attach_failed, opened_after, refused_none, pair_quiet, headline_quiet, answered_of, pair_served, headline_whole}
+use Rattle.pma_engine.proofs.StoreLaws.{held_opened}
 use Rattle.pma_engine.proofs.run.run_file.Goals as goal
 use Rattle.pma_engine.proofs.run.run_file.Goals.{After-open_on}
 
@@ -72,10 +74,10 @@ pub returns-in-Err-Memory-clause-memory : goal.returns-in-Err-Memory-clause-memo
 returns-in-Err-Memory-clause-memory g c memory = same_on c.attach.ensures.steps (c.in-Err-Memory.ensures.memory (ap Err c.in-Err-Memory.field-0-is))
 
 pub returns-in-Err-NotStore-clause-refused : goal.returns-in-Err-NotStore-clause-refused
-returns-in-Err-NotStore-clause-refused g c refused told m height is =
+returns-in-Err-NotStore-clause-refused g c refused told m height is low =
     let held = c.attach.ensures.steps.held told in
     refused_none (g.S.Station.view c.args.station.now).held c.in-Err-NotStore.field-0-0 m height
-    (ap reason_of (sym held) ∙ c.in-Err-NotStore.ensures.refused c.in-Err-NotStore.field-0-0 c.in-Err-NotStore.field-0-is (told_on c.attach.ensures.steps.frame told)) is
+    (ap refusal_of (sym held) ∙ c.in-Err-NotStore.ensures.refused c.in-Err-NotStore.field-0-0 c.in-Err-NotStore.field-0-is (told_on c.attach.ensures.steps.frame told)) is low
 
 pub returns-in-Err-NotStore-clause-untouched : goal.returns-in-Err-NotStore-clause-untouched
 returns-in-Err-NotStore-clause-untouched g c refused told =
@@ -89,14 +91,14 @@ returns-in-Err-NotStore-clause-even g c refused told even =
 pub returns-clause-headline : goal.returns-clause-headline
 returns-clause-headline g c told_s honest nothing m height is image said left =
     headline_whole (g.S.Station.view c.args.station.now) (g.S.Station.view c.open_on.new.station) (g.S.Station.view c.serve_opened.new.station) m height c.args.most (g.I.Source.view c.args.source.now) is (g.met.S.Station.lawful c.args.station.now) nothing
-    (opened g (goal.at.returns-clause-headline g c).After-open_on) c.serve_opened.ensures.run told_s honest image said left
+    (opened g (goal.at.returns-clause-headline g c).After-open_on) (held_opened c.in-Ok-open_on.store (g.S.Station.view c.open_on.new.station) c.in-Ok-open_on.ensures.fits.0 c.in-Ok-open_on.ensures.store) c.serve_opened.ensures.run told_s honest image said left
 
 pub returns-clause-held : goal.returns-clause-held
 returns-clause-held g c told_s told said_told m height is =
     let b = g.S.Station.view c.open_on.new.station in
     let d = g.S.Station.view c.serve_opened.new.station in
     let steps = opened g (goal.at.returns-clause-held g c).After-open_on in
-    pair_served (g.S.Station.view c.args.station.now) m height (commands_of (g.I.Source.view c.args.source.now).left) b ((steps.held told).map m height is) steps.frame.said d.held d.said
+    pair_served (g.S.Station.view c.args.station.now) m height (commands_of (g.I.Source.view c.args.source.now).left) b ((steps.held told).map m height is) (held_opened c.in-Ok-open_on.store b c.in-Ok-open_on.ensures.fits.0 c.in-Ok-open_on.ensures.store (told_on steps.frame told)) steps.frame.said d.held d.said
     (c.serve_opened.ensures.pair (told_on steps.frame told) (ap (λ f. f.tells_said) steps.frame.fixed ∙ said_told) told_s)
 
 pub returns-clause-answered : goal.returns-clause-answered
@@ -104,7 +106,7 @@ returns-clause-answered g c done told_s told m height is =
     let b = g.S.Station.view c.open_on.new.station in
     let d = g.S.Station.view c.serve_opened.new.station in
     let steps = opened g (goal.at.returns-clause-answered g c).After-open_on in
-    answered_of (g.S.Station.view c.args.station.now) m height (commands_of (g.I.Source.view c.args.source.now).left) b d ((steps.held told).map m height is) steps.frame.said (λ said_told. ap (λ f. f.tells_said) steps.frame.fixed ∙ said_told)
+    answered_of (g.S.Station.view c.args.station.now) m height (commands_of (g.I.Source.view c.args.source.now).left) b d ((steps.held told).map m height is) (held_opened c.in-Ok-open_on.store b c.in-Ok-open_on.ensures.fits.0 c.in-Ok-open_on.ensures.store (told_on steps.frame told)) steps.frame.said (λ said_told. ap (λ f. f.tells_said) steps.frame.fixed ∙ said_told)
     (c.serve_opened.ensures.served done told_s (told_on steps.frame told))
 
 pub returns-clause-cut : goal.returns-clause-cut
@@ -116,7 +118,7 @@ returns-clause-cut g c cut told_s told m height is =
     record {
       taken = served.taken;
       is = served.is;
-      answered = answered_of (g.S.Station.view c.args.station.now) m height (complete_commands served.taken) b d ((steps.held told).map m height is) steps.frame.said (λ said_told. ap (λ f. f.tells_said) steps.frame.fixed ∙ said_told) served.served;
+      answered = answered_of (g.S.Station.view c.args.station.now) m height (complete_commands served.taken) b d ((steps.held told).map m height is) (held_opened c.in-Ok-open_on.store b c.in-Ok-open_on.ensures.fits.0 c.in-Ok-open_on.ensures.store (told_on steps.frame told)) steps.frame.said (λ said_told. ap (λ f. f.tells_said) steps.frame.fixed ∙ said_told) served.served;
     }
 
 pub returns-clause-no_store : goal.returns-clause-no_store
@@ -132,7 +134,7 @@ pub returns-in-Err-NotStore-clause-cut : goal.returns-in-Err-NotStore-clause-cut
 returns-in-Err-NotStore-clause-cut g c cut = absurd (elim cut [ inl e ↦ omega (arith, e) | inr e ↦ omega (arith, e) ])
 
 pub returns-clause-refused : goal.returns-clause-refused
-returns-clause-refused g c refused told m height is =
+returns-clause-refused g c refused told m height is low =
     c.serve_opened.ensures.refused refused (told_on (opened g (goal.at.returns-clause-refused g c).After-open_on).frame told)
 
 pub returns-clause-untouched : goal.returns-clause-untouched

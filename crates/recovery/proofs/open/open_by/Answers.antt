@@ -5,12 +5,13 @@ use Rattle.key_slot.specs.Segment.{segment_of}
 use Rattle.redo_journal.specs.Commit.{IsAt}
 use Rattle.window_tally.specs.View.{TallyView}
 use Rattle.recovery.specs.Parts.{HasHeader, StandsFor}
-use Rattle.recovery.proofs.Opening.{place_of, refused_back, by_journal, at_exit, no_reason, bad_slot, stands, empty_height, first_count}
+use Rattle.recovery.proofs.Opening.{place_of, refused_back, refusal_is, by_journal, at_exit, no_reason, bad_slot, stands, empty_height, first_count}
 use Rattle.recovery.proofs.open.open_by.Goals as goal
 
 pub returns-in-Err-clause-refused : goal.returns-in-Err-clause-refused
 returns-in-Err-clause-refused g c r is told =
-    by_journal (place_of c.args.header.now.layout c.args.header.now.live) c.args.header.now.height c.args.header.now.gate (g.S.Station.view c.args.station.now).held (c.requires.header told)
+    refusal_is (place_of c.args.header.now.layout c.args.header.now.live) c.args.header.now.height c.args.header.now.gate (g.S.Station.view c.args.station.now).held (c.requires.header told) c.requires.stage
+    ∙ by_journal (place_of c.args.header.now.layout c.args.header.now.live) c.args.header.now.height c.args.header.now.gate (g.S.Station.view c.args.station.now).held (c.requires.header told)
     r (c.in-Err.ensures.refused r (refused_back c.in-Err.fault r (sym c.of_header.ensures ∙ is)) told)
 
 pub returns-in-Err-clause-refused_settled : goal.returns-in-Err-clause-refused_settled
@@ -43,14 +44,15 @@ returns-in-Err-count_records-clause-refused_settled g c r is = nothing_on (g.met
 pub returns-in-Err-count_records-clause-refused : goal.returns-in-Err-count_records-clause-refused
 returns-in-Err-count_records-clause-refused g c r is told =
     let a = g.S.Station.view c.args.station.now in
-    bad_slot (place_of c.args.header.now.layout c.args.header.now.live) c.args.header.now.height c.args.header.now.gate a.held (c.requires.header told) (g.S.Station.view c.recover.new.station).held (c.recover.ensures.steps.held told)
-    r (c.in-Ok-recover.ensures.sound told) (c.in-Ok-recover.ensures.closed told) (c.in-Err-count_records.ensures.bad r is (told_on c.recover.ensures.steps.frame told))
+    refusal_is (place_of c.args.header.now.layout c.args.header.now.live) c.args.header.now.height c.args.header.now.gate a.held (c.requires.header told) c.requires.stage
+    ∙ bad_slot (place_of c.args.header.now.layout c.args.header.now.live) c.args.header.now.height c.args.header.now.gate a.held (c.requires.header told) (g.S.Station.view c.recover.new.station).held (c.recover.ensures.steps.held told)
+    r (omega (arith, c.requires.height, c.requires.stage)) (c.in-Ok-recover.ensures.sound told) (c.in-Ok-recover.ensures.closed told) (c.in-Err-count_records.ensures.bad r is (told_on c.recover.ensures.steps.frame told))
 
 pub returns-in-Ok-count_records-clause-sound : goal.returns-in-Ok-count_records-clause-sound
 returns-in-Ok-count_records-clause-sound g c told =
     let a = g.S.Station.view c.args.station.now in
     no_reason (place_of c.args.header.now.layout c.args.header.now.live) c.args.header.now.height c.args.header.now.gate a.held (c.requires.header told) (g.S.Station.view c.recover.new.station).held (c.recover.ensures.steps.held told)
-    (c.in-Ok-recover.ensures.sound told) (c.in-Ok-recover.ensures.closed told) (c.in-Ok-count_records.ensures.segment (told_on c.recover.ensures.steps.frame told))
+    (omega (arith, c.requires.height, c.requires.stage)) (c.in-Ok-recover.ensures.sound told) (c.in-Ok-recover.ensures.closed told) (c.in-Ok-count_records.ensures.segment (told_on c.recover.ensures.steps.frame told))
 
 pub returns-in-Ok-count_records-clause-store : goal.returns-in-Ok-count_records-clause-store
 returns-in-Ok-count_records-clause-store g c =
@@ -67,5 +69,5 @@ returns-in-Ok-count_records-clause-store g c =
     (omega (arith, c.requires.height, c.requires.stage)) (ap (λ (t : TallyView). t.height) counted ∙ empty_height c.in-Ok-new.tally c.args.header.now.layout.hmax c.in-Ok-new.ensures.ok)
     (ap (λ (t : TallyView). t.counts) counted ∙ first_count c.in-Ok-new.tally c.args.header.now.layout.hmax (length (segment_of (segment_in c.args.header.now.layout b.held 0))) c.in-Ok-new.ensures.ok)
     (no_reason place c.args.header.now.height c.args.header.now.gate a.held (c.requires.header told_a) b.held (c.recover.ensures.steps.held told_a)
-    (c.in-Ok-recover.ensures.sound told_a) (c.in-Ok-recover.ensures.closed told_a) (c.in-Ok-count_records.ensures.segment told_b))
+    (omega (arith, c.requires.height, c.requires.stage)) (c.in-Ok-recover.ensures.sound told_a) (c.in-Ok-recover.ensures.closed told_a) (c.in-Ok-count_records.ensures.segment told_b))
     (c.in-Ok-recover.ensures.closed told_a)))

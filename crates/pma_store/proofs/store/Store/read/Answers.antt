@@ -10,7 +10,7 @@ use Rattle.map_model.specs.Image.{map_of}
 use Rattle.header_gate.specs.Header.{segment_in}
 use Rattle.recovery.specs.Parts.{StandsFor}
 use Rattle.pma_store.specs.Store.{StoreView, Stands}
-use Rattle.pma_store.proofs.Storing.{segment_held, count_held, rows_held, no_bad_slot}
+use Rattle.pma_store.proofs.Storing.{segment_held, count_held, rows_held, no_damage}
 use Rattle.pma_store.proofs.store.Store.read.Goals as goal
 use Rattle.pma_store.proofs.store.Store.read.Goals.{In-Ok}
 
@@ -26,22 +26,21 @@ page_is g c told =
     subst (IsSegment (entries (map_of a.held))) (sym (c.in-Ok.ensures.bytes told))
     (segment_held s.place s.tally a.held c.self.invariant.stage c.self.invariant.height (stands g c told))
 
-pub returns-in-Err-clause-damaged : goal.returns-in-Err-clause-damaged
-returns-in-Err-clause-damaged g c told =
-    absurd (no_bad_slot (entries (map_of (g.S.Station.view c.args.station.now).held)) c.read_segment.new.page c.in-Err.bad.slot (page_is g (goal.at.returns-in-Err-clause-damaged g c).In-Ok told) c.in-Err.ensures.bad)
+-- and as many are kept
+kept_is : (g : _) (c : In-Ok g) → Told (g.S.Station.view c.args.station.now) → count_in c.self.inside.parts.tally.counts 0 0 ≡ length (entries (map_of (g.S.Station.view c.args.station.now).held))
+kept_is g c told =
+    let s = c.self.inside.parts in
+    let count = count_held s.place s.tally (g.S.Station.view c.args.station.now).held c.self.invariant.stage c.self.invariant.height (stands g c told) in
+    ap (λ (l : List ℕ). count_in l 0 0) count ∙ omega arith
 
 pub returns-clause-rows : goal.returns-clause-rows
 returns-clause-rows g c =
-    IfOk-weaker c.judge_count.result _ _ (λ kept same told.
-    same ∙ rows_held c.in-Ok-decode.rows (entries (map_of (g.S.Station.view c.args.station.now).held)) c.read_segment.new.page c.in-Ok-decode.ensures.ok (page_is g (goal.at.returns-clause-rows g c).In-Ok told)) c.judge_count.ensures.rows
+    IfOk-weaker c.judge.result _ _ (λ rows is told.
+    rows_held rows (entries (map_of (g.S.Station.view c.args.station.now).held)) c.read_segment.new.page is (page_is g (goal.at.returns-clause-rows g c).In-Ok told)) c.judge.ensures.rows
 
 pub returns-clause-damaged : goal.returns-clause-damaged
 returns-clause-damaged g c =
-    IfErr-weaker c.judge_count.result _ _ (λ fault other told.
-    let a = g.S.Station.view c.args.station.now in
-    let s = c.self.inside.parts in
+    IfErr-weaker c.judge.result _ _ (λ fault damage told.
     let here = (goal.at.returns-clause-damaged g c).In-Ok in
-    let rows = rows_held c.in-Ok-decode.rows (entries (map_of a.held)) c.read_segment.new.page c.in-Ok-decode.ensures.ok (page_is g here told) in
-    let count = count_held s.place s.tally a.held c.self.invariant.stage c.self.invariant.height (stands g here told) in
-    let kept : count_in s.tally.counts 0 0 ≡ length (entries (map_of a.held)) = ap (λ (l : List ℕ). count_in l 0 0) count ∙ omega arith in
-    absurd (other.1 (ap length rows ∙ sym kept ∙ ap (λ (v : StoreView). count_in v.tally.counts 0 0) c.self.view_is))) c.judge_count.ensures.other
+    absurd (no_damage (entries (map_of (g.S.Station.view c.args.station.now).held)) c.read_segment.new.page c.kept.result damage.0 (page_is g here told)
+    (c.kept.ensures ∙ ap (λ (v : StoreView). count_in v.tally.counts 0 0) (sym c.self.view_is) ∙ kept_is g here told) damage.1)) c.judge.ensures.damage
