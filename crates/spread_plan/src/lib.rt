@@ -18,8 +18,6 @@ pub use spread::SpreadMoves;
 mod laws;
 mod pack;
 mod spread;
-#[cfg(test)]
-mod tests;
 
 /// How many records a segment has room for.
 pub const SEGMENT_SLOTS: u32 = 64;

@@ -328,5 +328,3 @@ impl Tally {
     }
 }
 
-#[cfg(test)]
-mod tests;

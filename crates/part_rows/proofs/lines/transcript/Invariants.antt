@@ -1,6 +1,6 @@
 -- Each line takes a byte of what is held or may be taken.
 use Rattle.std.proofs.Common.{◌≡◌, ◌+◌, false, length}
-use Rattle.line_source.proofs.tests.transcript.Given as goal
+use Rattle.part_rows.proofs.lines.transcript.Given as goal
 
 abbrev pub invariant-lines : goal.invariant-lines
 invariant-lines l = l.reader.done ≡ false

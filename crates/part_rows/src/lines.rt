@@ -2,7 +2,7 @@
 
 ghost use Rattle.std.specs.Prelude.{◌≤◌};
 
-use super::{LineReader, LineStep, MemSource};
+use line_source::{LineReader, LineStep, MemSource};
 use std::alloc::{AllocError, Global};
 
 // The lines of a script in brackets, `!` for each long one, and how the reading ended.

@@ -1,4 +1,6 @@
-use super::{Move, PackMoves, SpreadMoves, share};
+//! Shares, and the moves of a rebalance.
+
+use spread_plan::{Move, PackMoves, SpreadMoves, share};
 
 fn step(from: u32, to: u32, count: u32) -> Move {
     Move { from, to, count }

@@ -1,4 +1,6 @@
-use super::{RawSlots, SLOT_SIZE};
+//! Slots side by side in memory.
+
+use raw_slots::{RawSlots, SLOT_SIZE};
 use std::test::Fail;
 
 const A: [u8; SLOT_SIZE] = [1; SLOT_SIZE];

@@ -1,6 +1,9 @@
+//! Counts of windows, and what an update asks for.
+
 ghost use Rattle.std.specs.Prelude.{◌≡◌};
 
-use super::*;
+use density_rule::Window;
+use window_tally::{Change, Pick, Since, Tally};
 use std::test::Fail;
 
 /// A window by height and number.
