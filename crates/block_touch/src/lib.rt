@@ -13,8 +13,6 @@ pub use self::laws::paths_touch_few_blocks;
 pub use self::trace::Trace;
 
 mod laws;
-#[cfg(test)]
-mod tests;
 mod trace;
 
 /// What a probe of an index tells.

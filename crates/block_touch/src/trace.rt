@@ -10,7 +10,7 @@ use std::marker::Model;
 const MOST: usize = 16;
 
 /// The positions of the nodes that a search visited, in order: at most 16.
-#[derive(Debug, Drop)]
+#[derive(Drop)]
 pub struct Trace {
     positions: [u32; MOST],
     len: u32,

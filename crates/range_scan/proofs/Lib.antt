@@ -1,0 +1,13 @@
+pub mod Walks
+pub mod Pages
+pub mod BoundLaws
+pub mod Standing
+pub mod Amid
+pub mod Inside
+pub mod Onward
+pub mod Giving
+pub mod Going
+pub mod Needed
+pub mod Checks
+pub mod Beginning
+pub mod Vectors

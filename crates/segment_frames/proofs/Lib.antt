@@ -1,0 +1,9 @@
+pub mod Slots
+pub mod Rows
+pub mod Moves
+pub mod RunNumbers
+pub mod FrameLaws
+pub mod MoveLaws
+pub mod ReadLaws
+pub mod LoadLaws
+pub mod FenceLaws
