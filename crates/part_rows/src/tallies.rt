@@ -3,8 +3,8 @@
 ghost use Rattle.std.specs.Prelude.{◌≡◌};
 
 use density_rule::Window;
-use window_tally::{Change, Pick, Since, Tally};
 use std::test::Fail;
+use window_tally::{Change, Pick, Since, Tally};
 
 /// A window by height and number.
 fn window(height: u32, number: u32) -> Window

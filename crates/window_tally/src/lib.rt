@@ -327,4 +327,3 @@ impl Tally {
         count_update(&mut self.marks, self.height, segment);
     }
 }
-
