@@ -1,12 +1,16 @@
-# make: builds ./pma.  make demo: makes a store and runs a script on it.  make check: the merge gate.
+# make: proves and builds ./pma.  make demo: makes a store and runs a script on it.  make check: the merge gate.
+# make install PREFIX=..: the program and its manual page.  make gate-times: how long the gate's parts take.
 
-.PHONY: all demo check
+.PHONY: all demo check install gate-times
+
+PREFIX ?= /usr/local
 
 all: pma
 
-# Only a proved program is built; the run without words, which ends with status 2, is what builds it.
-pma: $(shell find crates -name out -prune -o -type f -print)
-	-cd crates/pma_cli && rt run -- nothing
+# `rt run` proves the program with all that it stands on, builds it, and lets it make a store; it fails where any of that fails.
+pma: $(shell find crates crates.txt -name out -prune -o -type f -print)
+	rm -f pma crates/pma_cli/out/first.pma
+	cd crates/pma_cli && rt run -- create out/first.pma 0
 	cp crates/pma_cli/out/pma_cli pma
 
 demo: pma
@@ -17,3 +21,11 @@ demo: pma
 
 check:
 	.ci/run
+
+install: pma
+	install -d $(DESTDIR)$(PREFIX)/bin $(DESTDIR)$(PREFIX)/share/man/man1
+	install -m 755 pma $(DESTDIR)$(PREFIX)/bin/pma
+	install -m 644 docs/pma.1 $(DESTDIR)$(PREFIX)/share/man/man1/pma.1
+
+gate-times:
+	tools/gate-times.sh

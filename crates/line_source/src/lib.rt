@@ -13,5 +13,3 @@ mod buffer;
 mod mem;
 mod reader;
 mod source;
-#[cfg(test)]
-mod tests;

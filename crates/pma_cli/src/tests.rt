@@ -373,7 +373,11 @@ fn a_file_of_the_operating_system(rt: HostRuntime) -> Result<(), Fail> {
         most,
     );
     let _ = StdinSource::new(&rt).take(&mut [0; 1]);
+    let file = fs::read(&rt, "f")?;
     fs::remove_file(&rt, "f")?;
     assert_eq!(rt; (made, put, got), (0, 0, 0));
+    let (_, empty) = created(&rt, b"")?;
+    let (_, one) = session(&rt, empty.held(), b"put a 1\n", SMOOTH)?;
+    assert!(rt; file.as_slice() == one.held());
     Ok(())
 }

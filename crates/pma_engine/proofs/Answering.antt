@@ -1,37 +1,48 @@
 -- What a crash may leave of one command and its reply.
-use Rattle.std.proofs.Common.{◌≡◌, inl, inr, ℕ, ◌≤◌, List, ◌∷◌, [], ◌++◌, length, take, refl, sym, ◌∙◌, ap, subst}
-use Rattle.std.specs.List.{flat_map}
+use Rattle.std.proofs.Common.{◌≡◌, ◌⊎◌, inl, inr, ℕ, ◌≤◌, List, ◌∷◌, [], ◌++◌, length, take, Some, None, Ok, Err, refl, sym, ◌∙◌, ap, subst, arith}
+use Rattle.std.specs.Prelude.{IsOk, IsErrOf}
+use Rattle.std.specs.List.{flat_map, list_any}
 use Rattle.std.proofs.lemmas.List.{append-nil}
 use Rattle.station.specs.View.{View, Told, SaidTold, EachHeld, NothingPending, Lawful}
+use Rattle.station.specs.View.{Rose}
+use Rattle.station.specs.declared.travel.Travel.{Travel}
 use Rattle.station.specs.Steps.{Steps, Says, Run}
-use Rattle.station.proofs.Composition.{told_on}
-use Rattle.station.proofs.Sayings.{run_of_steps, run_of_says, run_on}
+use Rattle.station.proofs.Composition.{told_on, honest_back}
+use Rattle.station.proofs.Sayings.{run_of_steps, run_of_says, run_on, each_says}
+use Rattle.segment.specs.declared.fault.StoreFault.{StoreFault}
+use Rattle.segment.specs.declared.fault.StoreFault.TheVariants as store
+use Rattle.segment.specs.declared.fault.Damage.{Damage}
 use Rattle.map_model.specs.Store.{State}
 use Rattle.map_model.specs.Image.{RepresentsMap, map_of}
-use Rattle.pma_store.specs.Store.{StoreView, Stands, Becomes}
+use Rattle.pma_store.specs.Store.{StoreView, Stands, Becomes, LeavesAll}
+use Rattle.pma_store.specs.Answers.{state_in}
 use Rattle.command_text.specs.declared.command.Command.{Command}
 use Rattle.command_text.specs.declared.reply.Reply.{Reply}
 use Rattle.command_text.specs.Reply.{reply_text}
 use Rattle.command_text.specs.Answers.{answers, reply_of, step}
 use Rattle.pma_engine.specs.Session.{AnswerPair}
-use Rattle.pma_engine.proofs.StoreLaws.{held_stands}
+use Rattle.pma_engine.specs.declared.fault.ServeFault.TheVariants as serve
+use Rattle.pma_engine.specs.Faults.{fault_of}
+use Rattle.pma_engine.specs.Replies.{tells_change, ChangesNothing}
+use Rattle.pma_engine.specs.Carrying.{hmax_of, Travels, IsCarriedOut, Stays, Executes, AnswersLine}
+use Rattle.pma_engine.proofs.StoreLaws.{held_stands, nothing_says}
 
 -- the text of a reply of one line is the reply
-pub text_is : (s : State) (c : Command) (r : Reply) (text : List ℕ) → text ≡ reply_text r → r ∷ [] ≡ answers 0 s c → text ≡ reply_of 0 s c
-text_is s c r text is one = is ∙ sym (append-nil (reply_text r)) ∙ ap (flat_map reply_text) one
+text_is : (hmax : ℕ) (s : State) (c : Command) (r : Reply) (text : List ℕ) → text ≡ reply_text r → r ∷ [] ≡ answers hmax s c → text ≡ reply_of hmax s c
+text_is hmax s c r text is one = is ∙ sym (append-nil (reply_text r)) ∙ ap (flat_map reply_text) one
 
 -- before the reply
-pub run_before : (a b : View) (s : State) (c : Command) → Steps (Becomes s.map (step 0 s c).map) a b → Run (AnswerPair 0 s c a.said) a b
-run_before a b s c ab = run_of_steps (AnswerPair 0 s c a.said) ab (λ honest start image left becomes. inl (refl, becomes))
+run_before : (hmax : ℕ) (a b : View) (s : State) (c : Command) → Steps (Becomes s.map (step hmax s c).map) a b → Run (AnswerPair hmax s c a.said) a b
+run_before hmax a b s c ab = run_of_steps (AnswerPair hmax s c a.said) ab (λ honest start image left becomes. inl (refl, becomes))
 
 -- with the reply
-pub run_with : (a b d : View) (s : State) (c : Command) (view : StoreView) (text : List ℕ) → Lawful a → Steps (Becomes s.map (step 0 s c).map) a b → NothingPending b → EachHeld (Stands view) b
-    → (Told a → map_of b.held ≡ (step 0 s c).map) → (Told a → text ≡ reply_of 0 s c) → Says text b d → Run (AnswerPair 0 s c a.said) a d
-run_with a b d s c view text law ab nothing store map text_of says = run_on (AnswerPair 0 s c a.said) (run_before a b s c ab) (run_of_says (AnswerPair 0 s c a.said) says (λ honest image n left within.
+run_with : (hmax : ℕ) (a b d : View) (s : State) (c : Command) (view : StoreView) (text : List ℕ) → Lawful a → Steps (Becomes s.map (step hmax s c).map) a b → NothingPending b → EachHeld (Stands view) b
+    → (Told a → map_of b.held ≡ (step hmax s c).map) → (Told a → text ≡ reply_of hmax s c) → Says text b d → Run (AnswerPair hmax s c a.said) a d
+run_with hmax a b d s c view text law ab nothing store map text_of says = run_on (AnswerPair hmax s c a.said) (run_before hmax a b s c ab) (run_of_says (AnswerPair hmax s c a.said) says (λ honest image n left within.
     let told_b : Told b = ap (λ f. f.tells_held) ab.frame.fixed ∙ (law.tells (ap (λ f. f.honest) (sym ab.frame.fixed) ∙ honest)).0 in
     let told : Told a = ap (λ f. f.tells_held) (sym ab.frame.fixed) ∙ told_b in
     let held : image ≡ b.held = nothing honest image left in
-    let is : text ≡ reply_of 0 s c = text_of told in
+    let is : text ≡ reply_of hmax s c = text_of told in
     let represents : RepresentsMap b.held (map_of b.held) = held_stands view b store told_b in
     inr (
       (n, subst (λ (l : List ℕ). n ≤ length l) is within, ap (λ (l : List ℕ). l ++ take n text) ab.frame.said ∙ ap (λ (l : List ℕ). a.said ++ take n l) is),
@@ -41,16 +52,164 @@ run_with a b d s c view text law ab nothing store map text_of says = run_on (Ans
 
 -- The pair of held and said bytes, on a station that tells both.
 
-pub pair_before : (a b : View) (s : State) (c : Command) → Steps (Becomes s.map (step 0 s c).map) a b → Told a → AnswerPair 0 s c a.said b.held b.said
-pair_before a b s c ab told = inl (ab.frame.said, ab.held told)
+pair_before : (hmax : ℕ) (a b : View) (s : State) (c : Command) → Steps (Becomes s.map (step hmax s c).map) a b → Told a → AnswerPair hmax s c a.said b.held b.said
+pair_before hmax a b s c ab told = inl (ab.frame.said, ab.held told)
 
-pub pair_with : (a b d : View) (s : State) (c : Command) (view : StoreView) (text : List ℕ) → Steps (Becomes s.map (step 0 s c).map) a b → EachHeld (Stands view) b
-    → (Told a → map_of b.held ≡ (step 0 s c).map) → (Told a → text ≡ reply_of 0 s c) → Says text b d → Told a → SaidTold a → AnswerPair 0 s c a.said d.held d.said
-pair_with a b d s c view text ab store map text_of says told said_told =
+pair_with : (hmax : ℕ) (a b d : View) (s : State) (c : Command) (view : StoreView) (text : List ℕ) → Steps (Becomes s.map (step hmax s c).map) a b → EachHeld (Stands view) b
+    → (Told a → map_of b.held ≡ (step hmax s c).map) → (Told a → text ≡ reply_of hmax s c) → Says text b d → Told a → SaidTold a → AnswerPair hmax s c a.said d.held d.said
+pair_with hmax a b d s c view text ab store map text_of says told said_told =
     let taken = says.taken (ap (λ f. f.tells_said) ab.frame.fixed ∙ said_told) in
-    let is : text ≡ reply_of 0 s c = text_of told in
+    let is : text ≡ reply_of hmax s c = text_of told in
     let represents : RepresentsMap b.held (map_of b.held) = held_stands view b store (told_on ab.frame told) in
     inr (
       (taken.0, subst (λ (l : List ℕ). taken.0 ≤ length l) is taken.1, taken.2 ∙ ap (λ (l : List ℕ). l ++ take taken.0 text) ab.frame.said ∙ ap (λ (l : List ℕ). a.said ++ take taken.0 l) is),
       subst (RepresentsMap d.held) (map told) (subst (λ (x : List ℕ). RepresentsMap x (map_of b.held)) (sym says.held) represents),
     )
+
+-- The whole answer.
+
+stays_none : (s t : StoreView) (a b : View) → NothingPending a → LeavesAll s t a b → Stays s t a b
+stays_none s t a b nothing leaves = record {
+  run = run_of_steps (λ image said. image ≡ a.held) leaves.steps (λ honest start image left same. same ∙ nothing honest start left);
+  held = leaves.steps.held;
+  unwritten = leaves.unwritten;
+  store = leaves.store;
+}
+
+stays_says : (s t : StoreView) (a b d : View) (text : List ℕ) → NothingPending a → LeavesAll s t a b → Says text b d → Stays s t a d
+stays_says s t a b d text nothing leaves says =
+    let P : List ℕ → List ℕ → Type 0 = λ image said. image ≡ a.held in
+    record {
+      run = run_on P (stays_none s t a b nothing leaves).run
+          (run_of_says P says (λ honest image n left within.
+          let from = leaves.steps.images (honest_back leaves.steps.frame honest) image left in
+          from.2 ∙ nothing (honest_back leaves.steps.frame honest) from.0 from.1))
+          (λ honest image said pair. pair) (λ honest image said pair. pair);
+      held = λ told. says.held ∙ leaves.steps.held told;
+      unwritten = ap (λ (t : Travel). t.written) says.travel ∙ leaves.unwritten;
+      store = leaves.store;
+    }
+
+module _ (c : Command) (s t : StoreView) (a b : View) (law : Lawful a) (nothing : NothingPending a) where
+  -- it asks for nothing
+  pub answers_nothing : {T : Type 0} (x : T) → Executes c (Ok None) s t a b → AnswersLine c (Ok x) s t a b
+  answers_nothing x e = record {
+    run = run_before (hmax_of s) a b (state_in a.held) c e.steps;
+    pair = λ told said_told. pair_before (hmax_of s) a b (state_in a.held) c e.steps told;
+    done = λ done. e.done;
+    replied = λ told said_told. e.steps.frame.said ∙ sym (append-nil a.said) ∙ ap (λ (rs : List Reply). a.said ++ flat_map reply_text rs) (e.answer told);
+    quiet = λ done told quiet. stays_none s t a b nothing (e.quiet refl);
+    travels = e.travels;
+    place = e.place;
+    closed = tt;
+    disk = λ is. absurd cc;
+    reply = λ is. absurd cc;
+    damage = λ segment why is. absurd cc;
+    sound = tt;
+    never = tt;
+  }
+
+  -- the store met a fault
+  pub answers_fault : (T : Type 0) (fault : StoreFault) → Executes c (Err fault) s t a b → AnswersLine {T = T} c (Err (fault_of fault)) s t a b
+  answers_fault T store.Failed e = record {
+    run = run_before (hmax_of s) a b (state_in a.held) c e.steps;
+    pair = λ told said_told. pair_before (hmax_of s) a b (state_in a.held) c e.steps told;
+    done = λ done. absurd (neither done);
+    replied = tt;
+    quiet = λ done. absurd (neither done);
+    travels = e.travels;
+    place = e.place;
+    closed = e.closed;
+    disk = λ is. e.failed refl;
+    reply = λ is. absurd cc;
+    damage = λ segment why is. absurd cc;
+    sound = λ told. tt;
+    never = tt;
+  }
+    where
+      neither : IsOk {T = T} (Err serve.Disk) ⊎ IsErrOf {T = T} (Err serve.Disk) serve.Reply → ⊥
+      neither (inl is) = cc
+      neither (inr is) = cc
+  answers_fault T (store.Damaged segment why) e = record {
+    run = run_before (hmax_of s) a b (state_in a.held) c e.steps;
+    pair = λ told said_told. pair_before (hmax_of s) a b (state_in a.held) c e.steps told;
+    done = λ done. absurd (neither done);
+    replied = tt;
+    quiet = λ done. absurd (neither done);
+    travels = e.travels;
+    place = e.place;
+    closed = e.closed;
+    disk = λ is. absurd cc;
+    reply = λ is. absurd cc;
+    damage = λ n other is. e.damage segment why refl;
+    sound = λ told. absurd (told_fault (e.sound told));
+    never = tt;
+  }
+    where
+      told_fault : store.Damaged segment why ≡ store.Failed → ⊥
+      told_fault is = cc
+
+      neither : IsOk {T = T} (Err (serve.Damaged segment why)) ⊎ IsErrOf {T = T} (Err (serve.Damaged segment why)) serve.Reply → ⊥
+      neither (inl is) = cc
+      neither (inr is) = cc
+
+  module _ (r : Reply) (d : View) (text : List ℕ) (e : Executes c (Ok (Some r)) s t a b) (text_of : text ≡ reply_text r) (says : Says text b d) where
+    is_reply : Told a → text ≡ reply_of (hmax_of s) (state_in a.held) c
+    is_reply told = text_is (hmax_of s) (state_in a.held) c r text text_of (e.answer told)
+
+    carried : IsCarriedOut c s t a d
+    carried = record {
+      state = λ told. ap state_in says.held ∙ e.done.state told;
+      store = each_says (Stands t) says e.done.store;
+      settled = nothing_says says e.done.settled;
+      opened = e.done.opened;
+    }
+
+    stays : Told a → ChangesNothing (hmax_of s) (state_in a.held) c → Stays s t a d
+    stays told quiet = stays_says s t a b d text nothing (e.quiet (ap (list_any tells_change) (e.answer told) ∙ quiet)) says
+
+    runs : Run (AnswerPair (hmax_of s) (state_in a.held) c a.said) a d
+    runs = run_with (hmax_of s) a b d (state_in a.held) c t text law e.steps e.done.settled e.done.store (λ told. ap (λ (x : State). x.map) (e.done.state told)) is_reply says
+
+    pairs : Told a → SaidTold a → AnswerPair (hmax_of s) (state_in a.held) c a.said d.held d.said
+    pairs = pair_with (hmax_of s) a b d (state_in a.held) c t text e.steps e.done.store (λ told. ap (λ (x : State). x.map) (e.done.state told)) is_reply says
+
+    travelled : Travels c a.travel d.travel
+    travelled = subst (Travels c a.travel) (sym says.travel) e.travels
+
+    -- the reply was said
+    pub answers_said : {T : Type 0} (x : T) → (SaidTold b → d.said ≡ b.said ++ text) → AnswersLine c (Ok x) s t a d
+    answers_said x all = record {
+      run = runs;
+      pair = pairs;
+      done = λ done. carried;
+      replied = λ told said_told.
+          all (ap (λ f. f.tells_said) e.steps.frame.fixed ∙ said_told) ∙ ap (λ (l : List ℕ). l ++ text) e.steps.frame.said ∙ ap (λ (l : List ℕ). a.said ++ l) (is_reply told);
+      quiet = λ done. stays;
+      travels = travelled;
+      place = e.place;
+      closed = tt;
+      disk = λ is. absurd cc;
+      reply = λ is. absurd cc;
+      damage = λ segment why is. absurd cc;
+      sound = tt;
+      never = tt;
+    }
+
+    -- it could not be said whole
+    pub answers_cut : (T : Type 0) → Rose b.say_faults d.say_faults → AnswersLine {T = T} c (Err serve.Reply) s t a d
+    answers_cut T rose = record {
+      run = runs;
+      pair = pairs;
+      done = λ done. carried;
+      replied = tt;
+      quiet = λ done. stays;
+      travels = travelled;
+      place = e.place;
+      closed = e.done.opened;
+      disk = λ is. absurd cc;
+      reply = λ is. omega (arith, rose, e.steps.frame.say_faults);
+      damage = λ segment why is. absurd cc;
+      sound = λ told. tt;
+      never = tt;
+    }

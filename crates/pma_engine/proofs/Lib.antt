@@ -1,4 +1,5 @@
 pub mod StoreLaws
+pub mod Executing
 pub mod SessionLaws
 pub mod ScriptCommands
 pub mod CommandLines

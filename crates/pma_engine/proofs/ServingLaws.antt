@@ -1,14 +1,18 @@
 -- The serving of a script, from command to command.
-use Rattle.std.proofs.Common.{◌≡◌, inl, inr, ℕ, zero, suc, List, [], ◌∷◌, ◌++◌, refl, sym, ◌∙◌, ap, subst, arith, append_assoc, false}
-use Rattle.std.proofs.lemmas.List.{append-nil}
+use Rattle.std.proofs.Common.{◌≡◌, inl, inr, ℕ, zero, suc, ◌≤◌, Bool, true, false, List, [], ◌∷◌, ◌++◌, length, take, drop, Result, Err, refl, sym, ◌∙◌, ap, subst, arith, append_assoc, length-append}
+use Rattle.std.specs.Prelude.{IsErrOf, if◌then◌else◌}
+use Rattle.std.proofs.lemmas.List.{append-nil, take-append-drop}
 use Rattle.station.specs.View.{View, Told, SaidTold, EachHeld, NothingPending, Lawful}
 use Rattle.station.specs.Steps.{Run}
 use Rattle.station.proofs.Sayings.{run_none, run_on}
-use Rattle.line_source.specs.Lines.{raw_lines}
+use Rattle.line_source.specs.Lines.{raw_lines, most_held}
+use Rattle.line_source.specs.LineStep.{Takes}
+use Rattle.line_source.proofs.Reading.{took_on}
 use Rattle.line_source.specs.SourceView.{SourceView, Went}
 use Rattle.line_source.specs.SourceView as source
 use Rattle.line_source.specs.ReaderView.{ReaderView, rest}
-use Rattle.line_source.specs.Progress.{HasGiven}
+use Rattle.line_source.specs.Progress.{HasGiven, IsCutShort, GivesAll}
+use Rattle.line_source.specs.declared.reader.LineStep.TheVariants.{End}
 use Rattle.line_source.proofs.Progress.{given-none}
 use Rattle.map_model.specs.Store.{State}
 use Rattle.map_model.specs.Image.{RepresentsMap}
@@ -18,64 +22,70 @@ use Rattle.command_text.specs.Script.{command_of_raw, commands_in, commands_of}
 use Rattle.command_text.specs.Answers.{reply_of, step}
 use Rattle.pma_store.specs.Store.{StoreView, Stands}
 use Rattle.pma_engine.specs.Session.{state_after, replies_after, Headline, AnswerPair}
-use Rattle.pma_engine.specs.Serving.{GivesCommand, ScriptPair, IsServed}
-use Rattle.pma_engine.specs.Replies.{state_in}
+use Rattle.pma_engine.specs.Serving.{GivesCommand, IsNextCommand, ScriptPair, IsServed, IsServedToCut, IsCutInReply, TakesAtMost}
+use Rattle.pma_engine.specs.declared.fault.ServeFault.{ServeFault}
+use Rattle.pma_engine.specs.declared.fault.ServeFault.TheVariants.{Disk, Damaged, Script, Reply, Spent}
+use Rattle.pma_engine.specs.Carrying.{hmax_of, IsCarriedOut, AnswersLine}
+use Rattle.redo_journal.specs.declared.place.Place.{Place}
+use Rattle.pma_store.specs.Answers.{state_in}
 use Rattle.pma_engine.proofs.StoreLaws.{held_stands}
 use Rattle.pma_engine.proofs.SessionLaws.{headline_of, headline_at, state_after-append, replies_after-append}
 use Rattle.pma_engine.proofs.ScriptCommands.{if_any_is, commands_in-nothing, commands_in-some, commands_in-append, all_answered}
 
 -- the lines given so far were answered, and nothing is under way
-pub record Serving (a0 : View) (r0 : ReaderView) (s0 : SourceView) (a : View) (r : ReaderView) (s : SourceView) (view : StoreView) : Type 0 where
+pub record Serving (hmax : ℕ) (a0 : View) (r0 : ReaderView) (s0 : SourceView) (a : View) (r : ReaderView) (s : SourceView) (view : StoreView) : Type 0 where
   pub given : List (List ℕ)
   pub reading : HasGiven r0 s0 given r s
-  pub run : Run (ScriptPair a0 r0 s0) a0 a
+  pub place : hmax_of view ≡ hmax
+  pub run : Run (ScriptPair hmax a0 r0 s0) a0 a
   pub store : EachHeld (Stands view) a
   pub nothing : NothingPending a
-  pub served : source.Told s0 → Told a0 → IsServed a0 (commands_in given) a
+  pub served : source.Told s0 → Told a0 → IsServed hmax a0 (commands_in given) a
 
 -- at the start nothing was answered
-pub serving_start : (a : View) (r : ReaderView) (s : SourceView) (view : StoreView) → r.done ≡ false → EachHeld (Stands view) a → NothingPending a → Serving a r s a r s view
-serving_start a r s view fresh store nothing = record {
+pub serving_start : (hmax : ℕ) (a : View) (r : ReaderView) (s : SourceView) (view : StoreView) → hmax_of view ≡ hmax → r.done ≡ false → EachHeld (Stands view) a → NothingPending a → Serving hmax a r s a r s view
+serving_start hmax a r s view place fresh store nothing = record {
   given = [];
   reading = given-none r s fresh;
-  run = run_none (ScriptPair a r s) a;
+  place = place;
+  run = run_none (ScriptPair hmax a r s) a;
   store = store;
   nothing = nothing;
   served = λ told told_a. record { said = λ said_told. sym (append-nil a.said); state = refl; stands = held_stands view a store told_a };
 }
 
 -- one line: its command's reply, and the state after it
-pub one_reply : (s : State) (raw : List ℕ) (c : Command) → c ≡ command_of_raw raw → replies_after 0 s (commands_in (raw ∷ [])) ≡ reply_of 0 s c
-one_reply s raw c is = elim (if_any_is (command_of_raw raw)) [
-  | inl nothing ↦ ap (replies_after 0 s) (commands_in-nothing raw [] nothing.0) ∙ ap (reply_of 0 s) (sym nothing.1 ∙ sym is)
-  | inr some ↦ ap (replies_after 0 s) (commands_in-some raw (command_of_raw raw) [] some) ∙ append-nil (reply_of 0 s (command_of_raw raw)) ∙ ap (reply_of 0 s) (sym is)
+one_reply : (hmax : ℕ) (s : State) (raw : List ℕ) (c : Command) → c ≡ command_of_raw raw → replies_after hmax s (commands_in (raw ∷ [])) ≡ reply_of hmax s c
+one_reply hmax s raw c is = elim (if_any_is (command_of_raw raw)) [
+  | inl nothing ↦ ap (replies_after hmax s) (commands_in-nothing raw [] nothing.0) ∙ ap (reply_of hmax s) (sym nothing.1 ∙ sym is)
+  | inr some ↦ ap (replies_after hmax s) (commands_in-some raw (command_of_raw raw) [] some) ∙ append-nil (reply_of hmax s (command_of_raw raw)) ∙ ap (reply_of hmax s) (sym is)
 ]
 
-pub one_step : (s : State) (raw : List ℕ) (c : Command) → c ≡ command_of_raw raw → state_after 0 s (commands_in (raw ∷ [])) ≡ step 0 s c
-one_step s raw c is = elim (if_any_is (command_of_raw raw)) [
-  | inl nothing ↦ ap (state_after 0 s) (commands_in-nothing raw [] nothing.0) ∙ ap (step 0 s) (sym nothing.1 ∙ sym is)
-  | inr some ↦ ap (state_after 0 s) (commands_in-some raw (command_of_raw raw) [] some) ∙ ap (step 0 s) (sym is)
+one_step : (hmax : ℕ) (s : State) (raw : List ℕ) (c : Command) → c ≡ command_of_raw raw → state_after hmax s (commands_in (raw ∷ [])) ≡ step hmax s c
+one_step hmax s raw c is = elim (if_any_is (command_of_raw raw)) [
+  | inl nothing ↦ ap (state_after hmax s) (commands_in-nothing raw [] nothing.0) ∙ ap (step hmax s) (sym nothing.1 ∙ sym is)
+  | inr some ↦ ap (state_after hmax s) (commands_in-some raw (command_of_raw raw) [] some) ∙ ap (step hmax s) (sym is)
 ]
 
 -- what is no command leaves the map, and nothing is said
-pair_nothing : (s : State) (c : Command) (said_before image said : List ℕ) → c ≡ Nothing → AnswerPair 0 s c said_before image said → (said ≡ said_before) × RepresentsMap image s.map
-pair_nothing s c said_before image said is pair = by (subst (λ (d : Command). AnswerPair 0 s d said_before image said) is pair)
+pair_nothing : (hmax : ℕ) (s : State) (c : Command) (said_before image said : List ℕ) → c ≡ Nothing → AnswerPair hmax s c said_before image said → (said ≡ said_before) × RepresentsMap image s.map
+pair_nothing hmax s c said_before image said is pair = by (subst (λ (d : Command). AnswerPair hmax s d said_before image said) is pair)
   where
-    by : AnswerPair 0 s Nothing said_before image said → (said ≡ said_before) × RepresentsMap image s.map
+    by : AnswerPair hmax s Nothing said_before image said → (said ≡ said_before) × RepresentsMap image s.map
     by (inl (same, inl old)) = (same, old)
     by (inl (same, inr new)) = (same, new)
     by (inr ((zero, within, same), new)) = (same ∙ append-nil said_before, new)
     by (inr ((suc n, within, same), new)) = absurd (omega (arith, within))
 
-module _ (a0 : View) (r0 : ReaderView) (s0 : SourceView) (a : View) (r : ReaderView) (s : SourceView) (view : StoreView) (here : Serving a0 r0 s0 a r s view) where
+module _ (hmax : ℕ) (a0 : View) (r0 : ReaderView) (s0 : SourceView) (a : View) (r : ReaderView) (s : SourceView) (view : StoreView) (here : Serving hmax a0 r0 s0 a r s view) where
   -- what is held at rest, with what was said
-  pub pair_at_rest : Told a0 → SaidTold a0 → ScriptPair a0 r0 s0 a.held a.said
+  pub pair_at_rest : Told a0 → SaidTold a0 → ScriptPair hmax a0 r0 s0 a.held a.said
   pair_at_rest told said_told told_s =
       let served = here.served told_s told in
       let later = commands_in (raw_lines (rest r s)) in
       let commands : commands_of (rest r0 s0) ≡ commands_in here.given ++ later = ap commands_in (here.reading.lines told_s) ∙ commands_in-append here.given (raw_lines (rest r s)) in
-      subst (λ (cs : List Command). Headline 0 (state_in a0.held) cs a0.said a.held a.said) (sym commands)
-      (headline_at 0 (state_in a0.held) (commands_in here.given) later a0.said a.held a.said (all_answered 0 (state_in a0.held) here.given) (served.said said_told)
+      subst (λ (cs : List Command). Headline hmax (state_in a0.held) cs a0.said a.held a.said) (sym commands)
+      (headline_at hmax (state_in a0.held) (commands_in here.given) later a0.said a.held a.said (all_answered hmax (state_in a0.held) here.given) (served.said said_told)
       served.stands)
 
   module _ (c : Command) (b : View) (r1 : ReaderView) (s1 : SourceView) (next : GivesCommand r0 s0 here.given c r1 s1) where
@@ -86,56 +96,148 @@ module _ (a0 : View) (r0 : ReaderView) (s0 : SourceView) (a : View) (r : ReaderV
         ∙ commands_in-append here.given (next.raw ∷ raw_lines (rest r1 s1))
 
     -- a pair of the present command
-    pub pair_turn : (image said : List ℕ) → source.Told s0 → Told a0 → SaidTold a0 → AnswerPair 0 (state_in a.held) c a.said image said → Headline 0 (state_in a0.held) (commands_of (rest r0 s0)) a0.said image said
+    pair_turn : (image said : List ℕ) → source.Told s0 → Told a0 → SaidTold a0 → AnswerPair hmax (state_in a.held) c a.said image said → Headline hmax (state_in a0.held) (commands_of (rest r0 s0)) a0.said image said
     pair_turn image said told_s told said_told pair =
         let served = here.served told_s told in
-        let s_now = state_after 0 (state_in a0.held) (commands_in here.given) in
+        let s_now = state_after hmax (state_in a0.held) (commands_in here.given) in
         let later = commands_in (raw_lines (rest r1 s1)) in
-        let answered = all_answered 0 (state_in a0.held) here.given in
-        let at_state : AnswerPair 0 s_now c a.said image said = subst (λ (t : State). AnswerPair 0 t c a.said image said) served.state pair in
+        let answered = all_answered hmax (state_in a0.held) here.given in
+        let at_state : AnswerPair hmax s_now c a.said image said = subst (λ (t : State). AnswerPair hmax t c a.said image said) served.state pair in
         elim (if_any_is (command_of_raw next.raw)) [
           | inl nothing ↦
-              let same = pair_nothing s_now c a.said image said (next.command_is told_s ∙ nothing.1) at_state in
-              subst (λ (cs : List Command). Headline 0 (state_in a0.held) cs a0.said image said) (sym (commands_are told_s ∙ ap (λ (l : List Command). commands_in here.given ++ l) (commands_in-nothing next.raw (raw_lines (rest r1 s1)) nothing.0)))
-              (headline_at 0 (state_in a0.held) (commands_in here.given) later a0.said image said answered (same.0 ∙ served.said said_told) same.1)
+              let same = pair_nothing hmax s_now c a.said image said (next.command_is told_s ∙ nothing.1) at_state in
+              subst (λ (cs : List Command). Headline hmax (state_in a0.held) cs a0.said image said) (sym (commands_are told_s ∙ ap (λ (l : List Command). commands_in here.given ++ l) (commands_in-nothing next.raw (raw_lines (rest r1 s1)) nothing.0)))
+              (headline_at hmax (state_in a0.held) (commands_in here.given) later a0.said image said answered (same.0 ∙ served.said said_told) same.1)
           | inr some ↦
-              subst (λ (cs : List Command). Headline 0 (state_in a0.held) cs a0.said image said)
+              subst (λ (cs : List Command). Headline hmax (state_in a0.held) cs a0.said image said)
               (sym (commands_are told_s ∙ ap (λ (l : List Command). commands_in here.given ++ l) (commands_in-some next.raw (command_of_raw next.raw) (raw_lines (rest r1 s1)) some)))
-              (headline_of 0 (state_in a0.held) (commands_in here.given) (command_of_raw next.raw) later a0.said a.said image said answered (served.said said_told)
-              (subst (λ (d : Command). AnswerPair 0 s_now d a.said image said) (next.command_is told_s) at_state))
+              (headline_of hmax (state_in a0.held) (commands_in here.given) (command_of_raw next.raw) later a0.said a.said image said answered (served.said said_told)
+              (subst (λ (d : Command). AnswerPair hmax s_now d a.said image said) (next.command_is told_s) at_state))
         ]
 
-    -- all moments up to the end of the present command
-    pub run_turn : Lawful a0 → Run (AnswerPair 0 (state_in a.held) c a.said) a b → Run (ScriptPair a0 r0 s0) a0 b
-    run_turn law run = run_on (ScriptPair a0 r0 s0) here.run run (λ honest image said pair. pair) (λ honest image said pair told_s. pair_turn image said told_s (law.tells honest).0 (law.tells honest).1 pair)
+    told_now : Told a0 → Told a
+    told_now told = ap (λ f. f.tells_held) here.run.fixed ∙ told
 
-    -- the present command was answered
-    pub served_turn : (view1 : StoreView) → Lawful a0 → Run (AnswerPair 0 (state_in a.held) c a.said) a b → EachHeld (Stands view1) b → NothingPending b
-        → (Told a → state_in b.held ≡ step 0 (state_in a.held) c) → (Told a → SaidTold a → b.said ≡ a.said ++ reply_of 0 (state_in a.held) c) → Serving a0 r0 s0 b r1 s1 view1
-    served_turn view1 law run store nothing state replied = record {
-      given = here.given ++ next.raw ∷ [];
-      reading = next.more;
-      run = run_turn law run;
-      store = store;
-      nothing = nothing;
-      served = λ told_s told.
+    said_told_now : SaidTold a0 → SaidTold a
+    said_told_now told = ap (λ f. f.tells_said) here.run.fixed ∙ told
+
+    -- the commands up to this one
+    so_far : List Command
+    so_far = commands_in (here.given ++ next.raw ∷ [])
+
+    module _ {T : Type 0} (result : Result T ServeFault) (view1 : StoreView) (answers : AnswersLine c result view view1 a b) where
+      -- all moments up to the end of the present command
+      pub run_turn : Lawful a0 → Run (ScriptPair hmax a0 r0 s0) a0 b
+      run_turn law = run_on (ScriptPair hmax a0 r0 s0) here.run (subst (λ (n : ℕ). Run (AnswerPair n (state_in a.held) c a.said) a b) here.place answers.run)
+          (λ honest image said pair. pair) (λ honest image said pair told_s. pair_turn image said told_s (law.tells honest).0 (law.tells honest).1 pair)
+
+      -- what is held at its end, with what was said
+      pub held_turn : Told a0 → SaidTold a0 → ScriptPair hmax a0 r0 s0 b.held b.said
+      held_turn told said_told told_s = pair_turn b.held b.said told_s told said_told
+          (subst (λ (n : ℕ). AnswerPair n (state_in a.held) c a.said b.held b.said) here.place (answers.pair (told_now told) (said_told_now said_told)))
+
+      -- the state after it
+      state_turn : IsCarriedOut c view view1 a b → source.Told s0 → Told a0 → state_in b.held ≡ state_after hmax (state_in a0.held) so_far
+      unfolding so_far
+      state_turn done told_s told =
           let served = here.served told_s told in
-          let told_a : Told a = ap (λ f. f.tells_held) here.run.fixed ∙ told in
-          let s_now = state_after 0 (state_in a0.held) (commands_in here.given) in
-          let commands : commands_in (here.given ++ next.raw ∷ []) ≡ commands_in here.given ++ commands_in (next.raw ∷ []) = commands_in-append here.given (next.raw ∷ []) in
-          let state_is : state_in b.held ≡ state_after 0 (state_in a0.held) (commands_in (here.given ++ next.raw ∷ [])) =
-          state told_a ∙ ap (λ (t : State). step 0 t c) served.state ∙ sym (one_step s_now next.raw c (next.command_is told_s))
-          ∙ sym (state_after-append 0 (state_in a0.held) (commands_in here.given) (commands_in (next.raw ∷ [])))
-          ∙ ap (state_after 0 (state_in a0.held)) (sym commands) in
+          done.state (told_now told)
+          ∙ (λ t. step (here.place t) (served.state t) c)
+          ∙ sym (one_step hmax (state_after hmax (state_in a0.held) (commands_in here.given)) next.raw c (next.command_is told_s))
+          ∙ sym (state_after-append hmax (state_in a0.held) (commands_in here.given) (commands_in (next.raw ∷ [])))
+          ∙ ap (state_after hmax (state_in a0.held)) (sym (commands_in-append here.given (next.raw ∷ [])))
+
+      stands_turn : IsCarriedOut c view view1 a b → source.Told s0 → Told a0 → RepresentsMap b.held (state_after hmax (state_in a0.held) so_far).map
+      stands_turn done told_s told =
+          subst (λ (t : State). RepresentsMap b.held t.map) (state_turn done told_s told) (held_stands view1 b done.store (ap (λ f. f.tells_held) answers.run.fixed ∙ told_now told))
+
+      -- the replies up to its own
+      replies_turn : source.Told s0 → Told a0 → SaidTold a0 → a.said ++ reply_of (hmax_of view) (state_in a.held) c ≡ a0.said ++ replies_after hmax (state_in a0.held) so_far
+      unfolding so_far
+      replies_turn told_s told said_told =
+          let served = here.served told_s told in
+          let s_now = state_after hmax (state_in a0.held) (commands_in here.given) in
+          (λ t. served.said said_told t ++ reply_of (here.place t) (served.state t) c)
+          ∙ append_assoc a0.said (replies_after hmax (state_in a0.held) (commands_in here.given)) (reply_of hmax s_now c)
+          ∙ ap (λ (l : List ℕ). a0.said ++ (replies_after hmax (state_in a0.held) (commands_in here.given) ++ l)) (sym (one_reply hmax s_now next.raw c (next.command_is told_s)))
+          ∙ ap (λ (l : List ℕ). a0.said ++ l) (sym (replies_after-append hmax (state_in a0.held) (commands_in here.given) (commands_in (next.raw ∷ []))))
+          ∙ ap (λ (cs : List Command). a0.said ++ replies_after hmax (state_in a0.held) cs) (sym (commands_in-append here.given (next.raw ∷ [])))
+
+      -- the present command was answered
+      pub served_turn : Lawful a0 → IsCarriedOut c view view1 a b → (Told a → SaidTold a → b.said ≡ a.said ++ reply_of (hmax_of view) (state_in a.held) c) → Serving hmax a0 r0 s0 b r1 s1 view1
+      unfolding so_far
+      served_turn law done replied = record {
+        given = here.given ++ next.raw ∷ [];
+        reading = next.more;
+        place = ap (λ (p : Place). p.layout.hmax) answers.place ∙ here.place;
+        run = run_turn law;
+        store = done.store;
+        nothing = done.settled;
+        served = λ told_s told. record {
+          said = λ said_told. replied (told_now told) (said_told_now said_told) ∙ replies_turn told_s told said_told;
+          state = state_turn done told_s told;
+          stands = stands_turn done told_s told;
+        };
+      }
+
+      -- a front of its reply was said, or nothing of it
+      cut_of : AnswerPair (hmax_of view) (state_in a.held) c a.said b.held b.said → (cut : List ℕ) × (b.said ++ cut ≡ a.said ++ reply_of (hmax_of view) (state_in a.held) c)
+      cut_of (inl (same, either)) = (reply_of (hmax_of view) (state_in a.held) c, ap (λ (l : List ℕ). l ++ reply_of (hmax_of view) (state_in a.held) c) same)
+      cut_of (inr ((n, within, is), stands)) =
+          let r = reply_of (hmax_of view) (state_in a.held) c in
+          (drop n r, ap (λ (l : List ℕ). l ++ drop n r) is ∙ append_assoc a.said (take n r) (drop n r) ∙ ap (λ (l : List ℕ). a.said ++ l) (take-append-drop n r))
+
+      -- its reply could not be said whole
+      pub cut_turn : IsErrOf result Reply → length r1.held ≤ most_held → source.Told s0 → Told a0 → r0.ended ≡ false → IsCutInReply hmax (state_in a0.held) (rest r0 s0) s1.left a0 b
+      unfolding so_far
+      cut_turn is few told_s told open_before =
+          let done = answers.done (inr is) in
           record {
+            lines = here.given ++ next.raw ∷ [];
+            ahead = r1.held;
+            are = next.more.lines told_s ∙ ap (λ (l : List ℕ). (here.given ++ next.raw ∷ []) ++ raw_lines l) (rest_is r1.ended refl);
+            few = few;
             said = λ said_told.
-                replied told_a (ap (λ f. f.tells_said) here.run.fixed ∙ said_told)
-                ∙ ap (λ (l : List ℕ). l ++ reply_of 0 (state_in a.held) c) (served.said said_told)
-                ∙ append_assoc a0.said (replies_after 0 (state_in a0.held) (commands_in here.given)) (reply_of 0 (state_in a.held) c)
-                ∙ ap (λ (l : List ℕ). a0.said ++ (replies_after 0 (state_in a0.held) (commands_in here.given) ++ l)) (ap (λ (t : State). reply_of 0 t c) served.state ∙ sym (one_reply s_now next.raw c (next.command_is told_s)))
-                ∙ ap (λ (l : List ℕ). a0.said ++ l) (sym (replies_after-append 0 (state_in a0.held) (commands_in here.given) (commands_in (next.raw ∷ []))))
-                ∙ ap (λ (cs : List Command). a0.said ++ replies_after 0 (state_in a0.held) cs) (sym commands);
-            state = state_is;
-            stands = subst (λ (t : State). RepresentsMap b.held t.map) state_is (held_stands view1 b store (ap (λ f. f.tells_held) run.fixed ∙ told_a));
-          };
-    }
+                let cut = cut_of (answers.pair (told_now told) (said_told_now said_told)) in
+                (cut.0, cut.1 ∙ replies_turn told_s told said_told);
+            stands = stands_turn done told_s told;
+          }
+        where
+          rest_is : (ended : Bool) → r1.ended ≡ ended → rest r1 s1 ≡ r1.held ++ s1.left
+          rest_is true e = ap (λ b. if b then r1.held else r1.held ++ s1.left) e ∙ sym (append-nil r1.held) ∙ ap (λ (l : List ℕ). r1.held ++ l) (sym (next.more.met told_s open_before e).0)
+          rest_is false e = ap (λ b. if b then r1.held else r1.held ++ s1.left) e
+
+module _ (hmax : ℕ) (a0 : View) (r0 : ReaderView) (s0 : SourceView) (a : View) (r : ReaderView) (s : SourceView) (view : StoreView) (here : Serving hmax a0 r0 s0 a r s view) (s1 : SourceView) where
+  -- all lines were given
+  pub served_whole : GivesAll End r0 s0 here.given s1 → source.Told s0 → Told a0 → IsServed hmax a0 (commands_of (rest r0 s0)) a
+  served_whole gives told_s told = subst (λ (cs : List Command). IsServed hmax a0 cs a) (sym (ap commands_in gives.0)) (here.served told_s told)
+
+  served_cut : IsCutShort (rest r0 s0) s1.left here.given → source.Told s0 → Told a0 → IsServedToCut hmax a0 (rest r0 s0) s1.left a
+  served_cut cut told_s told = record {
+    taken = cut.taken;
+    is = cut.is;
+    served = subst (λ (cs : List Command). IsServed hmax a0 cs a) (sym (ap commands_in cut.complete)) (here.served told_s told);
+  }
+
+  -- the reading stopped in a line
+  pub served_to_cut : (fault : ServeFault) (r1 : ReaderView) → IsNextCommand (Err fault) r0 s0 here.given r1 s1 → source.Told s0 → Told a0 → IsServedToCut hmax a0 (rest r0 s0) s1.left a
+  served_to_cut Script r1 next told_s told = served_cut (next.0 told_s) told_s told
+  served_to_cut Spent r1 next told_s told = served_cut (next told_s).0 told_s told
+  served_to_cut Disk r1 next told_s told = absurd next
+  served_to_cut (Damaged segment why) r1 next told_s told = absurd next
+  served_to_cut Reply r1 next told_s told = absurd next
+
+-- What was taken.
+
+-- by calls that gave lines
+pub takes_given : (r0 : ReaderView) (s0 : SourceView) (given : List (List ℕ)) (r : ReaderView) (s : SourceView) → HasGiven r0 s0 given r s → source.Told s0 → TakesAtMost r0.room s0 s
+takes_given r0 s0 given r s here told =
+    let took = here.front told in
+    record { front = took.front; is = took.is; most_is = omega (arith, here.taken told, ap length took.is, length-append took.front s.left) }
+
+-- and by the last call
+pub takes_last : (r0 : ReaderView) (s0 : SourceView) (given : List (List ℕ)) (r : ReaderView) (s : SourceView) (r1 : ReaderView) (s1 : SourceView) → HasGiven r0 s0 given r s → (source.Told s → Takes r s r1 s1) → source.Told s0 → TakesAtMost r0.room s0 s1
+takes_last r0 s0 given r s r1 s1 here takes told =
+    let last = takes (here.went.tells ∙ told) in
+    let took = took_on s0 s s1 (here.front told) last.front in
+    record { front = took.front; is = took.is; most_is = omega (arith, here.taken told, last.count, ap length took.is, length-append took.front s1.left) }

@@ -2,5 +2,6 @@ pub mod Words
 pub mod Replies
 pub mod Session
 pub mod Faults
+pub mod Carrying
 pub mod Serving
 pub mod Outcome

@@ -24,6 +24,7 @@ pub(crate) fn create_file<S: Station>(station: &mut S, name: &str, layout: Layou
     ensures settled { result ≡ DONE → NothingPending (S.view station.new) }
     ensures refused { result ≡ REFUSED → Told (S.view station.old) → 0 < length (S.view station.old).held }
     ensures untouched { result ≡ REFUSED → Steps Same (attached_by true (S.view station.old)) (S.view station.new) }
+    ensures kept { Told (S.view station.old) → 0 < length (S.view station.old).held → Steps Same (attached_by true (S.view station.old)) (S.view station.new) }
     ensures steps { Steps Anything (attached_by true (S.view station.old)) (S.view station.new) }
     ensures cost { (S.view station.new).travel.written ≤ (S.view station.old).travel.written + 21 }
     ensures no_reads { (S.view station.new).travel.read ≡ (S.view station.old).travel.read }

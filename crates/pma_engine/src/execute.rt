@@ -1,13 +1,11 @@
 //! One command on the store.
 
-ghost use Rattle.std.specs.Prelude.{◌≡◌, ◌≤◌, false, OnOk, IfOk, IfErr, IsErrOf, is_err};
-ghost use Rattle.station.specs.View.{Told, EachHeld, NothingPending, Rose};
-ghost use Rattle.station.specs.Steps.{Steps};
+ghost use Rattle.std.specs.Prelude.{◌≡◌, ◌≤◌, false};
+ghost use Rattle.station.specs.View.{EachHeld, NothingPending};
 ghost use Rattle.header_gate.specs.Places.{file_length};
-ghost use Rattle.map_model.specs.Image.{map_of};
-ghost use Rattle.command_text.specs.Answers.{answers, step};
-ghost use Rattle.pma_store.specs.Store.{Stands, Becomes};
-ghost use Rattle.pma_engine.specs.Replies.{state_in, lines_of, put_reply};
+ghost use Rattle.pma_store.specs.Store.{Stands};
+ghost use Rattle.pma_engine.specs.Replies.{put_reply, removal_reply};
+ghost use Rattle.pma_engine.specs.Carrying.{Executes};
 
 use command_text::{Command, Reply};
 use key_slot::{Key, Value};
@@ -27,15 +25,7 @@ pub(crate) fn execute<S: Station>(
     requires store { EachHeld (Stands store.old) (S.view station.old) }
     requires nothing { NothingPending (S.view station.old) }
     requires reach { file_length store.old.place.layout ≤ (S.view station.old).fixed.reach }
-    ensures answer { IfOk result (λ reply. Told (S.view station.old) → lines_of reply ≡ answers 0 (state_in (S.view station.old).held) command.now) }
-    ensures state { OnOk result (Told (S.view station.old) → state_in (S.view station.new).held ≡ step 0 (state_in (S.view station.old).held) command.now) }
-    ensures store { OnOk result (EachHeld (Stands store.new) (S.view station.new)) }
-    ensures settled { OnOk result (NothingPending (S.view station.new)) }
-    ensures steps { Steps (Becomes (map_of (S.view station.old).held) (step 0 (state_in (S.view station.old).held) command.now).map) (S.view station.old) (S.view station.new) }
-    ensures place { store.new.place ≡ store.old.place }
-    ensures closed { store.new.closed ≡ is_err result }
-    ensures damaged { IfErr result (λ fault. Told (S.view station.old) → fault ≡ StoreFault.Failed) }
-    ensures failed { IsErrOf result StoreFault.Failed → Rose (S.view station.old).disk_faults (S.view station.new).disk_faults }
+    ensures { Executes command.now result store.old store.new (S.view station.old) (S.view station.new) }
 {
     match command {
         Command::Nothing => Ok(None),
@@ -58,18 +48,12 @@ fn execute_put<S: Station>(
     requires store { EachHeld (Stands store.old) (S.view station.old) }
     requires nothing { NothingPending (S.view station.old) }
     requires reach { file_length store.old.place.layout ≤ (S.view station.old).fixed.reach }
-    ensures answer { IfOk result (λ reply. Told (S.view station.old) → lines_of reply ≡ answers 0 (state_in (S.view station.old).held) (Command.Put key.now value.now)) }
-    ensures state { OnOk result (Told (S.view station.old) → state_in (S.view station.new).held ≡ step 0 (state_in (S.view station.old).held) (Command.Put key.now value.now)) }
-    ensures store { OnOk result (EachHeld (Stands store.new) (S.view station.new)) }
-    ensures settled { OnOk result (NothingPending (S.view station.new)) }
-    ensures steps { Steps (Becomes (map_of (S.view station.old).held) (step 0 (state_in (S.view station.old).held) (Command.Put key.now value.now)).map) (S.view station.old) (S.view station.new) }
-    ensures place { store.new.place ≡ store.old.place }
-    ensures closed { store.new.closed ≡ is_err result }
-    ensures damaged { IfErr result (λ fault. Told (S.view station.old) → fault ≡ StoreFault.Failed) }
-    ensures failed { IsErrOf result StoreFault.Failed → Rose (S.view station.old).disk_faults (S.view station.new).disk_faults }
+    ensures { Executes (Command.Put key.now value.now) result store.old store.new (S.view station.old) (S.view station.new) }
 {
-    let (put, _) = store.put(station, key, value)?;
-    Ok(Some(reply_to(put)))
+    match store.put(station, key, value) {
+        Ok((put, _)) => Ok(Some(reply_to(put))),
+        Err(fault) => Err(fault),
+    }
 }
 
 // The reply to a put.
@@ -92,22 +76,19 @@ fn execute_remove<S: Station>(
     requires store { EachHeld (Stands store.old) (S.view station.old) }
     requires nothing { NothingPending (S.view station.old) }
     requires reach { file_length store.old.place.layout ≤ (S.view station.old).fixed.reach }
-    ensures answer { IfOk result (λ reply. Told (S.view station.old) → lines_of reply ≡ answers 0 (state_in (S.view station.old).held) (Command.Remove key.now)) }
-    ensures state { OnOk result (Told (S.view station.old) → state_in (S.view station.new).held ≡ step 0 (state_in (S.view station.old).held) (Command.Remove key.now)) }
-    ensures store { OnOk result (EachHeld (Stands store.new) (S.view station.new)) }
-    ensures settled { OnOk result (NothingPending (S.view station.new)) }
-    ensures steps { Steps (Becomes (map_of (S.view station.old).held) (step 0 (state_in (S.view station.old).held) (Command.Remove key.now)).map) (S.view station.old) (S.view station.new) }
-    ensures place { store.new.place ≡ store.old.place }
-    ensures closed { store.new.closed ≡ is_err result }
-    ensures damaged { IfErr result (λ fault. Told (S.view station.old) → fault ≡ StoreFault.Failed) }
-    ensures failed { IsErrOf result StoreFault.Failed → Rose (S.view station.old).disk_faults (S.view station.new).disk_faults }
+    ensures { Executes (Command.Remove key.now) result store.old store.new (S.view station.old) (S.view station.new) }
 {
-    let (was, _) = store.remove(station, key)?;
-    if was {
-        Ok(Some(Reply::Removed))
-    } else {
-        Ok(Some(Reply::Absent))
+    match store.remove(station, key) {
+        Ok((was, _)) => Ok(Some(reply_to_removal(was))),
+        Err(fault) => Err(fault),
     }
+}
+
+// The reply to a removal, by whether there was a record.
+fn reply_to_removal(was: bool) -> Reply
+    ensures { result ≡ removal_reply was }
+{
+    if was { Reply::Removed } else { Reply::Absent }
 }
 
 fn execute_get<S: Station>(
@@ -119,18 +100,11 @@ fn execute_get<S: Station>(
     requires store { EachHeld (Stands store.old) (S.view station.old) }
     requires nothing { NothingPending (S.view station.old) }
     requires reach { file_length store.old.place.layout ≤ (S.view station.old).fixed.reach }
-    ensures answer { IfOk result (λ reply. Told (S.view station.old) → lines_of reply ≡ answers 0 (state_in (S.view station.old).held) (Command.Get key.now)) }
-    ensures state { OnOk result (Told (S.view station.old) → state_in (S.view station.new).held ≡ step 0 (state_in (S.view station.old).held) (Command.Get key.now)) }
-    ensures store { OnOk result (EachHeld (Stands store.new) (S.view station.new)) }
-    ensures settled { OnOk result (NothingPending (S.view station.new)) }
-    ensures steps { Steps (Becomes (map_of (S.view station.old).held) (step 0 (state_in (S.view station.old).held) (Command.Get key.now)).map) (S.view station.old) (S.view station.new) }
-    ensures place { store.new.place ≡ store.old.place }
-    ensures closed { store.new.closed ≡ is_err result }
-    ensures damaged { IfErr result (λ fault. Told (S.view station.old) → fault ≡ StoreFault.Failed) }
-    ensures failed { IsErrOf result StoreFault.Failed → Rose (S.view station.old).disk_faults (S.view station.new).disk_faults }
+    ensures { Executes (Command.Get key.now) result store.old store.new (S.view station.old) (S.view station.new) }
 {
-    match store.get(station, key)? {
-        Some(value) => Ok(Some(Reply::Found(value))),
-        None => Ok(Some(Reply::Absent)),
+    match store.get(station, key) {
+        Ok(Some(value)) => Ok(Some(Reply::Found(value))),
+        Ok(None) => Ok(Some(Reply::Absent)),
+        Err(fault) => Err(fault),
     }
 }

@@ -1,7 +1,9 @@
 //! The next line of a script.
 
-ghost use Rattle.std.specs.Prelude.{◌≡◌, ◌+◌, ◌<◌, ℕ, List, length, false, IfOk, IsSome};
-ghost use Rattle.line_source.specs.SourceView.{SourceView, Went};
+ghost use Rattle.std.specs.Prelude.{◌≡◌, ◌+◌, ◌<◌, ◌≤◌, ℕ, List, length, false, IfOk, IsSome};
+ghost use Rattle.line_source.specs.Lines.{most_held};
+ghost use Rattle.line_source.specs.SourceView.{SourceView, Told, Went};
+ghost use Rattle.line_source.specs.LineStep.{Takes};
 ghost use Rattle.line_source.specs.ReaderView.{ReaderView};
 ghost use Rattle.line_source.specs.Progress.{HasGiven};
 ghost use Rattle.pma_engine.specs.Serving.{IsNextCommand};
@@ -30,6 +32,8 @@ pub(crate) fn next_given<I: Source>(
     ensures next { (r0 : ReaderView) (s0 : SourceView) (given : List (List ℕ)) → HasGiven r0 s0 given reader.old (I.view source.old) → IsNextCommand result r0 s0 given reader.new (I.view source.new) }
     ensures falls { IfOk result (λ next. IsSome next → reader.new.room + length reader.new.held < reader.old.room + length reader.old.held) }
     ensures fresh { IfOk result (λ next. IsSome next → reader.new.done ≡ false) }
+    ensures takes { Told (I.view source.old) → Takes reader.old (I.view source.old) reader.new (I.view source.new) }
+    ensures ahead { length reader.new.held ≤ most_held }
     ensures went { Went (I.view source.old) (I.view source.new) }
 {
     match reader.next_line(source) {

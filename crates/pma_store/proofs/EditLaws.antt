@@ -71,7 +71,7 @@ module _ (hmax : ℕ) (s : State) (key : Bytes) where
               (λ t. record {
                 map = (ap (λ b. if b || nat_lt (len s.map) (upper_of hmax) then insert s.map key value else s.map) e ∙ ap (λ b. if b then insert s.map key value else s.map) no_room) t;
                 height = (ap (λ b. if not b && (nat_lt (len s.map) (upper_of hmax) && nat_lt (upper_of s.height) (len s.map + 1)) then s.height + 1 else s.height) e
-                ∙ ap (λ b. if b && nat_lt (upper_of s.height) (len s.map + 1) then s.height + 1 else s.height) no_room) t;
+                    ∙ ap (λ b. if b && nat_lt (upper_of s.height) (len s.map + 1) then s.height + 1 else s.height) no_room) t;
               })
 
   -- the removal of an absent key

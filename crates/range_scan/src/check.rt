@@ -7,7 +7,7 @@ ghost use Rattle.station.specs.View.{Told, Rose};
 ghost use Rattle.station.specs.Steps.{Steps};
 ghost use Rattle.header_gate.specs.Places.{IsLayout, file_length};
 ghost use Rattle.map_model.specs.Image.{map_of};
-ghost use Rattle.map_model.specs.Standing.{StandsBalanced};
+ghost use Rattle.map_model.specs.Standing.{StandsWith};
 ghost use Rattle.range_scan.specs.Faults.{IsDamageAt};
 ghost use Rattle.range_scan.specs.Walk.{after_walk};
 
@@ -32,7 +32,7 @@ pub fn check_region<S: Station>(
     requires region { region < 2 }
     requires height { tally.now.height ≤ layout.hmax }
     requires reach { file_length layout ≤ (S.view station.old).fixed.reach }
-    requires stands { Told (S.view station.old) → StandsBalanced layout region tally.now.height tally.now.counts (S.view station.old).held }
+    requires stands { Told (S.view station.old) → StandsWith layout region tally.now.height tally.now.counts (S.view station.old).held }
     ensures records { IfOk result (λ records. records ≡ sum tally.now.counts) }
     ensures count { IfOk result (λ records. Told (S.view station.old) → records ≡ len (map_of (S.view station.old).held)) }
     ensures whole { OnOk result ((S.view station.new).travel ≡ after_walk layout region 0 (2 ^ tally.now.height) (S.view station.old).travel) }

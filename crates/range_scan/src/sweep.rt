@@ -83,6 +83,9 @@ impl<'a> Sweep<'a> {
 
     /// A sweep over the records of region 0 or 1, from segment `first` on, whose keys are not below `low` and below
     /// `high`, at most `limit` of them. The tally has the region's height and counts.
+    ///
+    /// It is a scan of a file where no record from `low` on stands before segment `first`. It reads no more than it needs
+    /// where `first` is the segment to which `low` belongs.
     pub fn over(
         layout: Layout,
         region: u32,
@@ -109,6 +112,7 @@ impl<'a> Sweep<'a> {
         } }
         ensures is_sweep { IsSweep result }
         ensures sweeping { (image : List ℕ) → StandsBalanced layout region tally.now.height tally.now.counts image → StartsBy low first (array_in image tally.now.height) → IsSweeping result image }
+        ensures there { (image : List ℕ) → StandsBalanced layout region tally.now.height tally.now.counts image → first ≡ first_for low (array_in image tally.now.height) → IsSweeping result image }
         ensures begins { (image : List ℕ) → StandsBalanced layout region tally.now.height tally.now.counts image → first ≡ first_for low (array_in image tally.now.height) → BeginsThere result (entries (map_of image)) }
     {
         Sweep {

@@ -19,8 +19,6 @@ use std::marker::Model;
 
 mod block;
 mod laws;
-#[cfg(test)]
-mod tests;
 
 /// How many bytes a slot has.
 pub const SLOT_SIZE: usize = 64;

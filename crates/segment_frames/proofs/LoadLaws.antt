@@ -38,7 +38,7 @@ shown_by numbers lists held long same =
     ext_get_or [] held (shown numbers lists) (long ∙ sym (length-shown numbers lists)) (λ f lt. let within : f < length numbers = omega (arith, lt, long) in same f within ∙ sym (shown_at numbers lists f within))
 
 -- a page that is a segment of the right count shows no fault
-good_page : (page : List ℕ) (segment count : ℕ) → first_bad_slot page ≡ None → length (segment_of page) ≡ count → (fault : StoreFault) → IsPageFault page segment count fault → ⊥
+pub good_page : (page : List ℕ) (segment count : ℕ) → first_bad_slot page ≡ None → length (segment_of page) ≡ count → (fault : StoreFault) → IsPageFault page segment count fault → ⊥
 good_page page segment count good long Failed shows = shows
 good_page page segment count good long (Damaged named (NotSegment slot)) (same, bad) = let both : None ≡ Some slot = sym good ∙ bad in absurd cc
 good_page page segment count good long (Damaged named (OtherCount found kept)) (same, shows) = shows.other (shows.found_is ∙ long ∙ sym shows.kept_is)

@@ -8,3 +8,4 @@ pub mod Fewness
 pub mod Coming
 pub mod Steps
 mod Examples
+pub mod Counts

@@ -33,7 +33,7 @@ module _ (rest : List ℕ) (count segments records next end : ℕ) (is : IsPacki
     records_fit = omega (arith, is.records_fit, small);
     forward = omega (arith, is.records_fit);
     near = omega (arith, small);
-    left = omega arith;
+    end_is = omega arith;
   }
 
   pub coming_on : moves_to_pack rest (segments + 1) (records + count) records stop ≡ moves_to_pack (count ∷ rest) segments records next end
@@ -79,6 +79,9 @@ module _ (n m to start end : ℕ) (is : IsSpreading n m to start end) (done : st
   last =
       omega (arith, is.start_is, div_rises (before * n) ((before + 1) * n) m is.some (mul-le-mul_right n (omega arith)), ap (λ (k : ℕ). k * n / m) next)
 
+  pub share_before : (to - 1) * n / m + share n m (to - 1) ≡ start
+  share_before = last
+
   low : first ≤ before * SEGMENT_SLOTS
   low =
       let whole = before * SEGMENT_SLOTS in
@@ -95,6 +98,7 @@ module _ (n m to start end : ℕ) (is : IsSpreading n m to start end) (done : st
     forward = omega (arith, stop_is, last, low);
     near = omega (arith, stop_is, last, share-le n m before is.some is.records_fit);
     left = omega (arith, stop_is);
+    within = omega (arith, stop_is, last, get_or-shares n m before (omega (arith, is.to_is, some)));
   }
 
   pub spread_on : (stop : ℕ) → stop ≡ min start (before * SEGMENT_SLOTS) → moves_to_spread n m before first stop ≡ moves_to_spread n m to start end

@@ -1,5 +1,5 @@
 -- Moves of records between segments, on lists of records: a window is the list of its segments' lists.
-use Rattle.std.specs.Prelude.{ℕ, ◌-◌, nat_lt, if◌then◌else◌, List, [], ◌∷◌, ◌++◌, length, map, take, drop, slice_index_or, slice_set}
+use Rattle.std.specs.Prelude.{ℕ, ◌+◌, ◌-◌, nat_lt, if◌then◌else◌, List, [], ◌∷◌, ◌++◌, length, map, take, drop, slice_index, slice_index_or, slice_set}
 use Rattle.std.specs.List.{flat_map}
 use Rattle.spread_plan.specs.declared.Move.{Move}
 
@@ -35,3 +35,7 @@ after_move m lists = if nat_lt m.to m.from then after_move_left m lists else aft
 abbrev pub after_moves : {X : Type 0} → List Move → List (List X) → List (List X)
 after_moves [] lists = lists
 after_moves (m ∷ moves) lists = after_moves moves (after_move m lists)
+
+-- the counts after a move
+abbrev pub counts_moved : Move → List ℕ → List ℕ
+counts_moved m counts = slice_set (slice_set counts m.to (slice_index counts m.to + m.count)) m.from (slice_index counts m.from - m.count)

@@ -8,8 +8,9 @@
 //! look at each segment once and hold no list.
 #![tactic(auto)]
 
-ghost use Rattle.std.specs.Prelude.{◌≡◌, ◌+◌, ◌*◌, ◌/◌, ◌<◌, ◌≤◌};
+ghost use Rattle.std.specs.Prelude.{◌≡◌, ◌+◌, ◌-◌, ◌*◌, ◌/◌, ◌^◌, ◌<◌, ◌≤◌, min};
 ghost use Rattle.density_rule.specs.Spread.{share as share_of};
+ghost use Rattle.spread_plan.specs.declared.TheConstants.{SEGMENT_SLOTS};
 
 pub use laws::{packs_segments, spreads_segments};
 pub use pack::PackMoves;
@@ -18,8 +19,6 @@ pub use spread::SpreadMoves;
 mod laws;
 mod pack;
 mod spread;
-#[cfg(test)]
-mod tests;
 
 /// How many records a segment has room for.
 pub const SEGMENT_SLOTS: u32 = 64;
@@ -51,4 +50,12 @@ fn shared_before(n: u32, m: u32, i: u32) -> u32
     ensures { result ≡ i * n / m }
 {
     (u64::from(i) * u64::from(n) / u64::from(m)) as u32
+}
+
+// How many of `n` packed records segment `i` has.
+fn packed_in(n: u32, i: u32) -> u32
+    requires { i < 2 ^ 16 }
+    ensures { result ≡ min SEGMENT_SLOTS (n - i * SEGMENT_SLOTS) }
+{
+    n.saturating_sub(i * SEGMENT_SLOTS).min(SEGMENT_SLOTS)
 }

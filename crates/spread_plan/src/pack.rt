@@ -1,16 +1,17 @@
 //! The moves of a pack.
 
-ghost use Rattle.std.specs.Prelude.{◌≡◌, ℕ, ◌^◌, ◌≤◌, All, length};
-ghost use Rattle.std.specs.Iterator.{YieldsFirst, item_count};
+ghost use Rattle.std.specs.Prelude.{◌≡◌, ℕ, ◌^◌, ◌<◌, ◌≤◌, All, length, slice_index};
+ghost use Rattle.std.specs.Iterator.{item_count};
 ghost use Rattle.spread_plan.specs.declared.TheConstants.{SEGMENT_SLOTS};
 ghost use Rattle.spread_plan.specs.Plans.{pack_moves};
+ghost use Rattle.spread_plan.specs.States.{GivesMove, coming};
 
-use super::{Move, SEGMENT_SLOTS};
+use super::{Move, SEGMENT_SLOTS, packed_in};
 use std::iter::FusedIterator;
 use std::marker::Model;
 
 /// The moves that pack segments to the left, in the order in which they are made. Contracts see the list of those that
-/// are still to come.
+/// are still to come, and the counts before them.
 #[derive(Drop)]
 pub struct PackMoves<'a> {
     // The counts of the segments that were not looked at.
@@ -24,14 +25,11 @@ pub struct PackMoves<'a> {
 }
 
 impl<'a> Model for PackMoves<'a> {
-    ghost use Rattle.std.specs.Prelude.{List};
-    ghost use Rattle.spread_plan.specs.declared.Move.{Move};
+    ghost use Rattle.spread_plan.specs.States.{PlanView, packing_view, IsPacking};
 
-    ghost Value = { List Move };
+    ghost Value = { PlanView };
 
-    ghost use Rattle.spread_plan.specs.States.{moves_to_pack, IsPacking};
-
-    ghost view = { λ s. moves_to_pack s.rest.now s.segments s.records s.next s.end };
+    ghost view = { λ s. packing_view s.rest.now s.segments s.records s.next s.end };
 
     ghost invariant = { λ s. IsPacking s.rest.now s.segments s.records s.next s.end };
 }
@@ -41,7 +39,8 @@ impl<'a> PackMoves<'a> {
     pub fn over(counts: &'a [u32]) -> PackMoves<'a>
         requires segments { length counts.now ≤ 2 ^ 16 }
         requires room { All (λ count. count ≤ SEGMENT_SLOTS) counts.now }
-        ensures { result ≡ pack_moves counts.now }
+        ensures moves { result.moves ≡ pack_moves counts.now }
+        ensures counts { result.counts ≡ counts.now }
     {
         PackMoves {
             rest: counts,
@@ -51,14 +50,41 @@ impl<'a> PackMoves<'a> {
             end: 0,
         }
     }
+
+    /// The moves that are still to come, to be walked apart from these.
+    pub fn again(&self) -> PackMoves<'a>
+        ensures { result ≡ self.now }
+    {
+        PackMoves {
+            rest: self.rest,
+            segments: self.segments,
+            records: self.records,
+            next: self.next,
+            end: self.end,
+        }
+    }
+
+    /// How many records a segment has before the moves that are still to come.
+    pub fn records_in(&self, segment: u32) -> u32
+        requires { segment < length self.now.counts }
+        ensures { result ≡ slice_index self.now.counts segment }
+    {
+        if self.segments <= segment {
+            self.rest[(segment - self.segments) as usize]
+        } else if segment + 1 < self.segments {
+            packed_in(self.next, segment)
+        } else {
+            self.records - self.next
+        }
+    }
 }
 
 impl<'a> Iterator for PackMoves<'a> {
     type Item = Move;
 
-    ghost next_gives = { YieldsFirst (λ moves. moves) };
+    ghost next_gives = { GivesMove };
 
-    ghost remaining = { item_count (λ moves. moves) };
+    ghost remaining = { item_count coming };
 
     fn next(&mut self) -> Option<Move> {
         while self.next == self.end {

@@ -1,16 +1,17 @@
 //! The moves of a spread.
 
-ghost use Rattle.std.specs.Prelude.{◌≡◌, ◌*◌, ◌^◌, ◌≤◌};
-ghost use Rattle.std.specs.Iterator.{YieldsFirst, item_count};
+ghost use Rattle.std.specs.Prelude.{◌≡◌, ◌*◌, ◌^◌, ◌<◌, ◌≤◌, length, slice_index};
+ghost use Rattle.std.specs.Iterator.{item_count};
 ghost use Rattle.spread_plan.specs.declared.TheConstants.{SEGMENT_SLOTS};
-ghost use Rattle.spread_plan.specs.Plans.{spread_moves};
+ghost use Rattle.spread_plan.specs.Plans.{full_counts, spread_moves};
+ghost use Rattle.spread_plan.specs.States.{GivesMove, coming};
 
-use super::{Move, SEGMENT_SLOTS, shared_before};
+use super::{Move, SEGMENT_SLOTS, packed_in, share, shared_before};
 use std::iter::FusedIterator;
 use std::marker::Model;
 
 /// The moves that spread packed records, in the order in which they are made. Contracts see the list of those that are
-/// still to come.
+/// still to come, and the counts before them.
 #[derive(Drop)]
 pub struct SpreadMoves {
     records: u32,
@@ -23,14 +24,11 @@ pub struct SpreadMoves {
 }
 
 impl Model for SpreadMoves {
-    ghost use Rattle.std.specs.Prelude.{List};
-    ghost use Rattle.spread_plan.specs.declared.Move.{Move};
+    ghost use Rattle.spread_plan.specs.States.{PlanView, spreading_view, IsSpreading};
 
-    ghost Value = { List Move };
+    ghost Value = { PlanView };
 
-    ghost use Rattle.spread_plan.specs.States.{moves_to_spread, IsSpreading};
-
-    ghost view = { λ s. moves_to_spread s.records s.segments s.to s.start s.end };
+    ghost view = { λ s. spreading_view s.records s.segments s.to s.start s.end };
 
     ghost invariant = { λ s. IsSpreading s.records s.segments s.to s.start s.end };
 }
@@ -41,7 +39,8 @@ impl SpreadMoves {
         requires some { 1 ≤ m }
         requires segments { m ≤ 2 ^ 16 }
         requires room { n ≤ SEGMENT_SLOTS * m }
-        ensures { result ≡ spread_moves n m }
+        ensures moves { result.moves ≡ spread_moves n m }
+        ensures counts { result.counts ≡ full_counts n m }
     {
         SpreadMoves {
             records: n,
@@ -51,14 +50,43 @@ impl SpreadMoves {
             end: n,
         }
     }
+
+    /// The moves that are still to come, to be walked apart from these.
+    pub fn again(&self) -> SpreadMoves
+        ensures { result ≡ self.now }
+    {
+        SpreadMoves {
+            records: self.records,
+            segments: self.segments,
+            to: self.to,
+            start: self.start,
+            end: self.end,
+        }
+    }
+
+    /// How many records a segment has before the moves that are still to come.
+    pub fn records_in(&self, segment: u32) -> u32
+        requires { segment < length self.now.counts }
+        ensures { result ≡ slice_index self.now.counts segment }
+    {
+        if segment < self.to {
+            return packed_in(self.end, segment);
+        }
+        let share = share(self.records, self.segments, segment);
+        if segment == self.to {
+            share - (self.end - self.start)
+        } else {
+            share
+        }
+    }
 }
 
 impl Iterator for SpreadMoves {
     type Item = Move;
 
-    ghost next_gives = { YieldsFirst (λ moves. moves) };
+    ghost next_gives = { GivesMove };
 
-    ghost remaining = { item_count (λ moves. moves) };
+    ghost remaining = { item_count coming };
 
     fn next(&mut self) -> Option<Move> {
         while self.start == self.end {

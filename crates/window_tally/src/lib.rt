@@ -327,6 +327,3 @@ impl Tally {
         count_update(&mut self.marks, self.height, segment);
     }
 }
-
-#[cfg(test)]
-mod tests;

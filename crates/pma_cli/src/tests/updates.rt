@@ -154,3 +154,30 @@ fn a_journal_that_is_no_batch_is_refused(rt: HostRuntime) -> Result<(), Fail> {
     }
     Ok(())
 }
+
+#[test]
+fn a_failed_call_of_an_opening_ends_it(rt: HostRuntime) -> Result<(), Fail> {
+    let before = stored(&rt, b"put a 1\n")?;
+    let plan = Plan {
+        stop: Some(GATE_SYNC),
+        ..SMOOTH
+    };
+    let (_, stopped) = session(&rt, &before, b"put a 2\n", plan)?;
+    let odd = Vec::from_slice(rt.alloc(), stopped.held())?;
+    for (file, opening) in [(&before, 5), (&odd, 12)] {
+        for call in 0..16 {
+            let fail = [call];
+            let plan = Plan {
+                fail: &fail,
+                ..SMOOTH
+            };
+            let want = if call < opening { 4 } else { 0 };
+            let (status, failed) = session(&rt, file, b"", plan)?;
+            assert_eq!(rt; status, want);
+            let (status, again) = session(&rt, failed.held(), b"get a\n", SMOOTH)?;
+            assert_eq!(rt; status, 0);
+            assert_eq!(rt; again.said().len(), 8);
+        }
+    }
+    Ok(())
+}

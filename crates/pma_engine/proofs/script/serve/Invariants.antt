@@ -1,10 +1,12 @@
-use Rattle.std.proofs.Common.{◌≡◌, ◌+◌, false, length}
+use Rattle.std.proofs.Common.{◌≡◌, ◌≤◌, ◌+◌, false, length}
+use Rattle.line_source.specs.Lines.{most_held}
+use Rattle.pma_engine.specs.Carrying.{hmax_of}
 use Rattle.pma_engine.proofs.ServingLaws.{Serving}
 use Rattle.pma_engine.proofs.script.serve.Given as goal
 
 abbrev pub invariant-loop-given : goal.invariant-loop-given
 invariant-loop-given g l = record {
-  serving : Serving (g.S.Station.view l.fn.station) l.fn.reader (g.I.Source.view l.fn.source) (g.S.Station.view l.station) l.reader (g.I.Source.view l.source) l.store;
+  serving : Serving (hmax_of l.fn.store) (g.S.Station.view l.fn.station) l.fn.reader (g.I.Source.view l.fn.source) (g.S.Station.view l.station) l.reader (g.I.Source.view l.source) l.store;
   open_yet : l.store.closed ≡ false;
   same_place : l.store.place ≡ l.fn.store.place;
 }

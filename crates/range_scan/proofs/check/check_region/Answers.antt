@@ -37,7 +37,7 @@ loop-rows-init g c =
         unfaulted = ap (λ (r : ReaderView). r.faulted) is;
         counted = sym (ap (λ (n : ℕ). sum (take n a.tally.now.counts)) next);
       };
-      above = λ told. above_start a.layout a.region a.tally.now.height a.tally.now.counts (g.S.Station.view a.station.now).held (c.requires.stands told).stands c.new-reader.result next (ap (λ (r : ReaderView). r.last) is);
+      above = λ told. above_start a.layout a.region a.tally.now.height a.tally.now.counts (g.S.Station.view a.station.now).held (c.requires.stands told) c.new-reader.result next (ap (λ (r : ReaderView). r.last) is);
       steps = no_steps (g.S.Station.view a.station.now);
       reads = sym (walk_none a.layout a.region 0 c.new-reader.result.next (g.S.Station.view a.station.now).travel (sym next));
     }
@@ -88,7 +88,7 @@ loop-rows-preserved g c =
       };
       above = λ told.
           let held = (g.S.Station.view a.station.now).held in
-          let stands = (c.requires.stands told).stands in
+          let stands = c.requires.stands told in
           let segments = cut a.tally.now.counts (entries (map_of held)) in
           let small : c.loop-rows.reader.next < 2 ^ a.tally.now.height = omega (arith, below, inv.checking.end_is) in
           let inside : c.loop-rows.reader.next < length segments = omega (arith, small, cut_size a.layout a.region a.tally.now.height a.tally.now.counts held stands) in
@@ -105,7 +105,7 @@ returns-clause-count g c told =
     let inv = c.loop-rows.invariant in
     let at_end : length a.tally.now.counts ≤ c.loop-rows.reader.next = omega (arith, c.in_ok-next_counted.ensures.none.0 c.if-branch.false, inv.checking.end_is, c.segment_count.ensures.tally.size) in
     inv.checking.counted ∙ total_all a.tally.now.counts c.loop-rows.reader.next at_end
-    ∙ sym (counted_all a.layout a.region a.tally.now.height a.tally.now.counts (g.S.Station.view a.station.now).held (c.requires.stands told).stands)
+    ∙ sym (counted_all a.layout a.region a.tally.now.height a.tally.now.counts (g.S.Station.view a.station.now).held (c.requires.stands told))
 
 pub returns-in_err-next_counted-clause-part : goal.returns-in_err-next_counted-clause-part
 returns-in_err-next_counted-clause-part g c =
@@ -128,7 +128,7 @@ returns-in_err-next_counted-clause-damaged g c =
     let inv = c.loop-rows.invariant in
     let over = c.in_err-next_counted.ensures.after_fault in
     let held = (g.S.Station.view a.station.now).held in
-    let stands = (c.requires.stands told).stands in
+    let stands = c.requires.stands told in
     let segments = cut a.tally.now.counts (entries (map_of held)) in
     let small : c.loop-rows.reader.next < 2 ^ a.tally.now.height = omega (arith, c.next_counted.ensures.is_reader.within, over.next_is, over.end_is, inv.checking.end_is) in
     let inside : c.loop-rows.reader.next < length segments = omega (arith, small, cut_size a.layout a.region a.tally.now.height a.tally.now.counts held stands) in

@@ -1,0 +1,79 @@
+//! The segments of a batch are read and judged.
+
+ghost use Rattle.std.specs.Prelude.{◌≡◌, ◌+◌, ◌^◌, ◌<◌, ◌≤◌, [], length, OnOk, IfErr, IsErrOf};
+ghost use Rattle.station.specs.Bytes.{Same};
+ghost use Rattle.station.specs.View.{Told, EachHeld, Rose};
+ghost use Rattle.station.specs.Steps.{Steps};
+ghost use Rattle.header_gate.specs.Places.{IsLayout, file_length};
+ghost use Rattle.map_model.specs.Image.{array_of};
+ghost use Rattle.redo_journal.specs.Frames.{IsFrames};
+ghost use Rattle.segment_frames.specs.Lists.{held_lists, IsHeld, shown, numbers_of};
+ghost use Rattle.segment_frames.specs.Reading.{ShowsFault};
+ghost use Rattle.redistribute.specs.Moving.{IsWithin};
+ghost use Rattle.redistribute.specs.Windows.{HasWindow};
+ghost use Rattle.redistribute.specs.Batches.{HasCounts, kept_in};
+ghost use Rattle.redistribute.specs.Stages.{IsShown};
+
+use crate::plan::Plan;
+use redo_journal::{Frames, Place};
+use segment::StoreFault;
+use segment_frames::{Runs, judge_frame, read_batch};
+use station::{Failed, Station};
+
+/// Makes the segments of the runs a new batch, reads them into its frames, and sees that they are segments and have as
+/// many records as the plan knows of.
+pub(crate) fn load<S: Station, P: Plan>(
+    station: &mut S,
+    place: &Place,
+    frames: &mut Frames,
+    runs: Runs,
+    first: u32,
+    plan: &P,
+) -> Result<(), StoreFault>
+    requires layout { IsLayout place.now.layout }
+    requires region { place.now.region < 2 }
+    requires reach { file_length place.now.layout ≤ (S.view station.old).fixed.reach }
+    requires journal { frames.old.journal ≡ place.now.layout.journal }
+    requires within { IsWithin first (length (P.plan plan.now).counts) runs }
+    requires inside { first + length (P.plan plan.now).counts ≤ 2 ^ place.now.layout.hmax }
+    requires room { runs.low_len + runs.high_len ≤ place.now.layout.journal }
+    requires window { EachHeld (HasWindow place.now first (P.plan plan.now).counts) (S.view station.old) }
+    ensures numbers { frames.new.numbers ≡ numbers_of runs }
+    ensures journal { frames.new.journal ≡ frames.old.journal }
+    ensures held { OnOk result (IsHeld frames.new) }
+    ensures counts { OnOk result (HasCounts first (P.plan plan.now).counts frames.new) }
+    ensures shown { OnOk result (Told (S.view station.old) →
+        held_lists frames.new ≡ shown (numbers_of runs) (array_of (S.view station.old).held)) }
+    ensures steps { Steps Same (S.view station.old) (S.view station.new) }
+    ensures unwritten { (S.view station.new).travel.written ≡ (S.view station.old).travel.written }
+    ensures damaged { IfErr result (λ fault. Told (S.view station.old) → fault ≡ StoreFault.Failed) }
+    ensures cause { IfErr result (IsShown frames.new first [] (P.plan plan.now).counts) }
+    ensures failed { IsErrOf result StoreFault.Failed → Rose (S.view station.old).disk_faults (S.view station.new).disk_faults }
+{
+    match read_batch(station, place, frames, runs) {
+        Ok(()) => judge_frames(frames, runs, first, plan),
+        Err(Failed) => Err(StoreFault::Failed),
+    }
+}
+
+// Sees that each frame of the batch holds a segment, with as many records as the plan knows of.
+fn judge_frames<P: Plan>(
+    frames: &Frames,
+    runs: Runs,
+    first: u32,
+    plan: &P,
+) -> Result<(), StoreFault>
+    requires frames { IsFrames frames.now }
+    requires numbers { frames.now.numbers ≡ numbers_of runs }
+    requires within { IsWithin first (length (P.plan plan.now).counts) runs }
+    requires small { first + length (P.plan plan.now).counts ≤ 2 ^ 16 }
+    ensures held { OnOk result (IsHeld frames.now) }
+    ensures counts { OnOk result (HasCounts first (P.plan plan.now).counts frames.now) }
+    ensures fault { IfErr result (ShowsFault frames.now (kept_in first (P.plan plan.now).counts)) }
+{
+    for f in 0..runs.count() {
+        let segment = runs.segment(f);
+        judge_frame(frames, f, segment, plan.records_in(segment - first))?;
+    }
+    Ok(())
+}
