@@ -1,5 +1,5 @@
 -- What stays true of the fields of the frames.
-use Rattle.std.proofs.Common.{◌≡◌, inl, inr, ℕ, zero, suc, ◌+◌, ◌-◌, ◌^◌, ◌<◌, ◌≤◌, List, [], ◌∷◌, ◌++◌, length, take, refl, sym, ap, subst, ◌∙◌, arith, get_or, slice_set}
+use Rattle.std.proofs.Common.{◌≡◌, inl, inr, ℕ, ◌+◌, ◌-◌, ◌^◌, ◌<◌, List, [], ◌∷◌, ◌++◌, length, take, refl, sym, ap, subst, ◌∙◌, arith, get_or, slice_set}
 use Rattle.std.proofs.lemmas.Bool.{cases_lt}
 use Rattle.std.proofs.lemmas.List.{get_or_append_left, get_or-append_right, get_or_past, length-append, length-take-le, length-set, take_more_set}
 use Rattle.station.specs.Bytes.{InRange, Touched}
@@ -113,14 +113,3 @@ kept_slots journal count items table slots others kept same =
       table_is = kept.table_is;
       batch = record { journal = kept.batch.journal; frames = same ∙ kept.batch.frames; few = kept.batch.few; ascends = kept.batch.ascends; small = kept.batch.small };
     }
-
--- numbers that ascend are at least their places, so there are no more than the bound
-pub place_low : (numbers : List ℕ) → Ascends numbers → (i : ℕ) → i < length numbers → i ≤ get_or numbers i 0
-place_low numbers ascends zero lt = omega arith
-place_low numbers ascends (suc i) lt = omega (arith, place_low numbers ascends i (omega (arith, lt)), ascends i (suc i) (omega arith) lt)
-
-pub count_small : (b : Batch) → IsFrames b → length b.numbers ≤ 2 ^ 16
-count_small b is = elim (cases_lt (2 ^ 16) (length b.numbers)) [
-  | inl many ↦ absurd (omega (arith, many, place_low b.numbers is.ascends (2 ^ 16) many, is.small (2 ^ 16)))
-  | inr few ↦ few
-]

@@ -1,33 +1,28 @@
--- Segments of a batch are written one after another.
-use Rattle.std.proofs.Common.{◌≡◌, inl, inr, ℕ, zero, suc, [], ◌∷◌, ◌+◌, ◌*◌, ◌^◌, ◌≤◌, ◌<◌, List, length, get_or, take, drop, ◌∙◌, ap, arith, get_or-take, get_or-drop}
-use Rattle.std.proofs.lemmas.Bool.{cases_eq}
+-- Segments of a batch are written run by run.
+use Rattle.std.proofs.Common.{◌≡◌, inl, inr, ℕ, zero, suc, [], ◌∷◌, ◌+◌, ◌-◌, ◌*◌, ◌/◌, ◌^◌, ◌≤◌, ◌<◌, List, length, get_or, sym, ◌∙◌, ap, arith, slice_range}
+use Rattle.std.proofs.lemmas.Bool.{cases_lt}
 use Rattle.station.specs.Bytes.{byte, InRange, Written}
+use Rattle.station.proofs.Ranges.{byte-slice_range, length-slice_range}
 use Rattle.header_gate.specs.declared.layout.Layout.{Layout}
 use Rattle.header_gate.specs.Places.{segment_size, region_place, file_length}
 use Rattle.header_gate.specs.Recovered.{Ascends}
 use Rattle.header_gate.proofs.Recoveries.{IsOutside}
 use Rattle.header_gate.proofs.RecoveredSegments.{segment_within}
 use Rattle.redo_journal.specs.Commit.{IsNamed}
-use Rattle.redo_journal.specs.Applying.{IsPlaced}
+use Rattle.redo_journal.specs.Applying.{IsPlaced, IsRun}
 
--- one segment more holds its image
-pub placed_more : (region : ℕ) (numbers images image old new : List ℕ) (k number : ℕ) → Ascends numbers → k < length numbers → number ≡ get_or numbers k 0 → image ≡ take segment_size (drop (segment_size * k) images) → length image ≡ segment_size
-    → IsPlaced region numbers images k old → Written (region + segment_size * number) image old new → IsPlaced region numbers images (k + 1) new
-placed_more region numbers images image old new k number ascends below is part size placed written = record {
-  each = λ j o lt small. elim (cases_eq j k) [
-    | inl same ↦
-        let e : region + segment_size * get_or numbers j 0 + o ≡ region + segment_size * number + o = omega (arith, ap (λ (m : ℕ). get_or numbers m 0) same, is) in
-        let f : segment_size * k + o ≡ segment_size * j + o = omega (arith, same) in
-        ap (byte new) e
-        ∙ written.inside o (omega (arith, size, small))
-        ∙ ap (λ (l : List ℕ). byte l o) part
-        ∙ get_or-take segment_size (drop (segment_size * k) images) o 0 small
-        ∙ get_or-drop (segment_size * k) images o 0
-        ∙ ap (byte images) f
-    | inr other ↦
-        let before : j < k = omega (arith, other, lt) in
-        let apart : get_or numbers j 0 < get_or numbers k 0 = ascends j k before below in
-        written.rest (region + segment_size * get_or numbers j 0 + o) (λ r. omega (arith, r.0, apart, is, small)) ∙ placed.each j o before small
+-- a run goes on with the next number
+pub run_more : (numbers : List ℕ) (k end : ℕ) → IsRun numbers k end → end < length numbers → get_or numbers end 0 ≡ get_or numbers (end - 1) 0 + 1 → IsRun numbers k (end + 1)
+run_more numbers k end run lt next = record {
+  some = omega (arith, run.some);
+  within = omega arith;
+  each = λ j below. elim (cases_lt (k + j) end) [
+    | inl before ↦ run.each j before
+    | inr last ↦
+        let m = j - 1 in
+        let here : k + j ≡ end = omega (arith, below, last) in
+        let back : k + m ≡ end - 1 = omega (arith, here, run.some) in
+        omega (arith, ap (λ (n : ℕ). get_or numbers n 0) here, next, ap (λ (n : ℕ). get_or numbers n 0) back, run.each m (omega (arith, back, run.some)), here, run.some)
   ];
 }
 
@@ -36,6 +31,48 @@ pub named_at : (region k p : ℕ) (numbers : List ℕ) → k < length numbers �
 named_at region k p [] below r = absurd (omega arith)
 named_at region zero p (n ∷ numbers) below r = inl r
 named_at region (suc k) p (n ∷ numbers) below r = inr (named_at region k p numbers (omega arith) r)
+
+-- A run of segments, with numbers k to below end, and its images.
+module _ (region k end : ℕ) (numbers images : List ℕ) (run : IsRun numbers k end) (size : length images ≡ segment_size * length numbers) where
+  abbrev pub run_place : ℕ
+  run_place = region + segment_size * get_or numbers k 0
+
+  abbrev pub run_images : List ℕ
+  run_images = slice_range images (segment_size * k) (segment_size * end)
+
+  pub length-run_images : length run_images ≡ segment_size * end - segment_size * k
+  length-run_images = length-slice_range images (segment_size * k) (segment_size * end) (omega (arith, run.some)) (omega (arith, run.within, size))
+
+  -- it ends where its last segment does
+  pub run_ends : run_place + length run_images ≡ region + segment_size * get_or numbers (end - 1) 0 + segment_size
+  run_ends =
+      let m = end - 1 - k in
+      let last : k + m ≡ end - 1 = omega (arith, run.some) in
+      omega (arith, length-run_images, ap (λ (n : ℕ). get_or numbers n 0) last, run.each m (omega (arith, last, run.some)), last, run.some)
+
+  -- its places are named
+  pub named_run : (p : ℕ) → InRange run_place (length run_images) p → IsNamed region numbers p
+  named_run p r =
+      let far = p - run_place in
+      let m = far / segment_size in
+      let inside : k + m < end = omega (arith, length-run_images, r.0, r.1) in
+      named_at region (k + m) p numbers (omega (arith, inside, run.within)) (omega (arith, r.0, run.each m inside), omega (arith, r.0, run.each m inside))
+
+  -- its segments hold their images once these are written
+  pub placed_run : (old new : List ℕ) → Ascends numbers → IsPlaced region numbers images k old → Written run_place run_images old new → IsPlaced region numbers images end new
+  placed_run old new ascends placed written = record {
+    each = λ j o lt small. elim (cases_lt j k) [
+      | inl before ↦ written.rest (region + segment_size * get_or numbers j 0 + o) (λ r. omega (arith, r.0, ascends j k before (omega (arith, run.some, run.within)), small)) ∙ placed.each j o before small
+      | inr from ↦
+          let m = j - k in
+          let at : k + m ≡ j = omega (arith, from) in
+          let inside : segment_size * k + (segment_size * m + o) < segment_size * end = omega (arith, at, lt, small) in
+          let next : get_or numbers j 0 ≡ get_or numbers k 0 + m = ap (λ (n : ℕ). get_or numbers n 0) (sym at) ∙ run.each m (omega (arith, at, lt)) in
+          let e : region + segment_size * get_or numbers j 0 + o ≡ run_place + (segment_size * m + o) = omega (arith, next) in
+          let f : segment_size * k + (segment_size * m + o) ≡ segment_size * j + o = omega (arith, at) in
+          ap (byte new) e ∙ written.inside (segment_size * m + o) (omega (arith, inside, length-run_images)) ∙ byte-slice_range images (segment_size * k) (segment_size * end) (segment_size * m + o) inside ∙ ap (byte images) f
+    ];
+  }
 
 -- it lies behind the start of the region
 pub named_behind : (region p : ℕ) (numbers : List ℕ) → IsNamed region numbers p → region ≤ p

@@ -7,8 +7,6 @@ use Rattle.std.proofs.Math.ListN.{drop_of_length-le}
 use Rattle.station.specs.Bytes.{byte, InRange, Touched}
 use Rattle.header_gate.specs.Header.{number}
 use Rattle.header_gate.proofs.NumberLaws.{number_same}
-use Rattle.redo_journal.specs.Frames.{HasTable, NumberFits, IsTable, IsTableFault, number_in, table_length}
-use Rattle.redo_journal.specs.Frames.IsTableFault.{none, many, wrong}
 
 -- equal bytes, the places given by equations
 pub number_along : (f g : List ℕ) (k j : ℕ) → k ≡ j → ((x : ℕ) → k ≤ x → x < k + 4 → byte f x ≡ byte g x) → number f k ≡ number g j
@@ -53,52 +51,3 @@ number_kept old new place k touched apart =
       | inl front ↦ omega (arith, front, inside.0, from, below)
       | inr back ↦ omega (arith, back, inside.1, from, below)
     ]))
-
--- a table is the same where the bytes that it takes are
-pub table_along : (f g : List ℕ) (start to : ℕ) (numbers : List ℕ) → ((k : ℕ) → k < table_length (length numbers) → byte g (to + k) ≡ byte f (start + k)) → HasTable f start numbers → HasTable g to numbers
-table_along f g start to numbers same has =
-    record {
-      count = number_same g f to start (λ n x y lt ex ey.
-          let gx : x ≡ to + n = omega arith in let fy : start + n ≡ y = omega arith in
-          ap (byte g) gx ∙ same n (omega (arith, lt)) ∙ ap (byte f) fy) ∙ has.count;
-      each = λ i lt. number_same g f (to + table_length i) (start + table_length i) (λ n x y few ex ey.
-          let gx : x ≡ to + (table_length i + n) = omega arith in let fy : start + (table_length i + n) ≡ y = omega arith in
-          ap (byte g) gx ∙ same (table_length i + n) (omega (arith, lt, few)) ∙ ap (byte f) fy) ∙ has.each i lt;
-    }
-
--- the same for the judgement of a table, up to the longest one
-module _ (f g : List ℕ) (start to journal below : ℕ) (same : (k : ℕ) → k < table_length journal → byte g (to + k) ≡ byte f (start + k)) where
-  count_along : number g to ≡ number f start
-  count_along = number_same g f to start (λ n x y lt ex ey.
-      let gx : x ≡ to + n = omega arith in let fy : start + n ≡ y = omega arith in
-      ap (byte g) gx ∙ same n (omega (arith, lt)) ∙ ap (byte f) fy)
-
-  each_along : (i : ℕ) → i < journal → number_in g to i ≡ number_in f start i
-  each_along i lt = number_same g f (to + table_length i) (start + table_length i) (λ n x y few ex ey.
-      let gx : x ≡ to + (table_length i + n) = omega arith in let fy : start + (table_length i + n) ≡ y = omega arith in
-      ap (byte g) gx ∙ same (table_length i + n) (omega (arith, lt, few)) ∙ ap (byte f) fy)
-
-  fits_along : (i : ℕ) → i < journal → NumberFits f start below i → NumberFits g to below i
-  fits_along i lt fits =
-      record {
-        small = omega (arith, each_along i lt, fits.small);
-        above = λ j e. omega (arith, each_along i lt, each_along j (omega (arith, e, lt)), fits.above j e);
-      }
-
-  pub is_table_along : IsTable f start journal below → IsTable g to journal below
-  is_table_along is =
-      record {
-        some = omega (arith, count_along, is.some);
-        few = omega (arith, count_along, is.few);
-        numbers = λ i lt. fits_along i (omega (arith, lt, count_along, is.few)) (is.numbers i (omega (arith, lt, count_along)));
-      }
-
--- the first fault, likewise
-pub fault_along : (f g : List ℕ) (start to journal below : ℕ) → ((k : ℕ) → k < table_length journal → byte g (to + k) ≡ byte f (start + k)) → (place : ℕ) → IsTableFault f start journal below place → IsTableFault g to journal below place
-fault_along f g start to journal below same place (none e) = none (count_along f g start to journal below same ∙ e)
-fault_along f g start to journal below same place (many lt) = many (omega (arith, count_along f g start to journal below same, lt))
-fault_along f g start to journal below same place (wrong i lt room fits bad) =
-    let count : number g to ≡ number f start = count_along f g start to journal below same in
-    let back = λ (k : ℕ) (few : k < table_length journal). sym (same k few) in
-    wrong i (omega (arith, count, lt)) (omega (arith, count, room)) (λ j before. fits_along f g start to journal below same j (omega (arith, before, lt, room)) (fits j before))
-    (λ fits_g. bad (fits_along g f to start journal below back i (omega (arith, lt, room)) fits_g))

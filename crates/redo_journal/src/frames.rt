@@ -38,7 +38,7 @@ impl Model for Frames {
 }
 
 impl Frames {
-    ghost use Rattle.redo_journal.specs.Frames.{Batch, IsFrames, empty_batch, first_frames, frame, table_length, HasTable, IsTable, IsTableFault};
+    ghost use Rattle.redo_journal.specs.Frames.{Batch, IsFrames, empty_batch, first_frames, table_length, HasTable, IsTable, IsTableFault};
     ghost use Rattle.redo_journal.specs.FramesLends.{LendsFrames};
 
     /// An empty batch, with empty frames for as many segments as the journal takes.
@@ -174,26 +174,6 @@ impl Frames {
         ensures len { length result.now ≡ FRAME_SLOTS * length self.now.numbers * SLOT_SIZE }
     {
         self.slots.bytes(0, FRAME_SLOTS * self.count as usize)
-    }
-
-    /// The same to write.
-    pub(crate) fn images_mut(&mut self) -> &mut [u8]
-        ensures* writes_back { sem 𝓛 (LendsFrames self.entry 0 (FRAME_SLOTS * length self.old.numbers) result) }
-        ensures value { result.now ≡ bytes_of (first_frames (length self.old.numbers) self.old.slots) }
-        ensures len { length result.now ≡ FRAME_SLOTS * length self.old.numbers * SLOT_SIZE }
-    {
-        let slots = FRAME_SLOTS * self.count as usize;
-        self.bytes_mut(0, slots)
-    }
-
-    /// The bytes of one frame.
-    pub(crate) fn image(&self, k: u32) -> &[u8]
-        requires { k < self.now.journal }
-        ensures value { result.now ≡ bytes_of (frame k self.now.slots) }
-        ensures slots { slots_in FRAME_SLOTS result.now ≡ frame k self.now.slots }
-        ensures len { length result.now ≡ FRAME_SLOTS * SLOT_SIZE }
-    {
-        self.slots.bytes(FRAME_SLOTS * k as usize, FRAME_SLOTS)
     }
 
     /// Takes the batch's numbers from a table whose bytes stand in the frames, from slot 0 on. The slots stay.

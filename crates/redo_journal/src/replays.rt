@@ -24,6 +24,10 @@ use station::{Failed, Station};
 ///
 /// `NotStore` names the first place of the table that is wrong, for a store of this height; nothing is written then.
 /// After `Failed` the journal may be replayed again. The frames' batch is that of the journal, or any other.
+///
+/// Count, numbers and images are read by a call of the device each, and a run of neighbouring segments is written in
+/// place by one. A journal of one run takes seven: these three; the segments, a sync; the gate, a sync. Each further run
+/// takes one more.
 pub fn replay<S: Station>(
     station: &mut S,
     place: &Place,

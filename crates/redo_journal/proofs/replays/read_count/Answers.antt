@@ -10,7 +10,7 @@ use Rattle.redo_journal.proofs.replays.read_count.Goals.{then-count-eq0-via-then
 pub returns-then-count-eq0-clause-refused : goal.returns-then-count-eq0-clause-refused
 returns-then-count-eq0-clause-refused g c told r e bound numbers =
     let a = g.S.Station.view c.args.station.now in
-    let same : Journal 4096 ≡ r = cc in
+    let same : Journal table_place ≡ r = cc in
     let is = c.front_number-count.ensures ∙ count_read c.read_into.new.frames.slots a.held table_place (c.in-Ok.ensures.read told) in
     let found = number a.held table_place in
     let bad : (found ≡ 0) ⊎ (c.args.layout.journal < found) = elim c.then-count-eq0.branch [
