@@ -18,6 +18,10 @@ use Rattle.spread_plan.proofs.Lists.{get_or-counts_of, length-records_of}
 use Rattle.redistribute.specs.Moving.{KeepsAll}
 use Rattle.redistribute.proofs.WindowLaws.{keeps_pack, keeps_spread, spread_done}
 
+-- at most a segment full each
+pub few_by : (counts : List ℕ) → All (λ count. count ≤ SEGMENT_SLOTS) counts → (records : ℕ) → records ≡ sum counts → records ≤ SEGMENT_SLOTS * length counts
+few_by counts small records is = omega (arith, is, sum_by-le (λ c. c) SEGMENT_SLOTS counts small)
+
 module _ (lists : Array) (fit : FitSegments lists) (counts : List ℕ) (are : counts_of lists ≡ counts) (some : 1 ≤ length counts) (records : ℕ) (records_is : records ≡ sum counts) where
   pub long : length lists ≡ length counts
   long = sym (length-map lists length) ∙ ap length are
@@ -27,13 +31,6 @@ module _ (lists : Array) (fit : FitSegments lists) (counts : List ℕ) (are : co
 
   pos : 0 < length lists
   pos = omega (arith, some, long)
-
-  pub small_counts : All (λ count. count ≤ SEGMENT_SLOTS) counts
-  small_counts = All-from_get_or (λ count. count ≤ SEGMENT_SLOTS) counts 0 (λ i lt.
-      omega (arith, sym (get_or-counts_of lists i) ∙ ap (λ (ns : List ℕ). get_or ns i 0) are, All-get_or (λ l. length l ≤ SEGMENT_SLOTS) lists i [] (omega (arith, lt, long)) fit))
-
-  pub few_records : records ≤ SEGMENT_SLOTS * length counts
-  few_records = omega (arith, records_is, sum_by-le (λ c. c) SEGMENT_SLOTS counts small_counts)
 
   pub keeps_first : KeepsAll (pack_moves counts) lists
   keeps_first = subst (λ (ns : List ℕ). KeepsAll (pack_moves ns) lists) are (keeps_pack lists fit pos)

@@ -1,14 +1,12 @@
 -- The window of a tally as a run of segments, before and after its spread.
-use Rattle.std.proofs.Common.{◌≡◌, ℕ, ◌+◌, ◌-◌, ◌*◌, ◌^◌, ◌<◌, ◌≤◌, List, ◌++◌, length, take, drop, get_or, get_or-take, get_or-drop, slice_range, cond, ne_eqb, sym, ap, ◌∙◌, arith}
+use Rattle.std.proofs.Common.{◌≡◌, ℕ, ◌+◌, ◌-◌, ◌*◌, ◌^◌, ◌<◌, ◌≤◌, List, ◌++◌, length, take, drop, get_or-take, get_or-drop, slice_range, cond, ne_eqb, sym, ap, ◌∙◌, arith}
 use Rattle.std.specs.Prelude.{All}
-use Rattle.std.proofs.lemmas.List.{length-drop, length-take-le, take-map, drop-map, get_or_append_left, get_or-append_right}
+use Rattle.std.proofs.lemmas.List.{length-drop, length-take-le, take-map, drop-map}
 use Rattle.std.proofs.lemmas.List.Elements.{All-from_get_or}
-use Rattle.std.proofs.Math.Seq.{take-append_seam, drop-append_seam}
 use Rattle.std.proofs.Math.Nat.{add-mul, mul-le-mul_right}
-use Rattle.std.proofs.Math.Pow.{pow_pos}
 use Rattle.density_rule.specs.Bounds.{IsInBounds, least_of, lower_of}
 use Rattle.density_rule.specs.Windows.{IsWindow, count_in}
-use Rattle.density_rule.specs.Spread.{share, shares, spread_counts}
+use Rattle.density_rule.specs.Spread.{shares, spread_counts}
 use Rattle.density_rule.proofs.Places.{powers}
 use Rattle.density_rule.proofs.Shares.{length-shares, get_or-shares}
 use Rattle.map_model.specs.Array.{Array, spread_over, spread, rows, counts_of}
@@ -25,6 +23,12 @@ use Rattle.map_model.proofs.Spreading.{counts-spread}
 -- the counts of a run
 counts_of-run : (lists : Array) (a b : ℕ) → counts_of (slice_range lists a b) ≡ slice_range (counts_of lists) a b
 counts_of-run lists a b = sym (take-map length (b - a) (drop a lists)) ∙ ap (take (b - a)) (sym (drop-map length a lists))
+
+-- where there are as many records as segments, each share is some
+pub shares_filled : (n m : ℕ) → 1 ≤ m → m ≤ n → All (λ count. 0 < count) (shares n m)
+shares_filled n m some enough = All-from_get_or (λ count. 0 < count) (shares n m) 0 (λ i lt.
+    let inside : i < m = omega (arith, lt, length-shares n m) in
+    omega (arith, get_or-shares n m i inside, share_some n m i some enough))
 
 module _ (t : TallyView) (is : IsTally t) (h k : ℕ) (window : IsWindow t.height h k) where
   abbrev pub first : ℕ
@@ -69,41 +73,6 @@ module _ (t : TallyView) (is : IsTally t) (h k : ℕ) (window : IsWindow t.heigh
       let lower : least_of t.height h ≡ lower_of h = ap (λ b. cond b 0 (lower_of h)) (ne_eqb t.height 0 (λ e. omega (arith, e, larger, window.low))) in
       let some : 1 * 2 ^ h ≤ (4 + h) * 2 ^ h = mul-le-mul_right (2 ^ h) (omega arith) in
       omega (arith, bounds.least_is, lower, some)
-
-  -- The counts after the spread.
-  module _ (larger : 1 ≤ h) (bounds : IsInBounds t.height h (count_in t.counts h k)) (next : TallyView) (counts_is : next.counts ≡ spread_counts t.counts h k) where
-    many : length (take (k * 2 ^ h) t.counts) ≡ k * 2 ^ h
-    many = length-take-le (k * 2 ^ h) t.counts (omega (arith, window_inside, is.size))
-
-    -- those of the window are shares
-    share_at : (i : ℕ) → i < 2 ^ h → get_or next.counts (k * 2 ^ h + i) 0 ≡ share (count_in t.counts h k) (2 ^ h) i
-    share_at i lt =
-        let rest = shares (count_in t.counts h k) (2 ^ h) ++ drop ((k + 1) * 2 ^ h) t.counts in
-        let at : k * 2 ^ h + i - k * 2 ^ h ≡ i = omega arith in
-        ap (λ (ns : List ℕ). get_or ns (k * 2 ^ h + i) 0) counts_is ∙ get_or-append_right (take (k * 2 ^ h) t.counts) rest (k * 2 ^ h) (k * 2 ^ h + i) 0 many (omega arith)
-        ∙ ap (λ (j : ℕ). get_or rest j 0) at ∙ get_or_append_left (shares (count_in t.counts h k) (2 ^ h)) (drop ((k + 1) * 2 ^ h) t.counts) 0 i (omega (arith, lt, length-shares (count_in t.counts h k) (2 ^ h)))
-        ∙ get_or-shares (count_in t.counts h k) (2 ^ h) i lt
-
-    pub leaves_after : slice_range next.counts (k * 2 ^ h) ((k + 1) * 2 ^ h) ≡ shares (count_in t.counts h k) (2 ^ h)
-    leaves_after =
-        let n = count_in t.counts h k in
-        let rest = shares n (2 ^ h) ++ drop ((k + 1) * 2 ^ h) t.counts in
-        let count : (k + 1) * 2 ^ h - k * 2 ^ h ≡ 2 ^ h = omega (arith, window_end) in
-        ap (λ (ns : List ℕ). slice_range ns (k * 2 ^ h) ((k + 1) * 2 ^ h)) counts_is
-        ∙ ap (take ((k + 1) * 2 ^ h - k * 2 ^ h)) (ap (λ (i : ℕ). drop i (take (k * 2 ^ h) t.counts ++ rest)) (sym many) ∙ drop-append_seam (take (k * 2 ^ h) t.counts) rest)
-        ∙ ap (λ (i : ℕ). take i rest) (count ∙ sym (length-shares n (2 ^ h))) ∙ take-append_seam (shares n (2 ^ h)) (drop ((k + 1) * 2 ^ h) t.counts)
-
-    -- and each of them is some
-    pub leaves_filled : length (slice_range next.counts (k * 2 ^ h) ((k + 1) * 2 ^ h)) ≡ 2 ^ h → All (λ count. 0 < count) (slice_range next.counts (k * 2 ^ h) ((k + 1) * 2 ^ h))
-    leaves_filled long = All-from_get_or (λ count. 0 < count) (slice_range next.counts (k * 2 ^ h) ((k + 1) * 2 ^ h)) 0 (λ i lt.
-        let inside : i < 2 ^ h = omega (arith, lt, long) in
-        omega (
-          arith,
-          get_or-take ((k + 1) * 2 ^ h - k * 2 ^ h) (drop (k * 2 ^ h) next.counts) i 0 (omega (arith, inside, window_end)),
-          get_or-drop (k * 2 ^ h) next.counts i 0,
-          share_at i inside,
-          share_some (count_in t.counts h k) (2 ^ h) i (pow_pos h) (enough larger bounds),
-        ))
 
   -- The array after the spread.
 

@@ -1,9 +1,13 @@
 -- A window that is one batch.
-use Rattle.std.proofs.Common.{◌≡◌, inl, ℕ, ◌+◌, ◌-◌, ◌^◌, ◌<◌, ◌≤◌, List, [], ◌∷◌, ◌++◌, length, sum, get_or, sym, ap, subst, ◌∙◌, arith, refl}
+use Rattle.std.proofs.Common.{◌≡◌, inl, ℕ, ◌+◌, ◌-◌, ◌^◌, ◌<◌, ◌≤◌, List, [], ◌∷◌, ◌++◌, length, take, drop, sum, get_or, sym, ap, subst, ◌∙◌, arith, refl}
 use Rattle.std.specs.Prelude.{All}
-use Rattle.std.proofs.lemmas.List.{ext_get_or, length-map, map-append}
+use Rattle.std.proofs.lemmas.List.{ext_get_or, length-drop, length-map, map-append}
 use Rattle.std.proofs.lemmas.List.Elements.{All-append, All-cons, All-nil}
-use Rattle.map_model.specs.Array.{Array, counts_of}
+use Rattle.density_rule.specs.Spread.{shares}
+use Rattle.density_rule.proofs.Shares.{length-shares}
+use Rattle.map_model.specs.Array.{Array, rows, counts_of, spread_over}
+use Rattle.map_model.specs.Image.{array_of}
+use Rattle.map_model.proofs.Spreading.{length-spread_over, counts-spread_over}
 use Rattle.redo_journal.specs.declared.place.Place.{Place}
 use Rattle.redo_journal.specs.Frames.{Batch}
 use Rattle.spread_plan.specs.declared.Move.{Move}
@@ -11,17 +15,20 @@ use Rattle.spread_plan.specs.declared.TheConstants.{SEGMENT_SLOTS}
 use Rattle.spread_plan.specs.Moves.{after_moves, counts_moved}
 use Rattle.spread_plan.specs.Plans.{full_counts, pack_moves, spread_moves}
 use Rattle.spread_plan.proofs.Counts.{length-full}
-use Rattle.spread_plan.proofs.Lists.{get_or-counts_of}
+use Rattle.spread_plan.proofs.Lists.{get_or-counts_of, length-records_of}
 use Rattle.spread_plan.proofs.StageLemmas.{after_moves-append}
 use Rattle.segment_frames.specs.declared.runs.Runs.{Runs}
 use Rattle.segment_frames.specs.Lists.{held_lists, numbers_of}
+use Rattle.segment_frames.specs.Standing.{IsSettledAt}
+use Rattle.segment_frames.proofs.ReadLaws.{length-array_of}
 use Rattle.segment_frames.proofs.FrameLaws.{length-rows_in}
 use Rattle.segment_frames.proofs.RunNumbers.{length_numbers}
 use Rattle.redistribute.specs.Moving.{KeepsAll, shifted, in_store, IsInside, IsWithin, IsWindowOf, IsPlan}
-use Rattle.redistribute.specs.Windows.{moves_over, HasWindow}
+use Rattle.redistribute.specs.Windows.{run_of, spread_at, moves_over, HasWindow}
 use Rattle.redistribute.specs.Batches.{HasCounts, TakesMoves}
-use Rattle.redistribute.proofs.ArrayLaws.{window_number}
-use Rattle.redistribute.proofs.MovingLaws.{length_moved, plan_on, plan_can, plan_apart, plan_some, keeps_cut}
+use Rattle.redistribute.proofs.ArrayLaws.{window_number, length-pre, spread_is}
+use Rattle.redistribute.proofs.WindowLaws.{around, length_around}
+use Rattle.redistribute.proofs.MovingLaws.{length_moved, plan_on, plan_can, plan_apart, plan_some, keeps_cut, run_around}
 use Rattle.redistribute.proofs.RowLaws.{pack_plan, spread_plan, keeps_over}
 
 pub window_within : (first count : ℕ) (r : Runs) → IsWindowOf first count r → IsWithin first count r
@@ -76,3 +83,27 @@ over_takes place first most counts image r has is some room inside low = record 
   within = omega (arith, has.within, is.high, is.high_len);
   keeps = keeps_over place first counts image has some (sum counts) refl most (pack_plan counts some room (sum counts) refl first most inside low);
 }
+
+-- the window after its spread
+pub window_spread : (place : Place) (first : ℕ) (counts old new : List ℕ) (records : ℕ) → HasWindow place first counts old → IsSettledAt place new → array_of new ≡ spread_at first (length counts) (array_of old) → records ≡ sum counts → 1 ≤ length counts
+    → HasWindow place first (shares records (length counts)) new
+window_spread place first counts old new records has settled after records_is some =
+    let m = length counts in
+    let lists = array_of old in
+    let run = run_of first m lists in
+    let fits : first + m ≤ length lists = omega (arith, has.within, length-array_of place old has.settled) in
+    let pre = take first lists in
+    let post = drop (first + m) lists in
+    let middle = spread_over m (rows run) in
+    let is : array_of new ≡ around pre post middle = after ∙ spread_is lists first m fits in
+    let before : length pre ≡ first = length-pre lists first m fits in
+    let size : length middle ≡ m = length-spread_over m (rows run) in
+    let long : length (shares records m) ≡ m = length-shares records m in
+    let total : length (rows run) ≡ records = length-records_of run ∙ ap sum has.counts_are ∙ sym records_is in
+    record {
+      settled = settled;
+      within = omega (arith, long, fits, before, size, length-array_of place new settled, ap length is, length_around pre post middle, length-drop (first + m) lists);
+      counts_are =
+          (λ t. counts_of (run_of (sym before t) (long t) (is t))) ∙ (λ t. counts_of (run_of (length pre) (sym size t) (around pre post middle)))
+          ∙ ap counts_of (run_around pre middle post) ∙ counts-spread_over m (rows run) some ∙ ap (λ (n : ℕ). shares n m) total;
+    }

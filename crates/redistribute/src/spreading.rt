@@ -1,6 +1,6 @@
 //! The rebalance of a window.
 
-ghost use Rattle.std.specs.Prelude.{◌≡◌, ◌⊎◌, ◌+◌, ◌-◌, ◌*◌, ◌^◌, ◌<◌, ◌≤◌, ℕ, OnOk, IfErr, IsErrOf, IsSome};
+ghost use Rattle.std.specs.Prelude.{◌≡◌, ◌⊎◌, ◌+◌, ◌-◌, ◌*◌, ◌^◌, ◌<◌, ◌≤◌, ℕ, OnOk, OnErr, IfErr, IsErrOf, IsSome};
 ghost use Rattle.station.specs.View.{Told, EachHeld, NothingPending, Rose};
 ghost use Rattle.station.specs.Steps.{Steps};
 ghost use Rattle.header_gate.specs.Places.{IsLayout, file_length};
@@ -21,6 +21,7 @@ use crate::windows::spread_segments;
 use density_rule::Window;
 use redo_journal::{Frames, Place};
 use segment::{Fences, StoreFault};
+use spread_plan::SpreadMoves;
 use station::Station;
 use window_tally::Tally;
 
@@ -29,7 +30,7 @@ use window_tally::Tally;
 ///
 /// `Failed` is a fault of the disk. `Damaged` names a segment that was read and isn't the one that the store wrote, as the
 /// frames show: by its first bad slot, or by its count and the one that it should have by then. After a fault the file
-/// represents the same map, but the tally and the fences may be those of before.
+/// represents the same map, the tally is the one of before, and some fences may be set.
 pub fn rebalance<S: Station, F: Fences>(
     station: &mut S,
     place: &Place,
@@ -59,6 +60,8 @@ pub fn rebalance<S: Station, F: Fences>(
       marks = spread_marks tally.old.height window.height window.number tally.old.marks;
     }) }
 
+    ensures unspread { OnErr result (tally.new ≡ tally.old) }
+
     // The segments of the window have fences, those of their first keys; the others stay.
     ensures fences_set { let first = window.number * 2 ^ window.height in
         OnOk result ((f : ℕ) → f < 2 ^ window.height → 0 < first + f → IsSome (F.fence fences.new (first + f))) }
@@ -84,8 +87,10 @@ pub fn rebalance<S: Station, F: Fences>(
     let first = first_in(window, count);
     let records = tally.count(window);
     spread_segments(station, place, frames, first, tally.leaves(window), records)?;
+    let plan = SpreadMoves::done(records, count);
+    fence_window(station, place, frames, fences, first, count, &plan)?;
     tally.set_spread(window);
-    fence_window(station, place, frames, fences, first, tally.leaves(window))
+    Ok(())
 }
 
 // How many segments a window has.

@@ -57,6 +57,7 @@ pub fn spread_segments<S: Station>(
     ensures steps { Steps (Rearranges place.now) (S.view station.old) (S.view station.new) }
     ensures stands { OnOk result (EachHeld (IsSettledAt place.now) (S.view station.new)) }
     ensures settled { OnOk result (NothingPending (S.view station.new)) }
+    ensures window { OnOk result (EachHeld (HasWindow place.now first (shares records (length counts.now))) (S.view station.new)) }
     ensures after { OnOk result (Told (S.view station.old) →
         array_of (S.view station.new).held ≡ spread_at first (length counts.now) (array_of (S.view station.old).held)) }
     ensures cost { (S.view station.new).travel.written ≤ (S.view station.old).travel.written + (4 * length counts.now - 2) * 16398 }

@@ -1,5 +1,5 @@
 -- The lists that are read into the frames of a batch.
-use Rattle.std.proofs.Common.{◌≡◌, inl, inr, ℕ, ◌+◌, ◌-◌, ◌^◌, ◌<◌, List, [], length, get_or, Some, None, sym, ap, ◌∙◌, arith}
+use Rattle.std.proofs.Common.{◌≡◌, inl, inr, ℕ, ◌+◌, ◌-◌, ◌^◌, ◌<◌, List, [], length, get_or, Some, None, eq-eqb, if◌then◌else◌, refl, sym, ap, ◌∙◌, arith}
 use Rattle.std.specs.Prelude.{map}
 use Rattle.std.proofs.lemmas.Bool.{cases_lt}
 use Rattle.std.proofs.lemmas.List.{ext_get_or, length-map, get_or_default}
@@ -15,8 +15,8 @@ use Rattle.segment_frames.specs.declared.runs.Runs.{Runs}
 use Rattle.segment_frames.specs.Lists.{page_at, rows_at, held_lists, shown, numbers_of, InOrder}
 use Rattle.segment_frames.specs.Reading.{HasRead, HasSegments, ShowsFault, IsPageFault, segment_bytes_at}
 use Rattle.segment.specs.declared.fault.StoreFault.{StoreFault}
-use Rattle.segment.specs.declared.fault.StoreFault.TheVariants.{Failed, Damaged}
-use Rattle.segment.specs.declared.fault.Damage.TheVariants.{NotSegment, OtherCount, OutOfOrder}
+use Rattle.segment.specs.declared.fault.Damage.TheVariants.{OtherCount}
+use Rattle.segment.specs.Judged.{damage_by, damage_of}
 use Rattle.segment_frames.proofs.RunNumbers.{length_numbers, low_number, high_number, numbers_below}
 use Rattle.segment_frames.proofs.FrameLaws.{length-rows_in, rows_in_at}
 use Rattle.segment_frames.proofs.ReadLaws.{settled_segment, list_of_segment}
@@ -39,10 +39,10 @@ shown_by numbers lists held long same =
 
 -- a page that is a segment of the right count shows no fault
 pub good_page : (page : List ℕ) (segment count : ℕ) → first_bad_slot page ≡ None → length (segment_of page) ≡ count → (fault : StoreFault) → IsPageFault page segment count fault → ⊥
-good_page page segment count good long Failed shows = shows
-good_page page segment count good long (Damaged named (NotSegment slot)) (same, bad) = let both : None ≡ Some slot = sym good ∙ bad in absurd cc
-good_page page segment count good long (Damaged named (OtherCount found kept)) (same, shows) = shows.other (shows.found_is ∙ long ∙ sym shows.kept_is)
-good_page page segment count good long (Damaged named OutOfOrder) (same, shows) = shows
+good_page page segment count good long fault shows =
+    let sound : damage_of page count ≡ None = (λ t. damage_by (good t) (long t) count) ∙ ap (λ b. if b then None else Some (OtherCount count count)) (eq-eqb count count refl) in
+    let both : None ≡ Some shows.why = sym sound ∙ shows.shown in
+    absurd cc
 
 module _ (place : Place) (image : List ℕ) (r : Runs) (order : InOrder r) (has : HasSegments place (r.high + r.high_len) image) (slots : List (List ℕ))
     (low : HasRead place image slots 0 r.low r.low_len) (high : HasRead place image slots r.low_len r.high r.high_len) where

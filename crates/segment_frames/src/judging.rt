@@ -1,6 +1,6 @@
 //! What was read into a frame is judged.
 
-ghost use Rattle.std.specs.Prelude.{◌≡◌, ◌≢◌, ◌<◌, length, OnOk, IfErr};
+ghost use Rattle.std.specs.Prelude.{◌≡◌, ◌<◌, length, OnOk, IfErr};
 ghost use Rattle.redo_journal.specs.Frames.{IsFrames};
 ghost use Rattle.segment_frames.specs.Held.{HoldsRows};
 ghost use Rattle.segment_frames.specs.Lists.{page_at, rows_at};
@@ -8,7 +8,7 @@ ghost use Rattle.segment_frames.specs.Reading.{IsPageFault};
 
 use key_slot::SEGMENT_SLOTS;
 use redo_journal::Frames;
-use segment::{Damage, Segment, StoreFault};
+use segment::{Segment, StoreFault};
 
 /// Sees that a frame holds a segment, with as many records as the store keeps for it.
 ///
@@ -21,25 +21,7 @@ pub fn judge_frame(frames: &Frames, f: u32, segment: u32, kept: u32) -> Result<(
     ensures count { OnOk result (length (rows_at frames.now.slots f) ≡ kept) }
     ensures fault { IfErr result (IsPageFault (page_at frames.now.slots f) segment kept) }
 {
-    match Segment::decode(frames.bytes(SEGMENT_SLOTS * f as usize, SEGMENT_SLOTS)) {
-        Ok(held) => judge_count(held.len(), segment, kept),
-        Err(bad) => Err(StoreFault::Damaged {
-            segment,
-            why: Damage::NotSegment { slot: bad.slot },
-        }),
-    }
-}
-
-// Sees that a segment has as many records as are kept for it.
-fn judge_count(found: u32, segment: u32, kept: u32) -> Result<(), StoreFault>
-    ensures same { OnOk result (found ≡ kept) }
-    ensures other { IfErr result (λ fault. (fault ≡ StoreFault.Damaged segment (Damage.OtherCount found kept)) × (found ≢ kept)) }
-{
-    if found != kept {
-        return Err(StoreFault::Damaged {
-            segment,
-            why: Damage::OtherCount { found, kept },
-        });
-    }
+    let page = frames.bytes(SEGMENT_SLOTS * f as usize, SEGMENT_SLOTS);
+    Segment::judge(page, segment, kept)?;
     Ok(())
 }

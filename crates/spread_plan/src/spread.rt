@@ -1,7 +1,8 @@
 //! The moves of a spread.
 
-ghost use Rattle.std.specs.Prelude.{◌≡◌, ◌*◌, ◌^◌, ◌<◌, ◌≤◌, length, slice_index};
+ghost use Rattle.std.specs.Prelude.{◌≡◌, ◌*◌, ◌^◌, ◌<◌, ◌≤◌, [], length, slice_index};
 ghost use Rattle.std.specs.Iterator.{item_count};
+ghost use Rattle.density_rule.specs.Spread.{shares};
 ghost use Rattle.spread_plan.specs.declared.TheConstants.{SEGMENT_SLOTS};
 ghost use Rattle.spread_plan.specs.Plans.{full_counts, spread_moves};
 ghost use Rattle.spread_plan.specs.States.{GivesMove, coming};
@@ -48,6 +49,23 @@ impl SpreadMoves {
             to: m,
             start: n,
             end: n,
+        }
+    }
+
+    /// No moves: `n` records are spread over `m` segments.
+    pub fn done(n: u32, m: u32) -> SpreadMoves
+        requires some { 1 ≤ m }
+        requires segments { m ≤ 2 ^ 16 }
+        requires room { n ≤ SEGMENT_SLOTS * m }
+        ensures moves { result.moves ≡ [] }
+        ensures counts { result.counts ≡ shares n m }
+    {
+        SpreadMoves {
+            records: n,
+            segments: m,
+            to: 0,
+            start: 0,
+            end: 0,
         }
     }
 

@@ -1,7 +1,6 @@
-use Rattle.std.proofs.Common.{arith, ◌≡◌, inl, inr, ◌+◌, ◌-◌, ◌<◌, ℕ, List, length, sym, ap, subst, ◌∙◌}
-use Rattle.std.specs.Prelude.{IsSome, Option, All}
+use Rattle.std.proofs.Common.{arith, ◌≡◌, inl, inr, ◌+◌, ◌-◌, ◌<◌, ℕ, List, sym, ap, subst, ◌∙◌}
+use Rattle.std.specs.Prelude.{IsSome, Option}
 use Rattle.std.proofs.lemmas.Bool.{cases_lt}
-use Rattle.std.proofs.lemmas.Result.{err_from_is_err_and}
 use Rattle.station.specs.View.{Fixed}
 use Rattle.station.proofs.Composition.{each_on, same_on, told_on}
 use Rattle.key_slot.specs.Record.{Bytes}
@@ -9,36 +8,23 @@ use Rattle.segment.specs.Rows.{key_at}
 use Rattle.map_model.specs.Array.{segment_at}
 use Rattle.map_model.specs.Image.{array_of}
 use Rattle.redistribute.specs.Windows.{HasWindow}
-use Rattle.redistribute.proofs.Shown.{shown_counts}
 use Rattle.redistribute.proofs.fencing.read_fences.Goals as goal
 
 pub read_part-requires-clause-within : goal.read_part-requires-clause-within
 read_part-requires-clause-within g c =
     let is = c.window_runs-runs.ensures in
-    let size = ap length c.over-plan.ensures.counts in
     record {
       order = omega (arith, is.low, is.low_len, is.high);
       above = omega (arith, is.low);
-      below = omega (arith, is.high, is.high_len, size, c.min-len.ensures, c.loop-done.invariant.within);
+      below = omega (arith, is.high, is.high_len, c.requires.count, c.min-len.ensures, c.loop-done.invariant.within);
     }
-
-pub read_part-requires-clause-filled : goal.read_part-requires-clause-filled
-read_part-requires-clause-filled g c = subst (λ (ns : List ℕ). All (λ count. 0 < count) ns) (sym c.over-plan.ensures.counts) c.requires.filled
-
-pub read_part-requires-clause-window : goal.read_part-requires-clause-window
-read_part-requires-clause-window g c image left = subst (λ (ns : List ℕ). HasWindow c.args.place.now c.args.first ns image) (sym c.over-plan.ensures.counts) (c.loop-done.invariant.window image left)
-
-pub returns-in_err-read_part-clause-cause : goal.returns-in_err-read_part-clause-cause
-returns-in_err-read_part-clause-cause g c =
-    let p = err_from_is_err_and c.from_residual.result c.from_residual.ensures.1 in
-    rw (p.1, p.2) (shown_counts c.read_part.new.frames c.args.first _ c.over-plan.result.counts c.args.counts.now c.over-plan.ensures.counts _ c.in_err-read_part.ensures.cause)
 
 pub loop-done-preserved : goal.loop-done-preserved
 loop-done-preserved g c =
     let first = c.args.first in
     let done = c.loop-done.done in
     let len = c.min-len.result in
-    let counts = c.args.counts.now in
+    let counts = (g.P.Plan.plan c.args.plan.now).counts in
     let fence = g.F.Fences.fence in
     let inv = c.loop-done.invariant in
     let is = c.window_runs-runs.ensures in

@@ -1,4 +1,4 @@
-use Rattle.std.proofs.Common.{◌≡◌, ◌⊎◌, ◌+◌, ◌-◌, ◌<◌, ◌≤◌, ℕ, length}
+use Rattle.std.proofs.Common.{◌≡◌, ◌⊎◌, ◌+◌, ◌-◌, ◌<◌, ◌≤◌, ℕ}
 use Rattle.std.specs.Prelude.{IsSome}
 use Rattle.station.specs.Bytes.{Same}
 use Rattle.station.specs.View.{Told, EachHeld}
@@ -12,12 +12,12 @@ use Rattle.redistribute.proofs.fencing.read_fences.Given as goal
 
 abbrev pub invariant-loop-done : goal.invariant-loop-done
 invariant-loop-done g l = record {
-  within : l.done ≤ length l.counts;
+  within : l.done ≤ l.count;
   steps : Steps Same (g.S.Station.view l.fn.station) (g.S.Station.view l.station);
   unwritten : (g.S.Station.view l.station).travel.written ≡ (g.S.Station.view l.fn.station).travel.written;
   reach : file_length l.place.layout ≤ (g.S.Station.view l.station).fixed.reach;
   journal : l.frames.journal ≡ l.fn.frames.journal;
-  window : EachHeld (HasWindow l.place l.first l.counts) (g.S.Station.view l.station);
+  window : EachHeld (HasWindow l.place l.first (g.P.Plan.plan l.plan).counts) (g.S.Station.view l.station);
   same_count : g.F.Fences.segment_count l.fences ≡ g.F.Fences.segment_count l.fn.fences;
   same_room : g.F.Fences.room l.fences ≡ g.F.Fences.room l.fn.fences;
   set : (f : ℕ) → f < l.done → 0 < l.first + f → IsSome (g.F.Fences.fence l.fences (l.first + f));
@@ -26,4 +26,4 @@ invariant-loop-done g l = record {
 }
 
 abbrev pub decreases-loop-done : goal.decreases-loop-done
-decreases-loop-done g l = length l.counts - l.done
+decreases-loop-done g l = l.count - l.done

@@ -14,7 +14,7 @@ use Rattle.segment_frames.specs.Lists.{shown, numbers_of}
 use Rattle.redistribute.specs.Moving.{KeepsAll, IsInside, IsWithin, IsWindowOf, IsPlan, all_moved, in_store}
 use Rattle.redistribute.specs.Batches.{HasCounts}
 use Rattle.redistribute.proofs.GroupLaws.{all_first}
-use Rattle.redistribute.proofs.ShareLaws.{some_lists, counts_of-some, fit-some, few_records}
+use Rattle.redistribute.proofs.ShareLaws.{few_by}
 use Rattle.redistribute.proofs.RowLaws.{pack_view, spread_view, all_packed, all_shared, pack_plan, spread_plan}
 use Rattle.redistribute.proofs.WholeLaws.{window_within, plan_inside, counts_held, after_over, keeps_both}
 use Rattle.redistribute.proofs.windows.share_out.Goals as goal
@@ -27,8 +27,7 @@ spread_is : (c : After-new-spread) → c.new-spread.result ≡ spread_view c.arg
 spread_is c = λ t. record { moves = c.new-spread.ensures.moves t; counts = c.new-spread.ensures.counts t }
 
 pub new-spread-requires-clause-room : goal.new-spread-requires-clause-room
-new-spread-requires-clause-room c =
-    few_records (some_lists c.args.counts.now) (fit-some c.args.counts.now c.requires.room) c.args.counts.now (counts_of-some c.args.counts.now) c.requires.some c.args.records c.requires.records
+new-spread-requires-clause-room c = few_by c.args.counts.now c.requires.room c.args.records c.requires.records
 
 planned : (c : After-new-spread) → IsPlan c.args.first (2 ^ 16) (pack_view c.args.counts.now)
 planned c = pack_plan c.args.counts.now c.requires.some c.requires.room c.args.records c.requires.records c.args.first (2 ^ 16) c.requires.small (omega arith)

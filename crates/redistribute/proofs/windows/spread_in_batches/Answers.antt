@@ -13,7 +13,7 @@ use Rattle.redistribute.specs.Moving.{all_moved, IsPlan, in_store}
 use Rattle.redistribute.specs.Windows.{HasWindow, TakesPlan}
 use Rattle.redistribute.proofs.Calls.{steps_on}
 use Rattle.redistribute.proofs.Shown.{shown_same, shown_first, shown_last}
-use Rattle.redistribute.proofs.ShareLaws.{some_lists, counts_of-some, fit-some, few_records}
+use Rattle.redistribute.proofs.ShareLaws.{few_by}
 use Rattle.redistribute.proofs.RowLaws.{pack_view, spread_view, all_packed, pack_plan, spread_plan, pack_takes, spread_takes, spread_ends}
 use Rattle.redistribute.proofs.windows.spread_in_batches.Goals as goal
 use Rattle.redistribute.proofs.windows.spread_in_batches.Goals.{After-over-pack, After-new-spread}
@@ -54,8 +54,7 @@ returns-in_err-make_batches-clause-cause g c =
     (shown_same c.make_batches.new.frames c.args.first c.over-pack.result (pack_view counts) (pack_is g here) _ c.in_err-make_batches.ensures.cause))
 
 pub new-spread-requires-clause-room : goal.new-spread-requires-clause-room
-new-spread-requires-clause-room g c =
-    few_records (some_lists c.args.counts.now) (fit-some c.args.counts.now c.requires.room) c.args.counts.now (counts_of-some c.args.counts.now) c.requires.some c.args.records c.requires.records
+new-spread-requires-clause-room g c = few_by c.args.counts.now c.requires.room c.args.records c.requires.records
 
 pub make_batches-requires-2-clause-plan : goal.make_batches-requires-2-clause-plan
 make_batches-requires-2-clause-plan g c =
