@@ -9,14 +9,12 @@ ghost use Rattle.header_gate.specs.declared.reason.Reason.{Reason};
 ghost use Rattle.header_gate.specs.Header.{number, gate};
 ghost use Rattle.header_gate.specs.Places.{IsLayout, segment_size, table_place, image_place, file_length};
 ghost use Rattle.header_gate.specs.Recovered.{IsBatch, table_numbers, table_reason, journal_reason};
-ghost use Rattle.redo_journal.specs.declared.frames.TheConstants.{FRAME_SLOTS};
 ghost use Rattle.redo_journal.specs.Commit.{IsAt, Replays};
 ghost use Rattle.redo_journal.specs.Replaying.{HasRead, journal_fault};
 
 use crate::apply::settle;
-use crate::frames::{FRAME_SLOTS, Frames};
+use crate::frames::Frames;
 use crate::place::Place;
-use crate::table::read_number;
 use header_gate::{HeaderFault, Layout, Reason, SEGMENT, TABLE};
 use station::{Failed, Station};
 
@@ -90,7 +88,7 @@ fn read_batch<S: Station>(
 {
     read_table(station, layout, height, frames)?;
     let size = SEGMENT * frames.count() as usize;
-    let Ok(()) = read_into(station, layout.image_at(0), frames, layout.journal, 0, size) else {
+    let Ok(()) = read_into(station, layout.image_at(0), frames, 0, size) else {
         return Err(HeaderFault::Failed);
     };
     Ok(())
@@ -119,14 +117,7 @@ fn read_table<S: Station>(
     ensures cause { IsErrOf result HeaderFault.Failed → Rose (S.view station.old).disk_faults (S.view station.new).disk_faults }
 {
     let count = read_count(station, layout, frames)?;
-    let Ok(()) = read_into(
-        station,
-        TABLE + 4,
-        frames,
-        layout.journal,
-        4,
-        4 * count as usize,
-    ) else {
+    let Ok(()) = read_into(station, TABLE + 4, frames, 4, 4 * count as usize) else {
         return Err(HeaderFault::Failed);
     };
     match frames.take_table(segments(height)) {
@@ -166,10 +157,10 @@ fn read_count<S: Station>(
     ensures reads { (S.view station.new).travel.read ≤ (S.view station.old).travel.read + 4 }
     ensures cause { IsErrOf result HeaderFault.Failed → Rose (S.view station.old).disk_faults (S.view station.new).disk_faults }
 {
-    let Ok(()) = read_into(station, TABLE, frames, layout.journal, 0, 4) else {
+    let Ok(()) = read_into(station, TABLE, frames, 0, 4) else {
         return Err(HeaderFault::Failed);
     };
-    let count = front_number(frames, layout.journal);
+    let count = frames.number_in_frames(0);
     if count == 0 || layout.journal < count {
         return Err(HeaderFault::NotStore(Reason::Journal {
             place: TABLE as u32,
@@ -178,26 +169,15 @@ fn read_count<S: Station>(
     Ok(count)
 }
 
-// The number at the front of the frames.
-fn front_number(frames: &Frames, journal: u32) -> u32
-    requires journal { frames.now.journal ≡ journal }
-    requires room { 1 ≤ journal }
-    ensures { result ≡ number (bytes_of frames.now.slots) 0 }
-{
-    read_number(frames.bytes(0, all_slots(frames, journal)), 0)
-}
-
 // Reads `count` bytes of the file at `pos` to the frames' bytes from `start` on.
 fn read_into<S: Station>(
     station: &mut S,
     pos: u64,
     frames: &mut Frames,
-    journal: u32,
     start: usize,
     count: usize,
 ) -> Result<(), Failed>
-    requires journal { frames.old.journal ≡ journal }
-    requires room { start + count ≤ segment_size * journal }
+    requires room { start + count ≤ segment_size * frames.old.journal }
     requires reach { pos + count ≤ (S.view station.old).fixed.reach }
     ensures frames { frames.new ≡ record frames.old { slots = frames.new.slots } }
     ensures kept { (k : ℕ) → k < start → byte (bytes_of frames.new.slots) k ≡ byte (bytes_of frames.old.slots) k }
@@ -207,7 +187,7 @@ fn read_into<S: Station>(
     ensures reads { (S.view station.new).travel.read ≤ (S.view station.old).travel.read + count }
     ensures cause { OnErr result (Rose (S.view station.old).disk_faults (S.view station.new).disk_faults) }
 {
-    let slots = all_slots(frames, journal);
+    let slots = frames.slot_count();
     read_part(station, pos, frames.bytes_mut(0, slots), start, count)
 }
 
@@ -230,15 +210,4 @@ fn read_part<S: Station>(
     ensures cause { OnErr result (Rose (S.view station.old).disk_faults (S.view station.new).disk_faults) }
 {
     station.read_at(pos, &mut buffer[start..start + count])
-}
-
-// How many slots the frames have: those of a segment for each that the journal takes.
-fn all_slots(frames: &Frames, journal: u32) -> usize
-    requires { frames.now.journal ≡ journal }
-    ensures value { result ≡ FRAME_SLOTS * journal }
-    ensures all { result ≡ length frames.now.slots }
-{
-    // No number is wanted, but what is true of every batch.
-    let _ = frames.numbers();
-    FRAME_SLOTS * journal as usize
 }

@@ -11,7 +11,7 @@ pub returns-then-count-eq0-clause-refused : goal.returns-then-count-eq0-clause-r
 returns-then-count-eq0-clause-refused g c told r e bound numbers =
     let a = g.S.Station.view c.args.station.now in
     let same : Journal table_place ≡ r = cc in
-    let is = c.front_number-count.ensures ∙ count_read c.read_into.new.frames.slots a.held table_place (c.in-Ok.ensures.read told) in
+    let is = c.number_in_frames-count.ensures ∙ count_read c.read_into.new.frames.slots a.held table_place (c.in-Ok.ensures.read told) in
     let found = number a.held table_place in
     let bad : (found ≡ 0) ⊎ (c.args.layout.journal < found) = elim c.then-count-eq0.branch [
       | then-count-eq0-via-then-count-eq0 w ↦ inl (omega (arith, is, w.if-count-eq0.true))
