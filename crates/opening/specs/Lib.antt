@@ -1,0 +1,5 @@
+pub mod Parts
+pub mod Restores
+pub mod Faults
+pub mod Loading
+pub mod Spans
