@@ -19,7 +19,8 @@ use Rattle.pma_store.specs.Answers.{state_in}
 use Rattle.command_text.specs.declared.command.Command.{Command}
 use Rattle.command_text.specs.declared.reply.Reply.{Reply}
 use Rattle.command_text.specs.Reply.{reply_text}
-use Rattle.command_text.specs.Answers.{answers, reply_of, step}
+use Rattle.command_text.specs.Answers.{step}
+use Rattle.pma_engine.specs.Answers.{answers, reply_of}
 use Rattle.pma_engine.specs.Session.{AnswerPair}
 use Rattle.pma_engine.specs.declared.fault.ServeFault.TheVariants as serve
 use Rattle.pma_engine.specs.Faults.{fault_of}

@@ -18,7 +18,8 @@ use Rattle.command_text.specs.declared.command.Command.{Command}
 use Rattle.command_text.specs.declared.command.Command.TheVariants.{Put, Remove, Get}
 use Rattle.command_text.specs.declared.reply.Reply.{Reply}
 use Rattle.command_text.specs.declared.reply.Reply.TheVariants as reply
-use Rattle.command_text.specs.Answers.{answers, step, found_or_absent}
+use Rattle.command_text.specs.Answers.{step, found_or_absent}
+use Rattle.pma_engine.specs.Answers.{answers}
 use Rattle.pma_store.specs.declared.answers.Put as store
 use Rattle.pma_store.specs.declared.answers.Put.TheVariants.{New, Replaced, Full}
 use Rattle.pma_store.specs.Store.{StoreView, Stands, Becomes, LeavesAll}

@@ -9,11 +9,12 @@ use Rattle.command_text.specs.Command.{command_of}
 use Rattle.command_text.specs.declared.command.Why.TheVariants as why
 use Rattle.map_model.specs.Store.{State}
 use Rattle.command_text.specs.declared.command.Command.{Command}
-use Rattle.command_text.specs.declared.command.Command.TheVariants.{Nothing, Put, Remove, Get, OversizedKey, OversizedValue, Bad}
+use Rattle.command_text.specs.declared.command.Command.TheVariants.{Nothing, Put, Remove, Get, Range, Check, Probe, OversizedKey, OversizedValue, Bad}
 use Rattle.command_text.specs.declared.reply.Reply.{Reply}
 use Rattle.command_text.specs.declared.reply.Reply.TheVariants as reply
 use Rattle.command_text.specs.Reply.{reply_text, reply_body}
-use Rattle.command_text.specs.Answers.{step, reply_of}
+use Rattle.command_text.specs.Answers.{step}
+use Rattle.pma_engine.specs.Answers.{reply_of}
 use Rattle.command_text.specs.Script.{command_of_raw, if_any, commands_in}
 use Rattle.pma_engine.proofs.SessionLaws.{AllAnswered}
 
@@ -27,6 +28,9 @@ answered hmax s Nothing is = absurd (cc)
 answered hmax s (Put key value) is = text_some _
 answered hmax s (Remove key) is = text_some _
 answered hmax s (Get key) is = text_some _
+answered hmax s (Range low high limit) is = text_some (reply.Bad why.Command)
+answered hmax s Check is = text_some (reply.Bad why.Command)
+answered hmax s (Probe key block) is = text_some (reply.Bad why.Command)
 answered hmax s OversizedKey is = text_some reply.OversizedKey
 answered hmax s OversizedValue is = text_some reply.OversizedValue
 answered hmax s (Bad why) is = text_some (reply.Bad why)
@@ -37,6 +41,9 @@ if_any_is Nothing = inl (refl, refl)
 if_any_is (Put key value) = inr refl
 if_any_is (Remove key) = inr refl
 if_any_is (Get key) = inr refl
+if_any_is (Range low high limit) = inr refl
+if_any_is Check = inr refl
+if_any_is (Probe key block) = inr refl
 if_any_is OversizedKey = inr refl
 if_any_is OversizedValue = inr refl
 if_any_is (Bad why) = inr refl

@@ -19,7 +19,8 @@ use Rattle.map_model.specs.Image.{RepresentsMap}
 use Rattle.command_text.specs.declared.command.Command.{Command}
 use Rattle.command_text.specs.declared.command.Command.TheVariants.{Nothing}
 use Rattle.command_text.specs.Script.{command_of_raw, commands_in, commands_of}
-use Rattle.command_text.specs.Answers.{reply_of, step}
+use Rattle.command_text.specs.Answers.{step}
+use Rattle.pma_engine.specs.Answers.{reply_of}
 use Rattle.pma_store.specs.Store.{StoreView, Stands}
 use Rattle.pma_engine.specs.Session.{state_after, replies_after, Headline, AnswerPair}
 use Rattle.pma_engine.specs.Serving.{GivesCommand, IsNextCommand, ScriptPair, IsServed, IsServedToCut, IsCutInReply, TakesAtMost}

@@ -5,7 +5,8 @@ use Rattle.key_slot.specs.Record.{Bytes}
 use Rattle.map_model.specs.Store.{State}
 use Rattle.map_model.specs.Image.{RepresentsMap}
 use Rattle.command_text.specs.declared.command.Command.{Command}
-use Rattle.command_text.specs.Answers.{step, reply_of}
+use Rattle.command_text.specs.Answers.{step}
+use Rattle.pma_engine.specs.Answers.{reply_of}
 use Rattle.pma_engine.specs.Session.{state_after, replies, replies_after, replies_begun, Headline, AnswerPair}
 
 -- every command of the list has a reply of at least one byte

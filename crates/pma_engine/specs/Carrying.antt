@@ -8,9 +8,10 @@ use Rattle.segment.specs.declared.fault.StoreFault.{StoreFault}
 use Rattle.segment.specs.declared.fault.StoreFault.TheVariants.{Failed, Damaged}
 use Rattle.segment.specs.declared.fault.Damage.{Damage}
 use Rattle.command_text.specs.declared.command.Command.{Command}
-use Rattle.command_text.specs.declared.command.Command.TheVariants.{Nothing, Put, Remove, Get, OversizedKey, OversizedValue, Bad}
+use Rattle.command_text.specs.declared.command.Command.TheVariants.{Nothing, Put, Remove, Get, Range, Check, Probe, OversizedKey, OversizedValue, Bad}
 use Rattle.command_text.specs.declared.reply.Reply.{Reply}
-use Rattle.command_text.specs.Answers.{answers, reply_of, step}
+use Rattle.command_text.specs.Answers.{step}
+use Rattle.pma_engine.specs.Answers.{answers, reply_of}
 use Rattle.pma_store.specs.Store.{StoreView, Stands, Becomes, LeavesAll}
 use Rattle.pma_store.specs.Answers.{state_in}
 use Rattle.pma_engine.specs.Replies.{lines_of, IsQuiet, ChangesNothing}
@@ -34,6 +35,9 @@ Travels (Put key value) a b = b.written ≤ a.written + update_size
 Travels (Remove key) a b = b.written ≤ a.written + update_size
 Travels (Get key) a b = (b.read ≡ up a.read segment_size) × (b.written ≡ a.written)
 Travels Nothing a b = b ≡ a
+Travels (Range low high limit) a b = b ≡ a
+Travels Check a b = b ≡ a
+Travels (Probe key block) a b = b ≡ a
 Travels OversizedKey a b = b ≡ a
 Travels OversizedValue a b = b ≡ a
 Travels (Bad why) a b = b ≡ a

@@ -1,3 +1,4 @@
+pub mod Answers
 pub mod Words
 pub mod Replies
 pub mod Session

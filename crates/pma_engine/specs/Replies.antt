@@ -5,7 +5,7 @@ use Rattle.map_model.specs.Store.{State}
 use Rattle.command_text.specs.declared.command.Command.{Command}
 use Rattle.command_text.specs.declared.reply.Reply.{Reply}
 use Rattle.command_text.specs.declared.reply.Reply.TheVariants as reply
-use Rattle.command_text.specs.Answers.{answers}
+use Rattle.pma_engine.specs.Answers.{answers}
 use Rattle.pma_store.specs.declared.answers.Put.{Put}
 use Rattle.pma_store.specs.declared.answers.Put.TheVariants.{New, Replaced, Full}
 

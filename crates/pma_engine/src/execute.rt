@@ -7,7 +7,7 @@ ghost use Rattle.pma_store.specs.Store.{Stands};
 ghost use Rattle.pma_engine.specs.Replies.{put_reply, removal_reply};
 ghost use Rattle.pma_engine.specs.Carrying.{Executes};
 
-use command_text::{Command, Reply};
+use command_text::{Command, Reply, Why};
 use key_slot::{Key, Value};
 use pma_store::{Put, Store};
 use segment::StoreFault;
@@ -32,6 +32,9 @@ pub(crate) fn execute<S: Station>(
         Command::Put(key, value) => execute_put(store, station, key, value),
         Command::Remove(key) => execute_remove(store, station, key),
         Command::Get(key) => execute_get(store, station, key),
+        Command::Range { .. } | Command::Check | Command::Probe { .. } => {
+            Ok(Some(Reply::Bad(Why::Command)))
+        }
         Command::OversizedKey => Ok(Some(Reply::OversizedKey)),
         Command::OversizedValue => Ok(Some(Reply::OversizedValue)),
         Command::Bad(why) => Ok(Some(Reply::Bad(*why))),

@@ -5,7 +5,7 @@ ghost use Rattle.station.specs.View.{Told, SaidTold, EachHeld, NothingPending, R
 ghost use Rattle.station.specs.Steps.{Run};
 ghost use Rattle.header_gate.specs.Places.{file_length};
 ghost use Rattle.command_text.specs.Command.{command_of};
-ghost use Rattle.command_text.specs.Answers.{reply_of};
+ghost use Rattle.pma_engine.specs.Answers.{reply_of};
 ghost use Rattle.pma_store.specs.Store.{Stands, LeavesAll};
 ghost use Rattle.pma_store.specs.Answers.{state_in};
 ghost use Rattle.pma_engine.specs.Faults.{IsLineFault, IsNoScriptFault, is_of_store};
