@@ -16,7 +16,7 @@ fn a_key_is_bound_and_taken_away(rt: HostRuntime) -> Result<(), Fail> {
         journal: 4,
     };
     let mut station = MemStation::new(rt.alloc(), &[], LENGTH, 0, &[], None)?;
-    create_store(&mut station, layout)?;
+    assert!(rt; create_store(&mut station, layout).is_ok());
     let mut store = Store::open_on(rt.alloc(), &mut station)?;
     let key = Key::from_bytes(b"a")?;
     let value = Value::from_bytes(b"1")?;

@@ -15,8 +15,8 @@ use key_slot::Key;
 use segment::Segment;
 use station::{Failed, Station};
 
-// Reads the bytes of a segment of a region.
-pub(crate) fn read_page<S: Station>(
+/// Reads the bytes of a segment of a region.
+pub fn read_page<S: Station>(
     station: &mut S,
     layout: &Layout,
     region: u32,
