@@ -1,3 +1,10 @@
-mod EditLaws
-mod Opening
-mod Storing
+pub mod Standing
+pub mod Rewriting
+pub mod Written
+pub mod Editing
+pub mod Balancing
+pub mod ReadyStores
+pub mod Picks
+pub mod Outcomes
+pub mod Steps
+pub mod Changes

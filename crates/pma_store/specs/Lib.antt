@@ -1,3 +1,10 @@
 pub mod Store
 pub mod Answers
+pub mod Looking
+pub mod Inside
 pub mod Rewrites
+pub mod Counting
+pub mod Updating
+pub mod Spots
+pub mod Readying
+pub mod Changing

@@ -1,29 +1,23 @@
--- What a segment that is committed makes of a file.
-use Rattle.std.specs.Prelude.{◌≡◌, ◌⊎◌, ◌<◌, ℕ, List}
-use Rattle.std.specs.FinMap.{entries}
-use Rattle.station.specs.Bytes.{byte}
+-- What the commit of one segment makes of a file.
+use Rattle.std.specs.Prelude.{◌≡◌, ◌⊎◌, ℕ, List, slice_set}
 use Rattle.key_slot.specs.Record.{Record}
-use Rattle.key_slot.specs.Segment.{IsSegment}
-use Rattle.header_gate.specs.Header.{gate, live_copy, layout_in}
-use Rattle.header_gate.specs.Places.{segment_size}
+use Rattle.header_gate.specs.Header.{live_copy, layout_in}
+use Rattle.map_model.specs.Array.{Array}
+use Rattle.map_model.specs.Holding.{HoldsMap}
+use Rattle.map_model.specs.Image.{Represents, array_of, height_of}
 use Rattle.map_model.specs.Store.{Map}
-use Rattle.map_model.specs.Image.{Represents}
-use Rattle.redo_journal.specs.declared.place.Place.{Place}
-use Rattle.redo_journal.specs.Commit.{frame_byte}
 
--- frame 0 spells the segment of these rows
-pub record HasFrame (rows : List Record) (slots : List (List ℕ)) : Type 0 where
-  pub bytes : List ℕ
-  pub segment : IsSegment rows bytes
-  pub spelled : (o : ℕ) → o < segment_size → frame_byte slots 0 o ≡ byte bytes o
+-- the array of a file with these records in one segment
+abbrev pub rewritten : List ℕ → ℕ → List Record → Array
+rewritten image at rows = slice_set (array_of image) at rows
 
--- the image represents the map that it did, or the map whose records are the rows
-abbrev pub Rewrites : List Record → List ℕ → List ℕ → Type 0
-Rewrites rows start image = ((m : Map) → Represents start m 0 → Represents image m 0) ⊎ ((m next : Map) → Represents start m 0 → rows ≡ entries next → Represents image next 0)
+-- the image represents each map that the start's array holds with these records in one segment, and has that array
+pub record HasRewritten (at : ℕ) (rows : List Record) (start image : List ℕ) : Type 0 where
+  pub layout_is : layout_in image ≡ layout_in start
+  pub region_is : live_copy image ≡ live_copy start
+  pub holds : (next : Map) → HoldsMap (layout_in start).hmax next (height_of start) (rewritten start at rows) → Represents image next (height_of start)
+  pub array_is : (next : Map) → HoldsMap (layout_in start).hmax next (height_of start) (rewritten start at rows) → array_of image ≡ rewritten start at rows
 
--- the image is a file at this place with an even gate, and represents the map whose records are the rows
-pub record HoldsRows (place : Place) (rows : List Record) (image : List ℕ) : Type 0 where
-  pub layout_is : layout_in image ≡ place.layout
-  pub region_is : live_copy image ≡ place.region
-  pub gate_even : gate image ≡ 0
-  pub represents : (next : Map) → rows ≡ entries next → Represents image next 0
+-- the image represents what the start did, or has the segment rewritten
+abbrev pub Rewrites : ℕ → List Record → List ℕ → List ℕ → Type 0
+Rewrites at rows start image = ((m : Map) (height : ℕ) → Represents start m height → Represents image m height) ⊎ HasRewritten at rows start image

@@ -1,9 +1,9 @@
--- What an opening makes of a file.
-use Rattle.std.proofs.Common.{◌≡◌, ◌⊎◌, ⊎_elim, ℕ, [], ◌∷◌, ◌^◌, ◌≤◌, List, length, Option, Some, None, Bool, true, sym, ◌∙◌, ap, subst, arith}
-use Rattle.std.specs.Prelude.{map, slice_set}
+-- What the reading of a file that an opening brings back says of the file.
+use Rattle.std.proofs.Common.{◌≡◌, ◌⊎◌, ⊎_elim, ℕ, ◌^◌, ◌<◌, ◌≤◌, List, length, Option, Some, None, Bool, sym, ◌∙◌, ap, subst, arith}
+use Rattle.std.proofs.Math.Pow.{pow_mono}
 use Rattle.station.specs.Bytes.{byte, Touched}
-use Rattle.key_slot.specs.Segment.{IsSegment, segment_of, first_bad_slot}
-use Rattle.key_slot.proofs.SegmentLaws.{segment_sound}
+use Rattle.key_slot.specs.Record.{Bytes, Record}
+use Rattle.segment.specs.Rows.{key_at}
 use Rattle.header_gate.specs.declared.layout.Layout.{Layout}
 use Rattle.header_gate.specs.declared.reason.Reason.{Reason}
 use Rattle.header_gate.specs.declared.header.HeaderFault.{HeaderFault}
@@ -14,27 +14,25 @@ use Rattle.header_gate.specs.Reasons.{or_else, header_reason}
 use Rattle.header_gate.specs.Recovered.{IsBatch, recovered, table_numbers, journal_reason}
 use Rattle.header_gate.proofs.Recoveries.{table_same}
 use Rattle.header_gate.proofs.Soundness.{none_of_sound}
-use Rattle.map_model.specs.Image.{Represents, array_in, live_segment, map_of, height_of}
-use Rattle.map_model.specs.Reasons.{reason_of, array_reason, segment_reason}
+use Rattle.map_model.specs.Array.{counts_of}
+use Rattle.map_model.specs.Image.{Represents, array_from, array_in, array_of, live_segment, map_of, height_of}
+use Rattle.map_model.specs.Reasons.{reason_of, array_reason}
+use Rattle.map_model.specs.Standing.{StandsWith}
 use Rattle.map_model.specs.Batches.{KeepsHeader}
 use Rattle.map_model.proofs.Headers.{segment_read, same_segments}
-use Rattle.std.proofs.lemmas.Nat.{pow_pos}
-use Rattle.map_model.proofs.Recovering.{array_one, kept, same_header, represents_own}
-use Rattle.map_model.proofs.Reasonings.{represents_of_none}
-use Rattle.recovery.proofs.OneSegment.{array_reason_one, refused_low}
+use Rattle.map_model.proofs.Recovering.{kept, same_header, represents_own}
+use Rattle.map_model.proofs.Reasonings.{represents_of_none, array_is, length-array_in, segment_at-array_in}
+use Rattle.range_scan.specs.Reading.{page_in}
+use Rattle.range_scan.proofs.Pages.{page_whole}
 use Rattle.redo_journal.specs.declared.place.Place.{Place}
 use Rattle.redo_journal.specs.Commit.{IsAt, Replays, IsRegionPlace}
-use Rattle.recovery.specs.Parts.{HasHeader, StandsFor}
-use Rattle.recovery.specs.Restores.{Restores}
-use Rattle.recovery.specs.declared.open.TheConstants.{TALLEST}
+use Rattle.veb_index.specs.View.{IndexView, fence_of}
 use Rattle.recovery.specs.Faults.{fault_of}
-use Rattle.recovery.specs.Refusals.{refusal_of}
+use Rattle.recovery.specs.Loading.{first_key_of}
+use Rattle.recovery.specs.Parts.{HasHeader, HasFences}
+use Rattle.recovery.specs.Restores.{Restores}
 use Rattle.recovery.specs.declared.fault.OpenFault.TheVariants.{NotStore}
-use Rattle.window_tally.specs.View.{TallyView, empty_tally}
-
--- a layout and a region
-abbrev pub place_of : Layout → ℕ → Place
-place_of layout region = record { layout = layout; region = region }
+use Rattle.recovery.proofs.SameArrays.{same_arrays, same_reason}
 
 -- nothing is changed
 pub restores_same : (old new : List ℕ) → new ≡ old → Restores old new
@@ -74,15 +72,11 @@ module _ (place : Place) (height : ℕ) (odd : Bool) (old : List ℕ) (header : 
       let e : journal_reason (layout_in old) (height_of old) old ≡ Some r = (λ t. journal_reason (header.layout_is t) (header.height_is t) old) ∙ is in
       (λ t. or_else (no_header_reason t) (or_else (e t) (array_reason (live_segment old) (height_of old))))
 
-  -- it is opened today, so that its first reason is why it isn't
-  pub refusal_is : place.layout.hmax ≤ TALLEST → refusal_of old ≡ reason_of old
-  refusal_is low = refused_low old no_header_reason (omega (arith, low, ap (λ (l : Layout). l.hmax) header.layout_is))
-
-  pub by_slot : (answer : Option Reason) → height ≡ 0 → journal_reason place.layout height old ≡ None → segment_reason 0 (first_bad_slot (live_segment old 0)) true ≡ answer → reason_of old ≡ answer
+  by_array : (answer : Option Reason) → journal_reason place.layout height old ≡ None → array_reason (live_segment old) height ≡ answer → reason_of old ≡ answer
   unfolding reason_of
-  by_slot answer flat none is =
+  by_array answer none is =
       let e : journal_reason (layout_in old) (height_of old) old ≡ None = (λ t. journal_reason (header.layout_is t) (header.height_is t) old) ∙ none in
-      (λ t. or_else (no_header_reason t) (or_else (e t) (array_reason (live_segment old) ((header.height_is ∙ flat) t)))) ∙ array_reason_one old header.sound ∙ is
+      (λ t. or_else (no_header_reason t) (or_else (e t) (array_reason (live_segment old) (header.height_is t)))) ∙ is
 
   -- After a replay.
 
@@ -90,50 +84,68 @@ module _ (place : Place) (height : ℕ) (odd : Bool) (old : List ℕ) (header : 
     keeps : KeepsHeader old new
     keeps = same_header old new header.sound restores.recovers
 
-    pub at_exit : IsAt place new
+    at_exit : IsAt place new
     at_exit = record { size = keeps.sound.size ∙ ap file_length (keeps.layout_is ∙ header.layout_is); region_is = keeps.live_is ∙ header.region_is }
 
-    -- what is read of the file is the segment
-    pub segment_restored : gate new ≡ 0 → segment_in place.layout new 0 ≡ live_segment old 0
-    segment_restored even =
-        ap (λ (l : Layout). segment_in l new 0) (sym (keeps.layout_is ∙ header.layout_is))
-        ∙ segment_read new keeps.sound even 0 (pow_pos (layout_in new).hmax)
-        ∙ same_segments old new keeps.layout_is restores.recovers 0
+    height_new : height_of new ≡ height
+    height_new = keeps.height_is ∙ header.height_is
 
-    pub no_reason : height ≡ 0 → journal_reason place.layout height old ≡ None → gate new ≡ 0 → IsSegment (segment_of (segment_in place.layout new 0)) (segment_in place.layout new 0) → reason_of old ≡ None
-    no_reason flat none even is =
-        let b = segment_in place.layout new 0 in
-        let good : first_bad_slot b ≡ None = segment_sound (segment_of b) b is in
-        by_slot None flat none (ap (λ (s : List ℕ). segment_reason 0 (first_bad_slot s) true) (sym (segment_restored even)) ∙ ap (λ (bad : Option ℕ). segment_reason 0 bad true) good)
+    same_live : (i : ℕ) → live_segment new i ≡ live_segment old i
+    same_live = same_segments old new keeps.layout_is restores.recovers
 
-    pub bad_slot : (r : Reason) → height ≡ 0 → journal_reason place.layout height old ≡ None → gate new ≡ 0 → segment_reason 0 (first_bad_slot (segment_in place.layout new 0)) true ≡ Some r → reason_of old ≡ Some r
-    bad_slot r flat none even is = by_slot (Some r) flat none (ap (λ (s : List ℕ). segment_reason 0 (first_bad_slot s) true) (sym (segment_restored even)) ∙ is)
+    -- the array stays
+    pub array_restored : array_of new ≡ array_of old
+    array_restored =
+        ap (array_in new) keeps.height_is
+        ∙ array_is new (height_of old)
+        ∙ same_arrays (live_segment new) (live_segment old) (2 ^ height_of old) (λ i lt. same_live i)
+        ∙ sym (array_is old (height_of old))
 
-    pub stands : (tally : TallyView) → height ≡ 0 → tally.height ≡ 0 → tally.counts ≡ length (segment_of (segment_in place.layout new 0)) ∷ [] → reason_of old ≡ None → gate new ≡ 0 → StandsFor place tally new
-    stands tally flat low counts none even =
-        let was = represents_of_none old none in
-        let is = restores.map (map_of old) (height_of old) was in
-        let zero_height : height_of new ≡ 0 = keeps.height_is ∙ header.height_is ∙ flat in
-        let segment : live_segment new 0 ≡ segment_in place.layout new 0 = same_segments old new keeps.layout_is restores.recovers 0 ∙ sym (segment_restored even) in
-        record {
-          represents = (height_of new, represents_own new (map_of old) (height_of old) is);
+    module _ (even : gate new ≡ 0) (small : place.region < 2) (low : height ≤ place.layout.hmax) where
+      -- what is read of the file are its segments
+      page_now : (i : ℕ) → i < 2 ^ height → page_in place.layout place.region new i ≡ live_segment new i
+      page_now i lt =
+          let below : i < 2 ^ place.layout.hmax = omega (arith, lt, pow_mono {i = height} {j = place.layout.hmax} low) in
+          let hmax : (layout_in new).hmax ≡ place.layout.hmax = ap (λ (l : Layout). l.hmax) (keeps.layout_is ∙ header.layout_is) in
+          page_whole place.layout place.region i new small below at_exit.size at_exit.region_is
+          ∙ ap (λ (l : Layout). segment_in l new i) (sym (keeps.layout_is ∙ header.layout_is))
+          ∙ segment_read new keeps.sound even i (subst (λ (h : ℕ). i < 2 ^ h) (sym hmax) below)
+
+      -- so what is wrong with them is what is wrong with the file at entry
+      pub reason_restored : (answer : Option Reason) → journal_reason place.layout height old ≡ None → array_reason (page_in place.layout place.region new) height ≡ answer → reason_of old ≡ answer
+      reason_restored answer none is =
+          by_array answer none (sym (same_reason (page_in place.layout place.region new) (live_segment old) height (λ i lt. page_now i lt ∙ same_live i)) ∙ is)
+
+      -- the file stands, with the counts that were read
+      pub stands : (counts : List ℕ) → counts ≡ counts_of (array_from (page_in place.layout place.region new) (2 ^ height)) → reason_of old ≡ None → StandsWith place.layout place.region height counts new
+      stands counts are none = record {
+        settled = record {
+          represents = represents_own new (map_of old) (height_of old) (restores.map (map_of old) (height_of old) (represents_of_none old none));
           gate_even = even;
-          agrees = record {
-            layout_is = keeps.layout_is ∙ header.layout_is;
-            region_is = keeps.live_is ∙ header.region_is;
-            height_is = zero_height ∙ sym low;
-            counts_are = ap (λ (h : ℕ). map length (array_in new h)) low ∙ ap (map length) (array_one new) ∙ ap (λ (b : List ℕ). length (segment_of b) ∷ []) segment ∙ sym counts;
-          };
-        }
+          layout_is = keeps.layout_is ∙ header.layout_is;
+          region_is = keeps.live_is ∙ header.region_is;
+        };
+        height_is = height_new;
+        counts_are =
+            ap counts_of (array_is new height ∙ same_arrays (live_segment new) (page_in place.layout place.region new) (2 ^ height) (λ i lt. sym (page_now i lt)))
+            ∙ sym are;
+      }
+
+      -- and an index has its fences
+      pub fenced : (index : IndexView) → ((i : ℕ) (key : Bytes) → 0 < i → i < 2 ^ height → first_key_of (page_in place.layout place.region new i) ≡ Some key → fence_of index i ≡ Some key) → HasFences index (array_of new)
+      fenced index set i key some below is =
+          let lt : i < 2 ^ height = subst (λ (h : ℕ). i < 2 ^ h) height_new (omega (arith, below, length-array_in new (height_of new))) in
+          set i key some lt
+          (ap first_key_of (page_now i lt)
+          ∙ ap (λ (rs : List Record). key_at rs 0) (sym (segment_at-array_in new (height_of new) i (omega (arith, below, length-array_in new (height_of new)))))
+          ∙ is)
 
 -- the fault of a replay that refuses
 pub refused_back : (fault : HeaderFault) (r : Reason) → fault_of fault ≡ NotStore r → fault ≡ header.NotStore r
 refused_back header.Failed r is = absurd cc
 refused_back (header.NotStore reason) r is = cc
 
--- the one count of a tally that was empty
-pub empty_height : (t : TallyView) (hmax : ℕ) → t ≡ empty_tally hmax 0 → t.height ≡ 0
-empty_height t hmax is = ap (λ (x : TallyView). x.height) is
-
-pub first_count : (t : TallyView) (hmax n : ℕ) → t ≡ empty_tally hmax 0 → slice_set t.counts 0 n ≡ n ∷ []
-first_count t hmax n is = ap (λ (x : TallyView). slice_set x.counts 0 n) is
+-- a header that is refused
+pub by_header : (old : List ℕ) (r : Reason) → header_reason old ≡ Some r → reason_of old ≡ Some r
+unfolding reason_of
+by_header old r is = ap (λ (first : Option Reason). or_else first (or_else (journal_reason (layout_in old) (height_of old) old) (array_reason (live_segment old) (height_of old)))) is

@@ -1,5 +1,0 @@
-use Rattle.array_store.proofs.Standing.{searched}
-use Rattle.array_store.proofs.finding.find_segment.Goals as goal
-
-pub returns-clause-found : goal.returns-clause-found
-returns-clause-found c = searched c.args.index.now c.view.result c.args.key.now c.search.result c.view.ensures c.search.ensures.segment

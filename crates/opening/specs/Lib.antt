@@ -1,5 +1,0 @@
-pub mod Parts
-pub mod Restores
-pub mod Faults
-pub mod Loading
-pub mod Spans

@@ -1,0 +1,40 @@
+//! The memory of a store is taken.
+
+ghost use Rattle.std.specs.Prelude.{◌≡◌, ◌≤◌, ◌<◌, IfOk};
+ghost use Rattle.header_gate.specs.Places.{IsLayout};
+ghost use Rattle.recovery.specs.Parts.{AreParts};
+ghost use Rattle.window_tally.specs.View.{empty_tally};
+
+use crate::parts::Parts;
+use header_gate::Header;
+use redo_journal::{Frames, Place};
+use std::alloc::{AllocError, Global};
+use veb_index::Index;
+use window_tally::Tally;
+
+/// Parts for a store with this header, of which nothing is known yet: no record is counted, and no fence is set.
+///
+/// `AllocError` is want of memory; no later call takes any.
+pub(crate) fn make_parts(alloc: Global, header: &Header) -> Result<Parts, AllocError>
+    requires layout { IsLayout header.now.layout }
+    requires live { header.now.live < 2 }
+    requires height { header.now.height ≤ header.now.layout.hmax }
+    ensures parts { IfOk result (λ parts. AreParts parts.place parts.tally parts.index parts.frames.journal) }
+    ensures place { IfOk result (λ parts. parts.place ≡ record { layout = header.now.layout; region = header.now.live }) }
+    ensures tally { IfOk result (λ parts. parts.tally ≡ empty_tally header.now.layout.hmax header.now.height) }
+{
+    let mut tally = Tally::new(alloc, header.layout.hmax)?;
+    let mut index = Index::new(alloc, header.layout.hmax)?;
+    let frames = Frames::new(alloc, header.layout.journal)?;
+    tally.clear(header.height);
+    index.reset(header.height);
+    Ok(Parts {
+        place: Place {
+            layout: header.layout,
+            region: header.live,
+        },
+        tally,
+        index,
+        frames,
+    })
+}
