@@ -8,3 +8,4 @@ pub mod Picks
 pub mod Outcomes
 pub mod Steps
 pub mod Changes
+pub mod Opened
