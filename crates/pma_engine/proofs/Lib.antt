@@ -1,8 +1,9 @@
 pub mod StoreLaws
-pub mod Executing
 pub mod SessionLaws
 pub mod ScriptCommands
 pub mod CommandLines
+pub mod Executing
+pub mod Pieces
+pub mod Ranging
 pub mod Answering
-pub mod ServingLaws
-pub mod OutcomeLaws
+pub mod RangeAnswers

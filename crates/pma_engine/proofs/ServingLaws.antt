@@ -14,23 +14,24 @@ use Rattle.line_source.specs.ReaderView.{ReaderView, rest}
 use Rattle.line_source.specs.Progress.{HasGiven, IsCutShort, GivesAll}
 use Rattle.line_source.specs.declared.reader.LineStep.TheVariants.{End}
 use Rattle.line_source.proofs.Progress.{given-none}
-use Rattle.map_model.specs.Store.{State}
+use Rattle.map_model.specs.ArrayState.{ArrayState}
 use Rattle.map_model.specs.Image.{RepresentsMap}
 use Rattle.command_text.specs.declared.command.Command.{Command}
 use Rattle.command_text.specs.declared.command.Command.TheVariants.{Nothing}
 use Rattle.command_text.specs.Script.{command_of_raw, commands_in, commands_of}
-use Rattle.command_text.specs.Answers.{step}
-use Rattle.pma_engine.specs.Answers.{reply_of}
+use Rattle.command_text.specs.Answers.{reply_of, update_of}
+use Rattle.command_text.specs.ArraySession.{array_step, array_state_after}
 use Rattle.pma_store.specs.Store.{StoreView, Stands}
-use Rattle.pma_engine.specs.Session.{state_after, replies_after, Headline, AnswerPair}
+use Rattle.pma_engine.specs.Session.{replies_after, Headline, AnswerPair}
 use Rattle.pma_engine.specs.Serving.{GivesCommand, IsNextCommand, ScriptPair, IsServed, IsServedToCut, IsCutInReply, TakesAtMost}
 use Rattle.pma_engine.specs.declared.fault.ServeFault.{ServeFault}
 use Rattle.pma_engine.specs.declared.fault.ServeFault.TheVariants.{Disk, Damaged, Script, Reply, Spent}
 use Rattle.pma_engine.specs.Carrying.{hmax_of, IsCarriedOut, AnswersLine}
-use Rattle.redo_journal.specs.declared.place.Place.{Place}
+use Rattle.header_gate.specs.declared.layout.Layout.{Layout}
+use Rattle.pma_engine.specs.Costs.{command_cost, session_cost, most_written, Travels}
 use Rattle.pma_store.specs.Answers.{state_in}
-use Rattle.pma_engine.proofs.StoreLaws.{held_stands}
-use Rattle.pma_engine.proofs.SessionLaws.{headline_of, headline_at, state_after-append, replies_after-append}
+use Rattle.pma_engine.proofs.StoreLaws.{held_stands, state_stands}
+use Rattle.pma_engine.proofs.SessionLaws.{headline_of, headline_at, state_after-append, replies_after-append, session_cost-append}
 use Rattle.pma_engine.proofs.ScriptCommands.{if_any_is, commands_in-nothing, commands_in-some, commands_in-append, all_answered}
 
 -- the lines given so far were answered, and nothing is under way
@@ -56,20 +57,20 @@ serving_start hmax a r s view place fresh store nothing = record {
 }
 
 -- one line: its command's reply, and the state after it
-one_reply : (hmax : ℕ) (s : State) (raw : List ℕ) (c : Command) → c ≡ command_of_raw raw → replies_after hmax s (commands_in (raw ∷ [])) ≡ reply_of hmax s c
+one_reply : (hmax : ℕ) (s : ArrayState) (raw : List ℕ) (c : Command) → c ≡ command_of_raw raw → replies_after hmax s (commands_in (raw ∷ [])) ≡ reply_of hmax s c
 one_reply hmax s raw c is = elim (if_any_is (command_of_raw raw)) [
   | inl nothing ↦ ap (replies_after hmax s) (commands_in-nothing raw [] nothing.0) ∙ ap (reply_of hmax s) (sym nothing.1 ∙ sym is)
   | inr some ↦ ap (replies_after hmax s) (commands_in-some raw (command_of_raw raw) [] some) ∙ append-nil (reply_of hmax s (command_of_raw raw)) ∙ ap (reply_of hmax s) (sym is)
 ]
 
-one_step : (hmax : ℕ) (s : State) (raw : List ℕ) (c : Command) → c ≡ command_of_raw raw → state_after hmax s (commands_in (raw ∷ [])) ≡ step hmax s c
+one_step : (hmax : ℕ) (s : ArrayState) (raw : List ℕ) (c : Command) → c ≡ command_of_raw raw → array_state_after hmax s (commands_in (raw ∷ [])) ≡ array_step hmax s c
 one_step hmax s raw c is = elim (if_any_is (command_of_raw raw)) [
-  | inl nothing ↦ ap (state_after hmax s) (commands_in-nothing raw [] nothing.0) ∙ ap (step hmax s) (sym nothing.1 ∙ sym is)
-  | inr some ↦ ap (state_after hmax s) (commands_in-some raw (command_of_raw raw) [] some) ∙ ap (step hmax s) (sym is)
+  | inl nothing ↦ ap (array_state_after hmax s) (commands_in-nothing raw [] nothing.0) ∙ ap (array_step hmax s) (sym nothing.1 ∙ sym is)
+  | inr some ↦ ap (array_state_after hmax s) (commands_in-some raw (command_of_raw raw) [] some) ∙ ap (array_step hmax s) (sym is)
 ]
 
 -- what is no command leaves the map, and nothing is said
-pair_nothing : (hmax : ℕ) (s : State) (c : Command) (said_before image said : List ℕ) → c ≡ Nothing → AnswerPair hmax s c said_before image said → (said ≡ said_before) × RepresentsMap image s.map
+pair_nothing : (hmax : ℕ) (s : ArrayState) (c : Command) (said_before image said : List ℕ) → c ≡ Nothing → AnswerPair hmax s c said_before image said → (said ≡ said_before) × RepresentsMap image s.map
 pair_nothing hmax s c said_before image said is pair = by (subst (λ (d : Command). AnswerPair hmax s d said_before image said) is pair)
   where
     by : AnswerPair hmax s Nothing said_before image said → (said ≡ said_before) × RepresentsMap image s.map
@@ -100,10 +101,10 @@ module _ (hmax : ℕ) (a0 : View) (r0 : ReaderView) (s0 : SourceView) (a : View)
     pair_turn : (image said : List ℕ) → source.Told s0 → Told a0 → SaidTold a0 → AnswerPair hmax (state_in a.held) c a.said image said → Headline hmax (state_in a0.held) (commands_of (rest r0 s0)) a0.said image said
     pair_turn image said told_s told said_told pair =
         let served = here.served told_s told in
-        let s_now = state_after hmax (state_in a0.held) (commands_in here.given) in
+        let s_now = array_state_after hmax (state_in a0.held) (commands_in here.given) in
         let later = commands_in (raw_lines (rest r1 s1)) in
         let answered = all_answered hmax (state_in a0.held) here.given in
-        let at_state : AnswerPair hmax s_now c a.said image said = subst (λ (t : State). AnswerPair hmax t c a.said image said) served.state pair in
+        let at_state : AnswerPair hmax s_now c a.said image said = subst (λ (t : ArrayState). AnswerPair hmax t c a.said image said) served.state pair in
         elim (if_any_is (command_of_raw next.raw)) [
           | inl nothing ↦
               let same = pair_nothing hmax s_now c a.said image said (next.command_is told_s ∙ nothing.1) at_state in
@@ -138,26 +139,26 @@ module _ (hmax : ℕ) (a0 : View) (r0 : ReaderView) (s0 : SourceView) (a : View)
           (subst (λ (n : ℕ). AnswerPair n (state_in a.held) c a.said b.held b.said) here.place (answers.pair (told_now told) (said_told_now said_told)))
 
       -- the state after it
-      state_turn : IsCarriedOut c view view1 a b → source.Told s0 → Told a0 → state_in b.held ≡ state_after hmax (state_in a0.held) so_far
+      state_turn : IsCarriedOut c view view1 a b → source.Told s0 → Told a0 → state_in b.held ≡ array_state_after hmax (state_in a0.held) so_far
       unfolding so_far
       state_turn done told_s told =
           let served = here.served told_s told in
           done.state (told_now told)
-          ∙ (λ t. step (here.place t) (served.state t) c)
-          ∙ sym (one_step hmax (state_after hmax (state_in a0.held) (commands_in here.given)) next.raw c (next.command_is told_s))
+          ∙ (λ t. array_step (here.place t) (served.state t) c)
+          ∙ sym (one_step hmax (array_state_after hmax (state_in a0.held) (commands_in here.given)) next.raw c (next.command_is told_s))
           ∙ sym (state_after-append hmax (state_in a0.held) (commands_in here.given) (commands_in (next.raw ∷ [])))
-          ∙ ap (state_after hmax (state_in a0.held)) (sym (commands_in-append here.given (next.raw ∷ [])))
+          ∙ ap (array_state_after hmax (state_in a0.held)) (sym (commands_in-append here.given (next.raw ∷ [])))
 
-      stands_turn : IsCarriedOut c view view1 a b → source.Told s0 → Told a0 → RepresentsMap b.held (state_after hmax (state_in a0.held) so_far).map
+      stands_turn : IsCarriedOut c view view1 a b → source.Told s0 → Told a0 → RepresentsMap b.held (array_state_after hmax (state_in a0.held) so_far).map
       stands_turn done told_s told =
-          subst (λ (t : State). RepresentsMap b.held t.map) (state_turn done told_s told) (held_stands view1 b done.store (ap (λ f. f.tells_held) answers.run.fixed ∙ told_now told))
+          subst (λ (t : ArrayState). RepresentsMap b.held t.map) (state_turn done told_s told) (held_stands view1 b done.store (ap (λ f. f.tells_held) answers.run.fixed ∙ told_now told))
 
       -- the replies up to its own
       replies_turn : source.Told s0 → Told a0 → SaidTold a0 → a.said ++ reply_of (hmax_of view) (state_in a.held) c ≡ a0.said ++ replies_after hmax (state_in a0.held) so_far
       unfolding so_far
       replies_turn told_s told said_told =
           let served = here.served told_s told in
-          let s_now = state_after hmax (state_in a0.held) (commands_in here.given) in
+          let s_now = array_state_after hmax (state_in a0.held) (commands_in here.given) in
           (λ t. served.said said_told t ++ reply_of (here.place t) (served.state t) c)
           ∙ append_assoc a0.said (replies_after hmax (state_in a0.held) (commands_in here.given)) (reply_of hmax s_now c)
           ∙ ap (λ (l : List ℕ). a0.said ++ (replies_after hmax (state_in a0.held) (commands_in here.given) ++ l)) (sym (one_reply hmax s_now next.raw c (next.command_is told_s)))

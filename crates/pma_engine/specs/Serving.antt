@@ -1,13 +1,13 @@
 -- How far a script was served.
-use Rattle.std.specs.Prelude.{◌≡◌, ◌≤◌, ℕ, List, length, ◌∷◌, [], ◌++◌, false, Option, Some, None, Result, Ok, Err}
+use Rattle.std.specs.Prelude.{◌≡◌, ◌≤◌, ℕ, List, length, ◌∷◌, [], ◌++◌, ◌+◌, false, Option, Some, None, Result, Ok, Err}
 use Rattle.line_source.specs.Lines.{raw_lines, most_held}
 use Rattle.line_source.specs.SourceView.{SourceView, Told, Rose}
 use Rattle.line_source.specs.ReaderView.{ReaderView, rest}
 use Rattle.line_source.specs.Progress.{HasGiven, GivesAll}
 use Rattle.line_source.specs.declared.reader.LineStep.TheVariants as step
 use Rattle.station.specs.View as station
-use Rattle.map_model.specs.Store.{State}
-use Rattle.map_model.specs.Image.{RepresentsMap}
+use Rattle.map_model.specs.ArrayState.{ArrayState, HasState}
+use Rattle.map_model.specs.Holding.{IsBalancedArray}
 use Rattle.command_text.specs.Command.{command_of}
 use Rattle.command_text.specs.declared.command.Command.{Command}
 use Rattle.command_text.specs.declared.command.Command.TheVariants.{Bad}
@@ -17,8 +17,9 @@ use Rattle.pma_engine.specs.declared.fault.ServeFault.{ServeFault}
 use Rattle.pma_engine.specs.declared.fault.ServeFault.TheVariants.{Disk, Damaged, Script, Reply, Spent}
 use Rattle.pma_engine.specs.declared.next.Given.{Given}
 use Rattle.pma_engine.specs.declared.next.Given.TheVariants.{Line, Long}
-use Rattle.pma_engine.specs.Session.{Headline, state_after, replies_after}
-use Rattle.pma_store.specs.Answers.{state_in}
+use Rattle.command_text.specs.ArraySession.{array_state_after}
+use Rattle.pma_engine.specs.Costs.{session_cost}
+use Rattle.pma_engine.specs.Session.{Headline, replies_after}
 
 -- what a line asks for that the reader gave: a long one is refused
 abbrev pub given_command : Given → List ℕ → Command
@@ -41,32 +42,41 @@ IsNextCommand (Err Disk) r0 s0 given r s = ⊥
 IsNextCommand (Err (Damaged segment why)) r0 s0 given r s = ⊥
 IsNextCommand (Err Reply) r0 s0 given r s = ⊥
 
--- A pair of an image and the bytes said, at a moment of the serving of a script: the headline, where the source tells
--- what it has left.
-abbrev pub ScriptPair : ℕ → station.View → ReaderView → SourceView → List ℕ → List ℕ → Type 0
-ScriptPair hmax a r s image said = Told s → Headline hmax (state_in a.held) (commands_of (rest r s)) a.said image said
+-- A pair of an image and the bytes said, at a moment of the serving of a script from a state on: the headline, where the
+-- source tells what it has left.
+abbrev pub ScriptPair : ℕ → ArrayState → station.View → ReaderView → SourceView → List ℕ → List ℕ → Type 0
+ScriptPair hmax s0 a r s image said = Told s → Headline hmax s0 (commands_of (rest r s)) a.said image said
 
--- these commands were answered, and no more
-pub record IsServed (hmax : ℕ) (a : station.View) (cs : List Command) (b : station.View) : Type 0 where
-  pub said : station.SaidTold a → b.said ≡ a.said ++ replies_after hmax (state_in a.held) cs
-  pub state : state_in b.held ≡ state_after hmax (state_in a.held) cs
-  pub stands : RepresentsMap b.held (state_after hmax (state_in a.held) cs).map
+-- the file has this state, and every window is within its bounds
+pub record IsAtState (s : ArrayState) (image : List ℕ) : Type 0 where
+  pub has : HasState image s
+  pub balanced : IsBalancedArray s.height s.array
+
+-- These commands were answered from a state on, and no more: their replies were said, store and file have the state after
+-- them, and no more was written than they cost.
+pub record IsServed (hmax : ℕ) (s0 : ArrayState) (a : station.View) (cs : List Command) (now : ArrayState) (b : station.View) : Type 0 where
+  pub said : station.SaidTold a → b.said ≡ a.said ++ replies_after hmax s0 cs
+  pub state : now ≡ array_state_after hmax s0 cs
+  pub stands : IsAtState (array_state_after hmax s0 cs) b.held
+  pub spent : b.travel.written ≤ a.travel.written + session_cost hmax s0 cs
 
 -- the commands of exactly the complete lines among the bytes taken were answered
-pub record IsServedToCut (hmax : ℕ) (a : station.View) (script left : List ℕ) (b : station.View) : Type 0 where
+pub record IsServedToCut (hmax : ℕ) (s0 : ArrayState) (a : station.View) (script left : List ℕ) (now : ArrayState) (b : station.View) : Type 0 where
   pub taken : List ℕ
   pub is : script ≡ taken ++ left
-  pub served : IsServed hmax a (complete_commands taken) b
+  pub served : IsServed hmax s0 a (complete_commands taken) now b
 
--- A reply could not be said whole. The commands of these lines were carried out, the last reply was cut, and the file
--- represents the map after all of them. Behind these lines no more was taken than a reader holds.
-pub record IsCutInReply (hmax : ℕ) (s : State) (script left : List ℕ) (a b : station.View) : Type 0 where
+-- A reply could not be said whole. The commands of these lines were carried out, the last reply was cut, and store and file
+-- have the state after all of them. Behind these lines no more was taken than a reader holds.
+pub record IsCutInReply (hmax : ℕ) (s0 : ArrayState) (script left : List ℕ) (now : ArrayState) (a b : station.View) : Type 0 where
   pub lines : List (List ℕ)
   pub ahead : List ℕ
   pub are : raw_lines script ≡ lines ++ raw_lines (ahead ++ left)
   pub few : length ahead ≤ most_held
-  pub said : station.SaidTold a → (cut : List ℕ) × (b.said ++ cut ≡ a.said ++ replies_after hmax s (commands_in lines))
-  pub stands : RepresentsMap b.held (state_after hmax s (commands_in lines)).map
+  pub said : station.SaidTold a → (cut : List ℕ) × (b.said ++ cut ≡ a.said ++ replies_after hmax s0 (commands_in lines))
+  pub state : now ≡ array_state_after hmax s0 (commands_in lines)
+  pub stands : IsAtState (array_state_after hmax s0 (commands_in lines)) b.held
+  pub spent : b.travel.written ≤ a.travel.written + session_cost hmax s0 (commands_in lines)
 
 -- what was taken is a front of what was left, of at most so many bytes
 pub record TakesAtMost (most : ℕ) (a b : SourceView) : Type 0 where

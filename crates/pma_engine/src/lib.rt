@@ -2,7 +2,8 @@
 //!
 //! `run_words` reads the command line (`words`) and makes a store (`create`), or opens one and answers the commands of a
 //! script, one after another (`run`, `script`, `next`, `line`). A command changes the store first (`execute`), which
-//! commits and syncs the change, and only then is its reply said (`answer`, `saying`).
+//! commits and syncs the change, and only then is its reply said (`answer`, `saying`); a range says each record as it is read
+//! (`range`). A file or a segment that is refused is told in one line (`refusing`).
 //!
 //! The ordered map is `pma_store`'s. Since a reply comes after its change, a crash at any moment leaves the map after as
 //! many commands as had a reply begun, or after one more.
@@ -15,6 +16,8 @@ mod fault;
 mod line;
 mod next;
 mod program;
+mod range;
+mod refusing;
 mod run;
 mod saying;
 mod script;

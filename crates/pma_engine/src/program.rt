@@ -1,21 +1,21 @@
 //! All that the program does.
 
 ghost use Rattle.std.specs.Prelude.{◌≡◌, ◌+◌, ◌<◌, ◌≤◌, ◌⊎◌, ◌↔◌, ℕ, List, [], Some, None, IsSome, true, false, length, map, string_bytes};
-ghost use Rattle.station.specs.Bytes.{Same};
 ghost use Rattle.station.specs.View.{Told, SaidTold, Honest, NothingPending, Rose, NamedBy, attached_by};
 ghost use Rattle.station.specs.Steps.{Steps};
-ghost use Rattle.header_gate.specs.Header.{gate, layout_in};
 ghost use Rattle.header_gate.specs.Places.{file_length};
-ghost use Rattle.header_gate.specs.Recovered.{recovered};
 ghost use Rattle.header_gate.specs.EmptyStore.{IsEmptyStore, Anything};
 ghost use Rattle.line_source.specs.SourceView.{Told as SourceTold, Rose as SourceRose, Went};
 ghost use Rattle.map_model.specs.Store.{Map};
 ghost use Rattle.map_model.specs.Image.{Represents};
-ghost use Rattle.recovery.specs.declared.open.TheConstants.{TALLEST};
+ghost use Rattle.recovery.specs.Restores.{IsAtRest};
 ghost use Rattle.command_text.specs.Script.{commands_of};
 ghost use Rattle.pma_engine.specs.Words.{job_of, file_of, layout_of};
-ghost use Rattle.pma_engine.specs.Outcome.{IsCreateStatus, IsRunStatus, IsRest, IsOutOfMemory, NoStore, RunHeadline, IsAnswered, IsAnsweredToCut, hmax_in, state_of, empty_map};
-ghost use Rattle.pma_engine.specs.Serving.{IsCutInReply, TakesAtMost};
+ghost use Rattle.pma_engine.specs.Costs.{session_cost, most_written};
+ghost use Rattle.pma_engine.specs.Opening.{IsOutOfMemory};
+ghost use Rattle.pma_engine.specs.Outcome.{IsCreateStatus, IsCreateRefused, IsRunStatus, IsRest, IsRefused, NoStore, RunHeadline, IsAnswered, IsAnsweredToCut, IsAnsweredToReply, hmax_in, state_of, empty_map};
+ghost use Rattle.pma_engine.specs.Refusing.{KeepsBytes};
+ghost use Rattle.pma_engine.specs.Serving.{TakesAtMost};
 ghost use Rattle.pma_engine.specs.declared.words.Job.{Job};
 ghost use Rattle.pma_engine.specs.declared.words.Job.TheVariants.{Create, Run};
 
@@ -32,10 +32,11 @@ use std::alloc::Global;
 
 /// Does what the words ask for, and answers the status with which the program ends.
 ///
-/// `create FILE 0` makes the empty store in an empty file. `run FILE` opens the store and answers the script that the
-/// source gives, of which it takes at most `most` bytes. Other words end with status 2, and no call is made.
+/// `create FILE HEIGHT` and `create FILE HEIGHT JOURNAL` make an empty store in an empty file. `run FILE` opens the store and
+/// answers the script that the source gives, of which it takes at most `most` bytes. Other words end with status 2, and no
+/// call is made.
 ///
-/// The statuses: 0 done; 2 usage; 3 the file is refused; 4 a disk call failed; 5 a read of the script failed; 6 a reply
+/// The statuses: 0 done; 2 usage; 3 the file is refused, as one line says, the last; 4 a disk call failed; 5 a read of the script failed; 6 a reply
 /// could not be sent whole, and the change that it answers is in the file; 7 there is not enough memory to open the
 /// store, no disk call failed, and nothing is written; 8 the script has `most` bytes or more. `create` takes no memory,
 /// and leaves every byte of a file that isn't empty. Nothing is taken from the source before the store is open.
@@ -60,33 +61,32 @@ pub fn run_words<I: Source, S: Station>(
     ensures created { (height journal : ℕ) → job_of (map string_bytes words.now) ≡ Some (Create height journal) → result ≡ DONE → Told (S.view station.old) → IsEmptyStore (layout_of height journal) (S.view station.new).held }
     ensures create_represents { (height journal : ℕ) → job_of (map string_bytes words.now) ≡ Some (Create height journal) → result ≡ DONE → Told (S.view station.old) → Represents (S.view station.new).held empty_map 0 }
     ensures create_settled { (height journal : ℕ) → job_of (map string_bytes words.now) ≡ Some (Create height journal) → result ≡ DONE → NothingPending (S.view station.new) }
-    ensures create_refused { (height journal : ℕ) → job_of (map string_bytes words.now) ≡ Some (Create height journal) → Told (S.view station.old) → (result ≡ DONE → length (S.view station.old).held ≡ 0) × (result ≡ REFUSED → 0 < length (S.view station.old).held) }
-    ensures create_untouched { (height journal : ℕ) → job_of (map string_bytes words.now) ≡ Some (Create height journal) → result ≡ REFUSED → Steps Same (attached_by true (S.view station.old)) (S.view station.new) }
-    ensures create_kept { (height journal : ℕ) → job_of (map string_bytes words.now) ≡ Some (Create height journal) → Told (S.view station.old) → 0 < length (S.view station.old).held → Steps Same (attached_by true (S.view station.old)) (S.view station.new) }
-    ensures create_steps { (height journal : ℕ) → job_of (map string_bytes words.now) ≡ Some (Create height journal) → Steps Anything (attached_by true (S.view station.old)) (S.view station.new) }
+    ensures create_empty { (height journal : ℕ) → job_of (map string_bytes words.now) ≡ Some (Create height journal) → result ≡ DONE → Told (S.view station.old) → length (S.view station.old).held ≡ 0 }
+    ensures create_refused { (height journal : ℕ) → job_of (map string_bytes words.now) ≡ Some (Create height journal) → result ≡ REFUSED → IsCreateRefused (S.view station.old) (S.view station.new) }
+    ensures create_kept { (height journal : ℕ) → job_of (map string_bytes words.now) ≡ Some (Create height journal) → Told (S.view station.old) → 0 < length (S.view station.old).held → KeepsBytes (attached_by true (S.view station.old)) (S.view station.new) }
+    ensures create_steps { (height journal : ℕ) → job_of (map string_bytes words.now) ≡ Some (Create height journal) → (result ≡ REFUSED → ⊥) → Steps Anything (attached_by true (S.view station.old)) (S.view station.new) }
     ensures create_source { (height journal : ℕ) → job_of (map string_bytes words.now) ≡ Some (Create height journal) → source.new ≡ source.old }
     ensures create_cost { (height journal : ℕ) → job_of (map string_bytes words.now) ≡ Some (Create height journal) → ((S.view station.new).travel.written ≤ (S.view station.old).travel.written + 21) × ((S.view station.new).travel.read ≡ (S.view station.old).travel.read) }
-
     ensures create_complete { (height journal : ℕ) → job_of (map string_bytes words.now) ≡ Some (Create height journal) → Told (S.view station.old) → length (S.view station.old).held ≡ 0 → ¬ Rose (S.view station.old).disk_faults (S.view station.new).disk_faults → result ≡ DONE }
 
     // Answering a script.
     ensures run_status { job_of (map string_bytes words.now) ≡ Some Run → IsRunStatus result }
     ensures run_attached { job_of (map string_bytes words.now) ≡ Some Run → (S.view station.new).attached ≡ Some false }
-    ensures headline { job_of (map string_bytes words.now) ≡ Some Run → SourceTold (I.view source.old) → Honest (S.view station.old) → NothingPending (S.view station.old) → (m : Map) (height : ℕ) → Represents (S.view station.old).held m height →
-        (image said : List ℕ) → (S.view station.new).may_have_left (S.view station.old).calls image said → RunHeadline (hmax_in (S.view station.old).held) m height (commands_of (I.view source.old).left) (S.view station.old).said image said }
+    ensures headline { job_of (map string_bytes words.now) ≡ Some Run → SourceTold (I.view source.old) → Honest (S.view station.old) → NothingPending (S.view station.old) → (m : Map) (height : ℕ) → Represents (S.view station.old).held m height → (image said : List ℕ) → (S.view station.new).may_have_left (S.view station.old).calls image said →
+        RunHeadline m height (S.view station.old).held (commands_of (I.view source.old).left) (S.view station.old).said image said }
     ensures run_held { job_of (map string_bytes words.now) ≡ Some Run → SourceTold (I.view source.old) → Told (S.view station.old) → SaidTold (S.view station.old) → (m : Map) (height : ℕ) → Represents (S.view station.old).held m height →
-        RunHeadline (hmax_in (S.view station.old).held) m height (commands_of (I.view source.old).left) (S.view station.old).said (S.view station.new).held (S.view station.new).said }
+        RunHeadline m height (S.view station.old).held (commands_of (I.view source.old).left) (S.view station.old).said (S.view station.new).held (S.view station.new).said }
     ensures answered { job_of (map string_bytes words.now) ≡ Some Run → result ≡ DONE → SourceTold (I.view source.old) → Told (S.view station.old) → (m : Map) (height : ℕ) → Represents (S.view station.old).held m height →
         IsAnswered m height (commands_of (I.view source.old).left) (S.view station.old) (S.view station.new) }
     ensures cut { job_of (map string_bytes words.now) ≡ Some Run → (result ≡ SCRIPT_FAULT) ⊎ (result ≡ TOO_LONG) → SourceTold (I.view source.old) → Told (S.view station.old) → (m : Map) (height : ℕ) → Represents (S.view station.old).held m height →
         IsAnsweredToCut m height (I.view source.old).left (I.view source.new).left (S.view station.old) (S.view station.new) }
     ensures reply_cut { job_of (map string_bytes words.now) ≡ Some Run → result ≡ REPLY_FAULT → SourceTold (I.view source.old) → Told (S.view station.old) → (m : Map) (height : ℕ) → Represents (S.view station.old).held m height →
-        IsCutInReply (hmax_in (S.view station.old).held) (state_of m height) (I.view source.old).left (I.view source.new).left (S.view station.old) (S.view station.new) }
+        IsAnsweredToReply m height (I.view source.old).left (I.view source.new).left (S.view station.old) (S.view station.new) }
+    ensures written { job_of (map string_bytes words.now) ≡ Some Run → SourceTold (I.view source.old) → Told (S.view station.old) → IsAtRest (S.view station.old).held → (m : Map) (height : ℕ) → Represents (S.view station.old).held m height →
+        (S.view station.new).travel.written ≤ (S.view station.old).travel.written + session_cost (hmax_in (S.view station.old).held) (state_of m height (S.view station.old).held) (commands_of (I.view source.old).left) + most_written (hmax_in (S.view station.old).held) }
     ensures run_settled { job_of (map string_bytes words.now) ≡ Some Run → IsRest result → NothingPending (S.view station.new) }
-    ensures run_refused { job_of (map string_bytes words.now) ≡ Some Run → result ≡ REFUSED → Told (S.view station.old) → (m : Map) (height : ℕ) → Represents (S.view station.old).held m height → hmax_in (S.view station.old).held ≤ TALLEST → ⊥ }
-    ensures run_no_store { job_of (map string_bytes words.now) ≡ Some Run → Told (S.view station.old) → NoStore (S.view station.old).held → (result ≡ REFUSED) ⊎ ((result ≡ DISK_FAULT) ⊎ (result ≡ OUT_OF_MEMORY)) }
-    ensures run_untouched { job_of (map string_bytes words.now) ≡ Some Run → result ≡ REFUSED → Told (S.view station.old) → (recovered (layout_in (S.view station.old).held) (S.view station.new).held ≡ recovered (layout_in (S.view station.old).held) (S.view station.old).held) × ((S.view station.new).said ≡ (S.view station.old).said) }
-    ensures run_even { job_of (map string_bytes words.now) ≡ Some Run → result ≡ REFUSED → Told (S.view station.old) → gate (S.view station.old).held ≡ 0 → (S.view station.new).held ≡ (S.view station.old).held }
+    ensures run_refused { job_of (map string_bytes words.now) ≡ Some Run → result ≡ REFUSED → IsRefused (S.view station.old) (S.view station.new) }
+    ensures run_no_store { job_of (map string_bytes words.now) ≡ Some Run → Told (S.view station.old) → NoStore (S.view station.old).held → (result ≡ REFUSED) ⊎ (((result ≡ DISK_FAULT) ⊎ (result ≡ OUT_OF_MEMORY)) × ((S.view station.new).said ≡ (S.view station.old).said)) }
     ensures memory { job_of (map string_bytes words.now) ≡ Some Run → result ≡ OUT_OF_MEMORY → IsOutOfMemory (S.view station.old) (S.view station.new) }
 
     // What is taken of the script: nothing before the store is open, and a front of at most `most` bytes.
@@ -97,7 +97,7 @@ pub fn run_words<I: Source, S: Station>(
     ensures too_long { job_of (map string_bytes words.now) ≡ Some Run → result ≡ TOO_LONG → SourceTold (I.view source.old) → length (I.view source.old).left ≡ length (I.view source.new).left + most }
     ensures whole { job_of (map string_bytes words.now) ≡ Some Run → result ≡ DONE → SourceTold (I.view source.old) → ((I.view source.new).left ≡ []) × (length (I.view source.old).left < most) }
 
-    ensures complete { job_of (map string_bytes words.now) ≡ Some Run → SourceTold (I.view source.old) → Told (S.view station.old) → (m : Map) (height : ℕ) → Represents (S.view station.old).held m height → hmax_in (S.view station.old).held ≤ TALLEST →
+    ensures complete { job_of (map string_bytes words.now) ≡ Some Run → SourceTold (I.view source.old) → Told (S.view station.old) → (m : Map) (height : ℕ) → Represents (S.view station.old).held m height →
         length (I.view source.old).left < most → ¬ Rose (S.view station.old).disk_faults (S.view station.new).disk_faults → ¬ Rose (S.view station.old).say_faults (S.view station.new).say_faults → ¬ SourceRose (I.view source.old) (I.view source.new) → (result ≡ DONE) ⊎ (result ≡ OUT_OF_MEMORY) }
 
     // Causes.

@@ -1,7 +1,10 @@
 //! The words of a command line.
 
-ghost use Rattle.std.specs.Prelude.{◌≡◌, map, string_bytes};
-ghost use Rattle.pma_engine.specs.Words.{job_of};
+ghost use Rattle.std.specs.Prelude.{◌≡◌, ◌≤◌, map, string_bytes, codes};
+ghost use Rattle.pma_engine.specs.Words.{job_of, is_on_file, height_in, journal_in, full_journal};
+
+use command_text::read_number;
+use header_gate::GREATEST_HEIGHT;
 
 /// What the words ask for. The file's name stays the second word.
 #[derive(Clone, Copy, Debug, PartialEq, Eq)]
@@ -12,29 +15,76 @@ pub enum Job {
     Run,
 }
 
-/// The journal size of a store with the greatest height 0.
-pub(crate) const LEAST_JOURNAL: u32 = 4;
+// The fewest segments that a journal may hold.
+const LEAST_JOURNAL: u32 = 4;
 
-/// What the words ask for: `create FILE 0` or `run FILE`, with a FILE that isn't empty. None for all other words.
+/// What the words ask for: `create FILE HEIGHT`, `create FILE HEIGHT JOURNAL` or `run FILE`, with a FILE that isn't empty, a
+/// HEIGHT from 0 to 16, and a JOURNAL from 4 to the greater of 4 and 2^HEIGHT, which it is where none is given. None for all
+/// other words.
 pub fn read_words(words: &[String]) -> Option<Job>
     ensures { result ≡ job_of (map string_bytes words.now) }
 {
     match words {
         [command, file] => {
-            if command.as_str() == "run" && !file.is_empty() {
+            if is_on_file("run", command, file) {
                 return Some(Job::Run);
             }
             None
         }
         [command, file, height] => {
-            if command.as_str() == "create" && !file.is_empty() && height.as_str() == "0" {
-                return Some(Job::Create {
-                    height: 0,
-                    journal: LEAST_JOURNAL,
-                });
+            if !is_on_file("create", command, file) {
+                return None;
             }
-            None
+            let height = read_height(height)?;
+            Some(Job::Create {
+                height,
+                journal: full_journal(height),
+            })
+        }
+        [command, file, height, journal] => {
+            if !is_on_file("create", command, file) {
+                return None;
+            }
+            let height = read_height(height)?;
+            let journal = read_journal(height, journal)?;
+            Some(Job::Create { height, journal })
         }
         _ => None,
     }
+}
+
+// Whether the words are this command, and a file that has a name.
+fn is_on_file(wanted: &str, command: &String, file: &String) -> bool
+    ensures { result ≡ is_on_file wanted.now (string_bytes command.now) (string_bytes file.now) }
+{
+    command.as_str() == wanted && !file.is_empty()
+}
+
+// The greatest height that a word names.
+fn read_height(word: &String) -> Option<u32>
+    ensures { result ≡ height_in (string_bytes word.now) }
+{
+    match read_number(word.as_bytes()) {
+        Some(height) if height <= GREATEST_HEIGHT => Some(height),
+        _ => None,
+    }
+}
+
+// The journal size that a word names, for a store with this greatest height.
+fn read_journal(height: u32, word: &String) -> Option<u32>
+    requires { height ≤ 16 }
+    ensures { result ≡ journal_in height (string_bytes word.now) }
+{
+    match read_number(word.as_bytes()) {
+        Some(journal) if LEAST_JOURNAL <= journal && journal <= full_journal(height) => Some(journal),
+        _ => None,
+    }
+}
+
+// The greatest journal size of a store with this greatest height.
+fn full_journal(height: u32) -> u32
+    requires { height ≤ 16 }
+    ensures { result ≡ full_journal height }
+{
+    (1u32 << height).max(LEAST_JOURNAL)
 }

@@ -1,21 +1,20 @@
-use Rattle.std.proofs.Common.{Some, sym, ap, ◌∙◌}
-use Rattle.station.proofs.Composition.{told_on}
-use Rattle.recovery.specs.Refusals.{refusal_of}
-use Rattle.pma_engine.proofs.OutcomeLaws.{opened_after}
+use Rattle.std.proofs.Common.{Err, ap}
+use Rattle.pma_engine.proofs.Opening.{attach_failed, opened_after, unattached, opened_of, unopened_of}
 use Rattle.pma_engine.proofs.run.open_file.Goals as goal
+
+pub returns-in-Ok-open_on-clause-opened : goal.returns-in-Ok-open_on-clause-opened
+returns-in-Ok-open_on-clause-opened g c =
+    opened_of (g.S.Station.view c.args.station.now) (g.S.Station.view c.attach.new.self) (g.S.Station.view c.open_on.new.station) c.attach.ensures.steps c.attach.ensures.travel c.in-Ok-open_on.store
+    c.in-Ok-open_on.ensures.store c.in-Ok-open_on.ensures.opened c.in-Ok-open_on.ensures.settled c.in-Ok-open_on.ensures.sound c.in-Ok-open_on.ensures.state c.open_on.ensures.kept
 
 pub returns-in-Ok-open_on-clause-steps : goal.returns-in-Ok-open_on-clause-steps
 returns-in-Ok-open_on-clause-steps g c = opened_after c.attach.ensures.steps c.open_on.ensures.steps
 
-pub returns-in-Err-Memory-clause-steps : goal.returns-in-Err-Memory-clause-steps
-returns-in-Err-Memory-clause-steps g c = opened_after c.attach.ensures.steps c.open_on.ensures.steps
+pub returns-in-Err-clause-steps : goal.returns-in-Err-clause-steps
+returns-in-Err-clause-steps g c = opened_after c.attach.ensures.steps c.open_on.ensures.steps
 
-pub returns-in-Err-Failed-clause-steps : goal.returns-in-Err-Failed-clause-steps
-returns-in-Err-Failed-clause-steps g c = opened_after c.attach.ensures.steps c.open_on.ensures.steps
-
-pub returns-in-Err-NotStore-clause-steps : goal.returns-in-Err-NotStore-clause-steps
-returns-in-Err-NotStore-clause-steps g c = opened_after c.attach.ensures.steps c.open_on.ensures.steps
-
-pub returns-in-Err-NotStore-clause-refused : goal.returns-in-Err-NotStore-clause-refused
-returns-in-Err-NotStore-clause-refused g c refused told =
-    (c.in-Err-NotStore.field-0-0, ap refusal_of (sym (c.attach.ensures.steps.held told)) ∙ c.in-Err-NotStore.ensures.refused c.in-Err-NotStore.field-0-0 c.in-Err-NotStore.field-0-is (told_on c.attach.ensures.steps.frame told))
+pub returns-in-Err-clause-unopened : goal.returns-in-Err-clause-unopened
+returns-in-Err-clause-unopened g c =
+    unopened_of (g.S.Station.view c.args.station.now) (g.S.Station.view c.attach.new.self) (g.S.Station.view c.open_on.new.station) c.attach.ensures.steps c.attach.ensures.travel c.in-Err.fault
+    c.open_on.ensures.steps c.in-Err.ensures.refused c.in-Err.ensures.late (λ is. c.in-Err.ensures.memory (ap Err is)) (λ is. c.in-Err.ensures.memory_last (ap Err is)) c.open_on.ensures.kept
+    (λ is. c.in-Err.ensures.failed (ap Err is)) c.in-Err.ensures.damaged

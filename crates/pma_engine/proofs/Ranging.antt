@@ -1,0 +1,191 @@
+-- The reply to a range.
+use Rattle.std.proofs.Common.{◌≡◌, ◌⊎◌, inl, inr, ℕ, zero, suc, ◌+◌, ◌-◌, ◌/◌, ◌≤◌, List, [], ◌∷◌, ◌++◌, length, take, drop, map, Option, Some, None, refl, sym, ◌∙◌, ap, subst, arith, append_assoc, length-append, length-take}
+use Rattle.std.specs.Prelude.{slice_get}
+use Rattle.std.specs.List.{flat_map}
+use Rattle.std.specs.Option.{option_map}
+use Rattle.std.specs.FinMap.{entries}
+use Rattle.std.proofs.lemmas.List.{append-nil, take-append-drop, take_all}
+use Rattle.station.specs.Bytes.{Same}
+use Rattle.station.specs.View.{View, Told, SaidTold, NothingPending, Lawful}
+use Rattle.station.specs.Steps.{Steps, Says}
+use Rattle.key_slot.specs.Record.{Bytes, Record}
+use Rattle.key_slot.specs.Row.{record_of}
+use Rattle.key_slot.specs.declared.row.Row.{Row}
+use Rattle.map_model.specs.Image.{map_of}
+use Rattle.map_model.specs.Scan.{scanned}
+use Rattle.range_scan.specs.SweepView.{SweepView, IsSweep, GoesOn}
+use Rattle.range_scan.specs.Walk.{after_walk}
+use Rattle.pma_store.specs.Looking.{fresh_sweep}
+use Rattle.pma_store.specs.Store.{StoreView}
+use Rattle.pma_engine.specs.Costs.{Walks}
+use Rattle.station.specs.declared.travel.Travel.{Travel}
+use Rattle.range_scan.specs.Sweeping.{BeginsThere}
+use Rattle.command_text.specs.Answers.{row_line}
+use Rattle.command_text.specs.Reply.{reply_text}
+use Rattle.command_text.specs.declared.reply.Reply.TheVariants as reply
+use Rattle.pma_engine.specs.Ranging.{SaysFront, SaysWhole, SaysRows, StopsInRows, scan_of, row_text, as_list}
+use Rattle.pma_engine.proofs.Pieces.{pieces_read, piece_front, piece_whole, front_on, whole_on, row_text-append}
+
+-- Fronts of a list.
+
+pub take_one : {A : Type 0} (l : List A) (n : ℕ) (x : A) → slice_get l n ≡ Some x → take n l ++ x ∷ [] ≡ take (suc n) l
+take_one [] n x is = absurd cc
+take_one {A} (y ∷ l) zero x is = let same : y ≡ x = cc in ap (λ (z : A). z ∷ []) (sym same)
+take_one {A} (y ∷ l) (suc n) x is = ap (λ (rest : List A). y ∷ rest) (take_one l n x is)
+
+pub used_up : {A : Type 0} (l : List A) (n : ℕ) → slice_get l n ≡ None → length l ≤ n
+used_up [] n is = omega arith
+used_up (x ∷ l) zero is = absurd cc
+used_up (x ∷ l) (suc n) is = omega (arith, used_up l n is)
+
+pub is_there : {A : Type 0} (l : List A) (n : ℕ) (x : A) → slice_get l n ≡ Some x → suc n ≤ length l
+is_there [] n x is = absurd cc
+is_there (y ∷ l) zero x is = omega arith
+is_there (y ∷ l) (suc n) x is = omega (arith, is_there l n x is)
+
+-- One record.
+
+module _ {a m b : View} (law : Lawful a) (nothing : NothingPending a) (steps : Steps Same a m) (row : Row) (says : Says (reply_text (reply.Row row)) m b) where
+  line_is : reply_text (reply.Row row) ≡ row_text (record_of row ∷ [])
+  line_is = sym (append-nil (reply_text (reply.Row row)))
+
+  pub row_whole : (SaidTold m → b.said ≡ m.said ++ reply_text (reply.Row row)) → SaysWhole (row_text (record_of row ∷ [])) a b
+  row_whole all =
+      let read = pieces_read law nothing steps in
+      subst (λ (text : List ℕ). SaysWhole text a b) line_is (whole_on law [] (reply_text (reply.Row row)) read (piece_whole read.nothing says all))
+
+  pub row_front : SaysFront (row_text (record_of row ∷ [])) a b
+  row_front =
+      let read = pieces_read law nothing steps in
+      subst (λ (text : List ℕ). SaysFront text a b) line_is (front_on law [] (reply_text (reply.Row row)) read (piece_front read.nothing says))
+
+-- the next of the scan
+next_is : (s : SweepView) (a : View) (row : Row) → option_map record_of (Some row) ≡ slice_get (scan_of s a.held) s.given → slice_get (scan_of s a.held) s.given ≡ Some (record_of row)
+next_is s a row is = sym is
+
+module _ (s : SweepView) (a : View) (row : Row) (next : Told a → option_map record_of (Some row) ≡ slice_get (scan_of s a.held) s.given) where
+  pub one_row : {b : View} (to : ℕ) → to ≡ s.given + 1 → SaysWhole (row_text (record_of row ∷ [])) a b → SaysRows (record_of row ∷ []) s s.given to a b
+  one_row {b} to is whole = record {
+    whole = whole;
+    count = is;
+    are = λ told. take_one (scan_of s a.held) s.given (record_of row) (next_is s a row (next told)) ∙ ap (λ (n : ℕ). take n (scan_of s a.held)) (let e : suc s.given ≡ to = omega (arith, is) in e);
+  }
+
+  pub stops_in_row : {b : View} → SaysFront (row_text (record_of row ∷ [])) a b → StopsInRows s s.given a b
+  stops_in_row {b} front = record {
+    rows = record_of row ∷ [];
+    rest = drop (suc s.given) (scan_of s a.held);
+    front = front;
+    are = λ told.
+        ap (λ (l : List Record). l ++ drop (suc s.given) (scan_of s a.held)) (take_one (scan_of s a.held) s.given (record_of row) (next_is s a row (next told)))
+        ∙ take-append-drop (suc s.given) (scan_of s a.held);
+  }
+
+  pub is_within : Told a → s.given + 1 ≤ length (scan_of s a.held)
+  is_within told = omega (arith, is_there (scan_of s a.held) s.given (record_of row) (next_is s a row (next told)))
+
+module _ (s : SweepView) {a b : View} (law : Lawful a) (nothing : NothingPending a) (steps : Steps Same a b) where
+  -- no record more
+  pub no_row : (to : ℕ) → to ≡ s.given → SaysRows [] s s.given to a b
+  no_row to is = record {
+    whole = pieces_read law nothing steps;
+    count = omega (arith, is);
+    are = λ told. append-nil (take s.given (scan_of s a.held)) ∙ ap (λ (n : ℕ). take n (scan_of s a.held)) (sym is);
+  }
+
+  -- a read failed
+  pub stops_before : StopsInRows s s.given a b
+  stops_before = record {
+    rows = [];
+    rest = drop s.given (scan_of s a.held);
+    front = (pieces_read law nothing steps).front;
+    are = λ told. ap (λ (l : List Record). l ++ drop s.given (scan_of s a.held)) (append-nil (take s.given (scan_of s a.held))) ∙ take-append-drop s.given (scan_of s a.held);
+  }
+
+-- Records one behind another.
+
+module _ (s t : SweepView) {a b : View} (law : Lawful a) (rows : List Record) (from to : ℕ) (ab : SaysRows rows s from to a b) (same : (image : List ℕ) → scan_of t image ≡ scan_of s image) where
+  held_on : Told a → scan_of t b.held ≡ scan_of s a.held
+  held_on told = ap (scan_of t) (ab.whole.front.held told) ∙ same a.held
+
+  told_on : Told a → Told b
+  told_on told = ap (λ f. f.tells_held) ab.whole.front.run.fixed ∙ told
+
+  pub rows_on : {c : View} (more : List Record) (end : ℕ) → SaysRows more t to end b c → SaysRows (rows ++ more) s from end a c
+  rows_on {c} more end bc = record {
+    whole = subst (λ (text : List ℕ). SaysWhole text a c) (sym (row_text-append rows more)) (whole_on law (row_text rows) (row_text more) ab.whole bc.whole);
+    count = omega (arith, ab.count, bc.count, length-append rows more);
+    are = λ told.
+        sym (append_assoc (take from (scan_of s a.held)) rows more)
+        ∙ ap (λ (l : List Record). l ++ more) (ab.are told)
+        ∙ ap (λ (l : List Record). take to l ++ more) (sym (held_on told))
+        ∙ bc.are (told_on told)
+        ∙ ap (take end) (held_on told);
+  }
+
+  pub stops_on : {c : View} → StopsInRows t to b c → StopsInRows s from a c
+  stops_on {c} stops = record {
+    rows = rows ++ stops.rows;
+    rest = stops.rest;
+    front = subst (λ (text : List ℕ). SaysFront text a c) (sym (row_text-append rows stops.rows)) (front_on law (row_text rows) (row_text stops.rows) ab.whole stops.front);
+    are = λ told.
+        ap (λ (l : List Record). l ++ stops.rest) (sym (append_assoc (take from (scan_of s a.held)) rows stops.rows))
+        ∙ ap (λ (l : List Record). l ++ stops.rows ++ stops.rest) (ab.are told)
+        ∙ ap (λ (l : List Record). take to l ++ stops.rows ++ stops.rest) (sym (held_on told))
+        ∙ stops.are (told_on told)
+        ∙ held_on told;
+  }
+
+-- a sweep that goes on has the same scan, and begins where it began
+pub same_scan : {s t : SweepView} → GoesOn s t → (image : List ℕ) → scan_of t image ≡ scan_of s image
+same_scan {s} {t} on image = λ i. scanned_by (on.low_is i) (on.high_is i) (on.limit_is i)
+  where
+    scanned_by : Option (List ℕ) → Option (List ℕ) → ℕ → List Record
+    scanned_by low high limit = scan_of (record s { low = low; high = high; limit = limit }) image
+
+pub begins_on : {s t : SweepView} (records : List Record) → GoesOn s t → BeginsThere s records → BeginsThere t records
+begins_on {s} {t} records on begins = subst (λ (x : Type 0). x) (λ i. BeginsThere (record s { tally = sym on.tally_is i; first = sym on.first_is i; low = sym on.low_is i }) records) begins
+
+-- All records of a scan.
+
+module _ (s : SweepView) {a b : View} (rows : List Record) (to : ℕ) (says : SaysRows rows s 0 to a b) where
+  pub within_rows : Told a → to ≤ length (scan_of s a.held)
+  within_rows told = omega (arith, says.count, ap length (says.are told), length-take to (scan_of s a.held))
+
+  pub all_rows : Told a → length (scan_of s a.held) ≤ to → rows ≡ scan_of s a.held
+  all_rows told most = says.are told ∙ take_all to (scan_of s a.held) most
+
+pub goes_on_refl : (s : SweepView) → GoesOn s s
+goes_on_refl s = record { layout_is = refl; region_is = refl; end_is = refl; tally_is = refl; first_is = refl; low_is = refl; high_is = refl; limit_is = refl; onward = omega arith }
+
+pub goes_on : {s t u : SweepView} → GoesOn s t → GoesOn t u → GoesOn s u
+goes_on st tu = record {
+  layout_is = tu.layout_is ∙ st.layout_is;
+  region_is = tu.region_is ∙ st.region_is;
+  end_is = tu.end_is ∙ st.end_is;
+  tally_is = tu.tally_is ∙ st.tally_is;
+  first_is = tu.first_is ∙ st.first_is;
+  low_is = tu.low_is ∙ st.low_is;
+  high_is = tu.high_is ∙ st.high_is;
+  limit_is = tu.limit_is ∙ st.limit_is;
+  onward = omega (arith, st.onward, tu.onward);
+}
+
+-- A scan of a store.
+
+module _ (s : StoreView) (first : ℕ) (low high : Option Bytes) (limit : ℕ) (w : SweepView) (is : w ≡ fresh_sweep s first low high limit) where
+  -- its records
+  pub scan_is : (image : List ℕ) → scan_of w image ≡ scanned low high limit (entries (map_of image))
+  scan_is image = ap (λ (x : SweepView). scan_of x image) is
+
+  -- it walks over segments of the store
+  pub walks_of : (t : SweepView) (a b : Travel) → GoesOn w t → IsSweep t → b ≡ after_walk w.reader.layout w.reader.region w.reader.next t.reader.next a → Walks s w.reader.next t.reader.next a b
+  walks_of t a b on sweep travel = record {
+    onward = on.onward;
+    within = omega (arith, sweep.reader.within, on.end_is, ap (λ (x : SweepView). x.reader.end) is);
+    travel = travel ∙ (λ i. after_walk (is i).reader.layout (is i).reader.region w.reader.next t.reader.next a);
+  }
+
+  -- over few
+  pub few_of : (image : List ℕ) (end : ℕ) → end - w.first ≤ length (scan_of w image) / 4 + 2 → end - w.reader.next ≤ length (scanned low high limit (entries (map_of image))) / 4 + 2
+  few_of image end most = omega (arith, most, ap (λ (x : SweepView). x.reader.next) is, ap (λ (x : SweepView). x.first) is, ap length (scan_is image))
