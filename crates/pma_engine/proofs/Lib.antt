@@ -2,8 +2,13 @@ pub mod StoreLaws
 pub mod SessionLaws
 pub mod ScriptCommands
 pub mod CommandLines
+pub mod Layouts
 pub mod Executing
 pub mod Pieces
 pub mod Ranging
 pub mod Answering
 pub mod RangeAnswers
+pub mod ServingLaws
+pub mod Opening
+pub mod OutcomeLaws
+pub mod Ending

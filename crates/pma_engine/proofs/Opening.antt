@@ -31,12 +31,13 @@ pub opened_after : {a b c : View} → Steps Same a b → Steps Opens b c → Ste
 opened_after ab bc = on_same ab bc opens_none
 
 -- no store without an attach
-pub unattached : (a b : View) → Rose a.disk_faults b.disk_faults → IsUnopened Failed a b
-unattached a b rose = record {
+pub unattached : (a b : View) → b.travel ≡ a.travel → Rose a.disk_faults b.disk_faults → IsUnopened Failed a b
+unattached a b travel rose = record {
   refused = λ r is. absurd cc;
   recovers = λ r is. absurd cc;
   even = λ r is. absurd cc;
   memory = λ is. absurd cc;
+  unwritten = λ told rest. ap (λ (t : Travel). t.written) travel;
   failed = λ is. rose;
   undamaged = λ told. tt;
 }
@@ -74,6 +75,7 @@ module _ (a m b : View) (attach : Steps Same (attached_by false a) m) (travel : 
       settled = (memory_last is).0;
       sound = λ told. ap header_reason (sym (held told)) ∙ (memory_last is).1 (on told);
     };
+    unwritten = λ told rest. (kept (on told) (subst IsAtRest (sym (held told)) rest)).unwritten ∙ ap (λ (t : Travel). t.written) travel;
     failed = λ is. omega (arith, failed is, attach.frame.disk_faults);
     undamaged = λ told. damaged (on told);
   }

@@ -5,10 +5,14 @@ use Rattle.station.specs.View.{View, Told, Honest, EachHeld, NothingPending}
 use Rattle.station.specs.Steps.{Steps, Says}
 use Rattle.station.proofs.Composition.{weaken, only_held}
 use Rattle.map_model.specs.Store.{Map}
-use Rattle.map_model.specs.Image.{Represents, RepresentsMap, map_of, height_of}
+use Rattle.map_model.specs.Image.{RepresentsMap, array_in, array_of, map_of, height_of}
 use Rattle.station.proofs.Sayings.{run_of_steps}
 use Rattle.pma_store.specs.Store.{StoreView, Stands, Becomes}
 use Rattle.pma_engine.specs.Carrying.{Looks}
+use Rattle.pma_engine.specs.Serving.{IsAtState}
+use Rattle.pma_store.specs.Answers.{state_in}
+use Rattle.density_rule.specs.Windows.{IsBalanced}
+use Rattle.map_model.specs.Array.{counts_of}
 
 -- what a store stands for represents its map
 pub held_stands : (s : StoreView) (a : View) → EachHeld (Stands s) a → Told a → RepresentsMap a.held (map_of a.held)
@@ -32,3 +36,15 @@ looks_same {a} {b} nothing steps unwritten = record {
   held = steps.held;
   unwritten = unwritten;
 }
+
+-- a store has the state of its file, and every window is within its bounds
+pub state_stands : (s : StoreView) (a : View) → EachHeld (Stands s) a → Told a → IsAtState (state_in s a.held) a.held
+state_stands s a store told =
+    let stands = (store a.held (inl (told, refl))).balanced in
+    record {
+      has = record { represents = stands.stands.settled.represents; array_is = refl };
+      balanced = subst (λ (x : ℕ × List ℕ). IsBalanced x.0 x.1) (λ i. (sym stands.stands.height_is i, counts_same stands.stands.height_is stands.stands.counts_are i)) stands.balanced;
+    }
+  where
+    counts_same : {counts : List ℕ} → height_of a.held ≡ s.tally.height → counts_of (array_in a.held s.tally.height) ≡ counts → counts ≡ counts_of (array_of a.held)
+    counts_same height are = sym are ∙ ap (λ (h : ℕ). counts_of (array_in a.held h)) (sym height)

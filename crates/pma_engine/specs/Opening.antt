@@ -39,5 +39,6 @@ pub record IsUnopened (fault : OpenFault) (a b : View) : Type 0 where
   pub recovers : (r : Reason) → fault ≡ NotStore r → Told a → recovered (layout_in a.held) b.held ≡ recovered (layout_in a.held) a.held
   pub even : (r : Reason) → fault ≡ NotStore r → Told a → gate a.held ≡ 0 → b.held ≡ a.held
   pub memory : fault ≡ Memory → IsOutOfMemory a b
+  pub unwritten : Told a → IsAtRest a.held → b.travel.written ≡ a.travel.written
   pub failed : fault ≡ Failed → Rose a.disk_faults b.disk_faults
   pub undamaged : Told a → IsNoDamage fault

@@ -1,6 +1,5 @@
 -- What came of a job.
 use Rattle.std.specs.Prelude.{◌≡◌, ◌+◌, ◌<◌, ◌≤◌, ◌⊎◌, true, ℕ, List, [], ◌++◌, length, false, Some, None}
-use Rattle.station.specs.Steps.{Run}
 use Rattle.station.specs.View.{View, Told, SaidTold, Honest, NothingPending, Rose, attached_by}
 use Rattle.line_source.specs.SourceView.{SourceView, Went}
 use Rattle.line_source.specs.SourceView as source
@@ -18,14 +17,13 @@ use Rattle.header_gate.specs.declared.reason.Reason.TheVariants.{Length}
 use Rattle.recovery.specs.Restores.{IsAtRest}
 use Rattle.command_text.specs.ArraySession.{array_state_after}
 use Rattle.command_text.specs.declared.command.Command.{Command}
-use Rattle.command_text.specs.declared.reply.Reply.{Reply}
 use Rattle.command_text.specs.declared.reply.Reply.TheVariants.{NotStore}
 use Rattle.command_text.specs.Script.{commands_in, commands_of, complete_commands}
 use Rattle.pma_engine.specs.Costs.{session_cost, most_written}
 use Rattle.pma_engine.specs.Opening.{IsOutOfMemory}
-use Rattle.pma_engine.specs.Refusing.{IsRefusal, SaysLine, KeepsBytes}
+use Rattle.pma_engine.specs.Refusing.{SaysLine, SaysLastLine, KeepsBytes}
 use Rattle.pma_engine.specs.Session.{Headline, replies_after}
-use Rattle.pma_engine.specs.Serving.{ScriptPair, IsAtState, IsServed, IsServedToCut, IsCutInReply, TakesAtMost, fresh_reader}
+use Rattle.pma_engine.specs.Serving.{IsAtState, TakesAtMost}
 use Rattle.line_source.specs.Lines.{raw_lines, most_held}
 use Rattle.pma_engine.specs.declared.status.TheConstants.{DONE, REFUSED, DISK_FAULT, SCRIPT_FAULT, REPLY_FAULT, OUT_OF_MEMORY, TOO_LONG}
 
@@ -95,31 +93,10 @@ NoStore image = (m : Map) (height : ℕ) → Represents image m height → ⊥
 -- The file is refused, and one line says so. Over a station that tells its bytes it tells the first reason against the file,
 -- and no reply was said before it.
 pub record IsRefused (a b : View) : Type 0 where
-  pub line : SaidTold a → (r : Reply) × IsRefusal r × ((replies : List ℕ) × SaysLine r (a.said ++ replies) a b)
+  pub line : SaidTold a → SaysLastLine a b
   pub reason : Told a → (r : Reason) × (reason_of a.held ≡ Some r) × (SaidTold a → SaysLine (NotStore r) a.said a b)
   pub recovers : Told a → recovered (layout_in a.held) b.held ≡ recovered (layout_in a.held) a.held
   pub even : Told a → gate a.held ≡ 0 → b.held ≡ a.held
-
--- what the serving of an open store's script came to, from a state on
-pub record Serves (status most hmax : ℕ) (state : ArrayState) (s0 s1 : SourceView) (a b : View) : Type 0 where
-  pub status_is : IsRunStatus status
-  pub enough : status ≡ OUT_OF_MEMORY → ⊥
-  pub run : Run (ScriptPair hmax state a (fresh_reader most) s0) a b
-  pub pair : Told a → SaidTold a → ScriptPair hmax state a (fresh_reader most) s0 b.held b.said
-  pub served : status ≡ DONE → source.Told s0 → Told a → (now : ArrayState) × IsServed hmax state a (commands_of s0.left) now b
-  pub cut : (status ≡ SCRIPT_FAULT) ⊎ (status ≡ TOO_LONG) → source.Told s0 → Told a → (now : ArrayState) × IsServedToCut hmax state a s0.left s1.left now b
-  pub reply_cut : status ≡ REPLY_FAULT → source.Told s0 → Told a → (now : ArrayState) × IsCutInReply hmax state s0.left s1.left now a b
-  pub written : source.Told s0 → Told a → b.travel.written ≤ a.travel.written + session_cost hmax state (commands_of s0.left) + most_written hmax
-  pub settled : IsRest status → NothingPending b
-  pub refused : status ≡ REFUSED → Told a → ⊥
-  pub line : status ≡ REFUSED → SaidTold a → (r : Reply) × IsRefusal r × ((replies : List ℕ) × SaysLine r (a.said ++ replies) a b)
-  pub disk : status ≡ DISK_FAULT → Rose a.disk_faults b.disk_faults
-  pub reply : status ≡ REPLY_FAULT → Rose a.say_faults b.say_faults
-  pub script : status ≡ SCRIPT_FAULT → source.Rose s0 s1
-  pub long : status ≡ TOO_LONG → source.Told s0 → length s0.left ≡ length s1.left + most
-  pub whole : status ≡ DONE → source.Told s0 → (s1.left ≡ []) × (length s0.left < most)
-  pub takes : source.Told s0 → TakesAtMost most s0 s1
-  pub went : Went s0 s1
 
 -- what a run on a file came to, that takes at most so many bytes of its script
 pub record Ran (status most : ℕ) (s0 s1 : SourceView) (a b : View) : Type 0 where

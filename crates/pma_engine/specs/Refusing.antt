@@ -7,9 +7,7 @@ use Rattle.command_text.specs.declared.reply.Reply.{Reply}
 use Rattle.command_text.specs.declared.reply.Reply.TheVariants as reply
 use Rattle.recovery.specs.declared.fault.OpenFault.{OpenFault}
 use Rattle.recovery.specs.declared.fault.OpenFault.TheVariants as opening
-use Rattle.pma_engine.specs.declared.fault.ServeFault.{ServeFault}
-use Rattle.pma_engine.specs.declared.fault.ServeFault.TheVariants.{Disk, Damaged, Script, Reply as Cut, Spent}
-use Rattle.pma_engine.specs.declared.status.TheConstants.{REFUSED, DISK_FAULT, SCRIPT_FAULT, REPLY_FAULT, OUT_OF_MEMORY, TOO_LONG}
+use Rattle.pma_engine.specs.declared.status.TheConstants.{REFUSED, DISK_FAULT, OUT_OF_MEMORY}
 
 -- the line tells that something is refused
 abbrev pub IsRefusal : Reply → Type 0
@@ -31,19 +29,6 @@ status_of_opening opening.Failed = DISK_FAULT
 status_of_opening (opening.NotStore reason) = REFUSED
 status_of_opening (opening.Damaged segment why) = REFUSED
 
--- the line that tells why a script isn't served further, where a segment is refused
-abbrev pub line_of_serving : ServeFault → Option Reply
-line_of_serving (Damaged segment why) = Some (reply.Damaged segment why)
-line_of_serving _ = None
-
--- the status with which the run ends then
-abbrev pub status_of_serving : ServeFault → ℕ
-status_of_serving Disk = DISK_FAULT
-status_of_serving (Damaged segment why) = REFUSED
-status_of_serving Script = SCRIPT_FAULT
-status_of_serving Cut = REPLY_FAULT
-status_of_serving Spent = TOO_LONG
-
 -- the bytes of a line, where there is one
 abbrev pub line_text : Option Reply → List ℕ
 line_text None = []
@@ -55,6 +40,13 @@ pub record SaysLine (line : Reply) (said_before : List ℕ) (a b : View) : Type 
   pub within : count ≤ length (reply_text line)
   pub said : b.said ≡ said_before ++ take count (reply_text line)
   pub whole : (Rose a.say_faults b.say_faults → ⊥) → count ≡ length (reply_text line)
+
+-- behind replies, one line was said that tells that something is refused
+pub record SaysLastLine (a b : View) : Type 0 where
+  pub replies : List ℕ
+  pub line : Reply
+  pub refuses : IsRefusal line
+  pub says : SaysLine line (a.said ++ replies) a b
 
 -- no byte of the file changed: an image that a crash leaves at a moment is one of the entry
 pub record KeepsBytes (a b : View) : Type 0 where

@@ -1,16 +1,20 @@
 //! The job of answering a script.
 
-ghost use Rattle.std.specs.Prelude.{◌≡◌, ◌≤◌, None, Some, false, IfOk, IfErr};
-ghost use Rattle.station.specs.Steps.{Steps, Says};
-ghost use Rattle.station.specs.View.{Told, SaidTold, EachHeld, NothingPending, NamedBy, attached_by};
+ghost use Rattle.std.specs.Prelude.{◌≡◌, ◌+◌, ◌<◌, ◌≤◌, ◌⊎◌, [], length, None, Some, false, IfOk, IfErr};
+ghost use Rattle.station.specs.Steps.{Steps, Says, Run};
+ghost use Rattle.station.specs.View.{Told, SaidTold, EachHeld, NothingPending, Rose, NamedBy, attached_by};
 ghost use Rattle.header_gate.specs.Places.{file_length};
+ghost use Rattle.line_source.specs.SourceView.{Told as SourceTold, Rose as SourceRose, Went};
 ghost use Rattle.recovery.specs.Restores.{Opens};
+ghost use Rattle.command_text.specs.Script.{commands_of};
 ghost use Rattle.pma_store.specs.Answers.{state_in};
 ghost use Rattle.pma_store.specs.Store.{Stands};
 ghost use Rattle.pma_engine.specs.Carrying.{hmax_of};
+ghost use Rattle.pma_engine.specs.Costs.{session_cost, most_written};
 ghost use Rattle.pma_engine.specs.Opening.{IsOpened, IsUnopened};
-ghost use Rattle.pma_engine.specs.Outcome.{NoStore, Ran, Serves};
-ghost use Rattle.pma_engine.specs.Refusing.{SaysLine, line_text, line_of_opening, status_of_opening, line_of_serving, status_of_serving};
+ghost use Rattle.pma_engine.specs.Outcome.{IsRest, IsRunStatus, NoStore, Ran};
+ghost use Rattle.pma_engine.specs.Refusing.{SaysLine, SaysLastLine, line_text, line_of_opening, status_of_opening};
+ghost use Rattle.pma_engine.specs.Serving.{ScriptPair, IsServed, IsServedToCut, IsCutInReply, TakesAtMost, fresh_reader};
 
 use crate::fault::ServeFault;
 use crate::refusing::say_refusal;
@@ -74,6 +78,7 @@ fn open_file<S: Station>(
 fn end_unopened<S: Station>(station: &mut S, fault: OpenFault) -> u8
     ensures status { result ≡ status_of_opening fault }
     ensures says { Says (line_text (line_of_opening fault)) (S.view station.old) (S.view station.new) }
+    ensures silent { line_of_opening fault ≡ None → station.new ≡ station.old }
     ensures line { (line : Reply) → line_of_opening fault ≡ Some line → SaidTold (S.view station.old) → SaysLine line (S.view station.old).said (S.view station.old) (S.view station.new) }
 {
     match fault {
@@ -90,7 +95,7 @@ fn end_unopened<S: Station>(station: &mut S, fault: OpenFault) -> u8
     }
 }
 
-// Answers the script over an open store.
+// Answers the script over an open store, and says the line where a segment is damaged.
 fn serve_opened<I: Source, S: Station>(
     store: &mut Store,
     source: &mut I,
@@ -101,30 +106,39 @@ fn serve_opened<I: Source, S: Station>(
     requires store { EachHeld (Stands store.old) (S.view station.old) }
     requires nothing { NothingPending (S.view station.old) }
     requires reach { file_length store.old.place.layout ≤ (S.view station.old).fixed.reach }
-    ensures { Serves result most (hmax_of store.old) (state_in store.old (S.view station.old).held) (I.view source.old) (I.view source.new) (S.view station.old) (S.view station.new) }
+    ensures status { IsRunStatus result }
+    ensures enough { result ≡ OUT_OF_MEMORY → ⊥ }
+    ensures run { Run (ScriptPair (hmax_of store.old) (state_in store.old (S.view station.old).held) (S.view station.old) (fresh_reader most) (I.view source.old)) (S.view station.old) (S.view station.new) }
+    ensures pair { (result ≡ REFUSED → ⊥) → Told (S.view station.old) → SaidTold (S.view station.old) → ScriptPair (hmax_of store.old) (state_in store.old (S.view station.old).held) (S.view station.old) (fresh_reader most) (I.view source.old) (S.view station.new).held (S.view station.new).said }
+    ensures served { result ≡ DONE → SourceTold (I.view source.old) → Told (S.view station.old) →
+        IsServed (hmax_of store.old) (state_in store.old (S.view station.old).held) (S.view station.old) (commands_of (I.view source.old).left) (state_in store.new (S.view station.new).held) (S.view station.new) }
+    ensures cut { (result ≡ SCRIPT_FAULT) ⊎ (result ≡ TOO_LONG) → SourceTold (I.view source.old) → Told (S.view station.old) →
+        IsServedToCut (hmax_of store.old) (state_in store.old (S.view station.old).held) (S.view station.old) (I.view source.old).left (I.view source.new).left (state_in store.new (S.view station.new).held) (S.view station.new) }
+    ensures reply_cut { result ≡ REPLY_FAULT → SourceTold (I.view source.old) → Told (S.view station.old) →
+        IsCutInReply (hmax_of store.old) (state_in store.old (S.view station.old).held) (I.view source.old).left (I.view source.new).left (state_in store.new (S.view station.new).held) (S.view station.old) (S.view station.new) }
+    ensures written { (result ≡ REFUSED → ⊥) → SourceTold (I.view source.old) → Told (S.view station.old) →
+        (S.view station.new).travel.written ≤ (S.view station.old).travel.written + session_cost (hmax_of store.old) (state_in store.old (S.view station.old).held) (commands_of (I.view source.old).left) + most_written (hmax_of store.old) }
+    ensures settled { IsRest result → NothingPending (S.view station.new) }
+    ensures refused { result ≡ REFUSED → Told (S.view station.old) → ⊥ }
+    ensures line { result ≡ REFUSED → SaidTold (S.view station.old) → SaysLastLine (S.view station.old) (S.view station.new) }
+    ensures disk { result ≡ DISK_FAULT → Rose (S.view station.old).disk_faults (S.view station.new).disk_faults }
+    ensures reply { result ≡ REPLY_FAULT → Rose (S.view station.old).say_faults (S.view station.new).say_faults }
+    ensures script { result ≡ SCRIPT_FAULT → SourceRose (I.view source.old) (I.view source.new) }
+    ensures long { result ≡ TOO_LONG → SourceTold (I.view source.old) → length (I.view source.old).left ≡ length (I.view source.new).left + most }
+    ensures whole { result ≡ DONE → SourceTold (I.view source.old) → ((I.view source.new).left ≡ []) × (length (I.view source.old).left < most) }
+    ensures takes { SourceTold (I.view source.old) → TakesAtMost most (I.view source.old) (I.view source.new) }
+    ensures went { Went (I.view source.old) (I.view source.new) }
 {
     let mut reader = LineReader::new(most);
     match serve(store, source, station, &mut reader) {
         Ok(()) => DONE,
-        Err(fault) => end_served(station, fault),
-    }
-}
-
-// Ends a run whose serving stopped, and says the line where a segment is damaged.
-fn end_served<S: Station>(station: &mut S, fault: ServeFault) -> u8
-    ensures status { result ≡ status_of_serving fault }
-    ensures says { Says (line_text (line_of_serving fault)) (S.view station.old) (S.view station.new) }
-    ensures line { (line : Reply) → line_of_serving fault ≡ Some line → SaidTold (S.view station.old) → SaysLine line (S.view station.old).said (S.view station.old) (S.view station.new) }
-    ensures silent { line_of_serving fault ≡ None → station.new ≡ station.old }
-{
-    match fault {
-        ServeFault::Disk => DISK_FAULT,
-        ServeFault::Damaged { segment, why } => {
+        Err(ServeFault::Disk) => DISK_FAULT,
+        Err(ServeFault::Damaged { segment, why }) => {
             say_refusal(station, &Reply::Damaged { segment, why });
             REFUSED
         }
-        ServeFault::Script => SCRIPT_FAULT,
-        ServeFault::Reply => REPLY_FAULT,
-        ServeFault::Spent => TOO_LONG,
+        Err(ServeFault::Script) => SCRIPT_FAULT,
+        Err(ServeFault::Reply) => REPLY_FAULT,
+        Err(ServeFault::Spent) => TOO_LONG,
     }
 }

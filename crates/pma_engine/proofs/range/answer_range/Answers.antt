@@ -28,6 +28,12 @@ say_rows-requires-clause-sweeping g c told = c.scan-sweep.ensures.sweeping (g.S.
 fault_of : (fault other : ServeFault) → IsErrOf {T = Unit {0}} (Err fault) other → fault ≡ other
 fault_of fault other is = cc
 
+no_fault : (other : ServeFault) → IsErrOf {T = Unit {0}} (Ok tt) other → ⊥
+no_fault other is = cc
+
+no_disk : IsErrOf {T = Unit {0}} (Err Reply) Disk → ⊥
+no_disk is = cc
+
 reply_kind : (fault : ServeFault) → IsOk {T = Unit {0}} (Err fault) ⊎ IsErrOf {T = Unit {0}} (Err fault) Reply → IsOk {T = ℕ} (Err fault) ⊎ IsErrOf {T = ℕ} (Err fault) Reply
 reply_kind fault (inl is) = absurd cc
 reply_kind fault (inr is) = inr (ap Err (fault_of fault Reply is))
@@ -78,7 +84,7 @@ returns-in-Ok-say_line g c =
     answers_range c.args.store.now c.args.low c.args.high c.args.limit a d (g.met.S.Station.lawful c.args.station.now) (g.met.S.Station.lawful c.say_line.new.station) c.requires.store c.requires.nothing c.requires.open
     (text g here) (front g here) (begun g here) c.scan-sweep.result.reader.next c.say_rows.new.sweep.reader.next (walked g here) (Ok tt) (λ kind told. is_few g here told)
     (λ told said_told. said g here c.in-Ok-say_line.ensures.all told said_told)
-    tt (λ is. absurd cc) (λ is. absurd cc) tt tt
+    tt (λ is. absurd (no_fault Disk is)) (λ is. absurd (no_fault Reply is)) tt tt
 
 pub returns-in-Err-say_line : goal.returns-in-Err-say_line
 returns-in-Err-say_line g c =
@@ -87,7 +93,7 @@ returns-in-Err-say_line g c =
     let d = g.S.Station.view c.say_line.new.station in
     answers_range c.args.store.now c.args.low c.args.high c.args.limit a d (g.met.S.Station.lawful c.args.station.now) (g.met.S.Station.lawful c.say_line.new.station) c.requires.store c.requires.nothing c.requires.open
     (text g here) (front g here) (begun g here) c.scan-sweep.result.reader.next c.say_rows.new.sweep.reader.next (walked g here) (Err Reply) (λ kind told. is_few g here told)
-    tt c.requires.open (λ is. absurd cc) (λ is. omega (arith, c.in-Err-say_line.ensures.cause, c.in-Ok.ensures.rows.1.whole.front.run.say_faults)) (λ told. tt) tt
+    tt c.requires.open (λ is. absurd (no_disk is)) (λ is. omega (arith, c.in-Err-say_line.ensures.cause, c.in-Ok.ensures.rows.1.whole.front.run.say_faults)) (λ told. tt) tt
 
 pub returns-in-Err : goal.returns-in-Err
 returns-in-Err g c =
