@@ -1,5 +1,5 @@
 -- What the calls of a store make of commands.
-use Rattle.std.proofs.Common.{◌≡◌, inl, ℕ, ◌+◌, ◌^◌, ◌≤◌, Bool, true, false, List, [], ◌∷◌, Option, Some, None, Ok, Err, refl, sym, ap, subst, ◌∙◌, arith}
+use Rattle.std.proofs.Common.{◌≡◌, inl, ℕ, ◌+◌, ◌≤◌, Bool, true, false, List, [], ◌∷◌, Option, Some, None, Ok, Err, refl, sym, ap, subst, ◌∙◌, arith}
 use Rattle.std.specs.Prelude.{◌==◌, if◌then◌else◌, IsErrOf}
 use Rattle.std.specs.FinMap.{contains_key, get, len}
 use Rattle.station.specs.Bytes.{Same}
@@ -7,7 +7,6 @@ use Rattle.station.specs.View.{View, Told, EachHeld, NothingPending, Rose}
 use Rattle.station.specs.Steps.{Steps}
 use Rattle.station.specs.declared.travel.Travel.{Travel}
 use Rattle.station.proofs.Composition.{no_steps, told_on}
-use Rattle.station.proofs.Sayings.{run_of_steps}
 use Rattle.key_slot.specs.Record.{Bytes}
 use Rattle.density_rule.specs.Bounds.{upper_of}
 use Rattle.segment.specs.declared.fault.StoreFault.{StoreFault}
@@ -35,7 +34,7 @@ use Rattle.pma_store.specs.Changing.{update_cost}
 use Rattle.pma_store.specs.Looking.{ReadsOne}
 use Rattle.pma_engine.specs.Costs.{Travels, LooksFar, ReadsSegment, report_cost, update_cost_in, most_written}
 use Rattle.pma_engine.specs.Replies.{lines_of, put_reply, removal_reply, IsQuiet}
-use Rattle.pma_engine.specs.Carrying.{hmax_of, IsCarriedOut, Looks, Executes}
+use Rattle.pma_engine.specs.Carrying.{hmax_of, Looks, Executes}
 use Rattle.pma_engine.proofs.StoreLaws.{read_becomes, looks_same}
 
 -- no call at all

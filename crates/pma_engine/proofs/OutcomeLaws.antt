@@ -1,7 +1,7 @@
 -- What comes of a run, from the map that its file represents at the entry.
-use Rattle.std.proofs.Common.{◌≡◌, ◌⊎◌, inl, inr, ℕ, ◌+◌, ◌<◌, ◌≤◌, List, [], ◌++◌, length, take, Bool, false, Option, Some, None, refl, sym, ◌∙◌, ap, subst, arith}
+use Rattle.std.proofs.Common.{◌≡◌, ◌⊎◌, inl, inr, ℕ, ◌+◌, ◌<◌, ◌≤◌, List, [], ◌++◌, length, take, Bool, false, Some, None, refl, sym, ◌∙◌, ap, subst, arith}
 use Rattle.std.proofs.lemmas.List.{append-nil}
-use Rattle.station.specs.View.{View, Told, SaidTold, Honest, EachHeld, NothingPending, Rose, Lawful, attached_by}
+use Rattle.station.specs.View.{View, Told, SaidTold, Honest, NothingPending, Rose, Lawful, attached_by}
 use Rattle.station.specs.Steps.{Steps, Says, Run, LeavesOnly}
 use Rattle.station.proofs.Sayings.{since_entry, run_of_steps, run_on}
 use Rattle.line_source.specs.SourceView.{SourceView, Went}
@@ -15,8 +15,7 @@ use Rattle.redo_journal.specs.Commit.{IsJournalPlace, IsRegionPlace}
 use Rattle.header_gate.specs.Recovered.{recovered}
 use Rattle.map_model.specs.ArrayState.{ArrayState, opened_state}
 use Rattle.map_model.specs.Store.{Map}
-use Rattle.map_model.specs.Image.{Represents, RepresentsMap, map_of, height_of}
-use Rattle.map_model.specs.Reasons.{reason_of}
+use Rattle.map_model.specs.Image.{Represents, map_of, height_of}
 use Rattle.map_model.proofs.Recovering.{determined}
 use Rattle.map_model.proofs.Reasonings.{represents_of_none, none_of_represents}
 use Rattle.recovery.specs.Restores.{Opens, IsAtRest}
@@ -28,12 +27,12 @@ use Rattle.command_text.specs.declared.reply.Reply.{Reply}
 use Rattle.command_text.specs.declared.reply.Reply.TheVariants as reply
 use Rattle.command_text.specs.Reply.{reply_text}
 use Rattle.command_text.specs.Script.{commands_in, commands_of, complete_commands}
-use Rattle.pma_store.specs.Store.{StoreView, Stands}
+use Rattle.pma_store.specs.Store.{StoreView}
 use Rattle.pma_store.specs.Answers.{state_in}
 use Rattle.pma_engine.specs.declared.status.TheConstants.{DONE, REFUSED, DISK_FAULT, SCRIPT_FAULT, REPLY_FAULT, OUT_OF_MEMORY, TOO_LONG}
 use Rattle.pma_engine.specs.Carrying.{hmax_of}
 use Rattle.pma_engine.specs.Costs.{session_cost, most_written}
-use Rattle.pma_engine.specs.Opening.{IsOpened, IsUnopened, IsOutOfMemory}
+use Rattle.pma_engine.specs.Opening.{IsOpened, IsUnopened}
 use Rattle.pma_engine.specs.Refusing.{SaysLine, SaysLastLine, IsRefusal, line_text, line_of_opening, status_of_opening}
 use Rattle.pma_engine.specs.Session.{Headline, replies_after}
 use Rattle.pma_engine.specs.Serving.{ScriptPair, IsAtState, IsServed, IsServedToCut, IsCutInReply, TakesAtMost, fresh_reader}
@@ -238,7 +237,6 @@ pub record Serves (status most hmax : ℕ) (state now : ArrayState) (s0 s1 : Sou
   pub whole : status ≡ DONE → source.Told s0 → (s1.left ≡ []) × (length s0.left < most)
   pub takes : source.Told s0 → TakesAtMost most s0 s1
   pub went : Went s0 s1
-
 
 module _ (a b : View) (law : Lawful a) (ab : Steps Opens (attached_by false a) b) (v : StoreView) (opened : IsOpened v a b) where
   -- an opened file is a store's

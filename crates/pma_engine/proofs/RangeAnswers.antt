@@ -1,11 +1,11 @@
 -- What the answer to a range comes to.
-use Rattle.std.proofs.Common.{◌≡◌, ◌⊎◌, inl, inr, ℕ, ◌+◌, ◌-◌, ◌/◌, ◌^◌, ◌≤◌, false, List, [], ◌∷◌, ◌++◌, length, take, map, None, Option, Result, Ok, Err, refl, sym, ◌∙◌, ap, subst, arith, append_assoc, length-append}
+use Rattle.std.proofs.Common.{◌≡◌, ◌⊎◌, inl, inr, ℕ, ◌+◌, ◌-◌, ◌/◌, ◌≤◌, false, List, [], ◌∷◌, ◌++◌, length, take, map, Option, Result, refl, sym, ◌∙◌, ap, subst, arith, append_assoc, length-append}
 use Rattle.std.specs.Prelude.{IsOk, IsErrOf, IfErr, OnOk}
 use Rattle.std.specs.List.{flat_map}
 use Rattle.std.specs.FinMap.{entries}
 use Rattle.std.proofs.lemmas.List.{append-nil, take-append-le}
 use Rattle.station.specs.View.{View, Told, SaidTold, Honest, EachHeld, NothingPending, Rose, Lawful}
-use Rattle.station.specs.Steps.{Run, Says}
+use Rattle.station.specs.Steps.{Run}
 use Rattle.station.specs.declared.travel.Travel.{Travel}
 use Rattle.station.proofs.Sayings.{run_in}
 use Rattle.key_slot.specs.Record.{Bytes, Record}

@@ -1,7 +1,6 @@
 -- The reply to a range.
-use Rattle.std.proofs.Common.{◌≡◌, ◌⊎◌, inl, inr, ℕ, zero, suc, ◌+◌, ◌-◌, ◌/◌, ◌≤◌, List, [], ◌∷◌, ◌++◌, length, take, drop, map, Option, Some, None, refl, sym, ◌∙◌, ap, subst, arith, append_assoc, length-append, length-take}
+use Rattle.std.proofs.Common.{◌≡◌, ℕ, zero, suc, ◌+◌, ◌-◌, ◌/◌, ◌≤◌, List, [], ◌∷◌, ◌++◌, length, take, drop, Option, Some, None, refl, sym, ◌∙◌, ap, subst, arith, append_assoc, length-append, length-take}
 use Rattle.std.specs.Prelude.{slice_get}
-use Rattle.std.specs.List.{flat_map}
 use Rattle.std.specs.Option.{option_map}
 use Rattle.std.specs.FinMap.{entries}
 use Rattle.std.proofs.lemmas.List.{append-nil, take-append-drop, take_all}
@@ -20,10 +19,9 @@ use Rattle.pma_store.specs.Store.{StoreView}
 use Rattle.pma_engine.specs.Costs.{Walks}
 use Rattle.station.specs.declared.travel.Travel.{Travel}
 use Rattle.range_scan.specs.Sweeping.{BeginsThere}
-use Rattle.command_text.specs.Answers.{row_line}
 use Rattle.command_text.specs.Reply.{reply_text}
 use Rattle.command_text.specs.declared.reply.Reply.TheVariants as reply
-use Rattle.pma_engine.specs.Ranging.{SaysFront, SaysWhole, SaysRows, StopsInRows, scan_of, row_text, as_list}
+use Rattle.pma_engine.specs.Ranging.{SaysFront, SaysWhole, SaysRows, StopsInRows, scan_of, row_text}
 use Rattle.pma_engine.proofs.Pieces.{pieces_read, piece_front, piece_whole, front_on, whole_on, row_text-append}
 
 -- Fronts of a list.

@@ -211,8 +211,14 @@ module _ (hmax : ℕ) (q : ArrayState) (a0 : View) (r0 : ReaderView) (s0 : Sourc
       most_turn told_s told =
           let served = here.served told_s told in
           let stands = here.store a.held (inl (told_now told, refl)) in
-          omega (arith, served.spent, travels_most c view a.travel b.travel answers.travels, most_height view a.held stands, ap most_written here.place,
-          ap (session_cost hmax q) (commands_are told_s) ∙ session_cost-append hmax q (commands_in here.given) (commands_in (next.raw ∷ raw_lines (rest r1 s1))))
+          omega (
+            arith,
+            served.spent,
+            travels_most c view a.travel b.travel answers.travels,
+            most_height view a.held stands,
+            ap most_written here.place,
+            ap (session_cost hmax q) (commands_are told_s) ∙ session_cost-append hmax q (commands_in here.given) (commands_in (next.raw ∷ raw_lines (rest r1 s1))),
+          )
 
       -- the replies up to its own
       replies_turn : source.Told s0 → Told a0 → SaidTold a0 → a.said ++ reply_of (hmax_of view) (state_in view a.held) c ≡ a0.said ++ replies_after hmax q so_far

@@ -1,5 +1,5 @@
 -- What the opening of a run's file came to.
-use Rattle.std.specs.Prelude.{◌≡◌, ℕ, false, Some, None}
+use Rattle.std.specs.Prelude.{◌≡◌, false, Some, None}
 use Rattle.station.specs.Bytes.{Same}
 use Rattle.station.specs.Steps.{Steps}
 use Rattle.station.specs.View.{View, Told, EachHeld, NothingPending, Rose, attached_by}

@@ -1,5 +1,5 @@
 -- What came of a job.
-use Rattle.std.specs.Prelude.{◌≡◌, ◌+◌, ◌<◌, ◌≤◌, ◌⊎◌, true, ℕ, List, [], ◌++◌, length, false, Some, None}
+use Rattle.std.specs.Prelude.{◌≡◌, ◌+◌, ◌<◌, ◌≤◌, ◌⊎◌, true, ℕ, List, [], ◌++◌, length, false, Some}
 use Rattle.station.specs.View.{View, Told, SaidTold, Honest, NothingPending, Rose, attached_by}
 use Rattle.line_source.specs.SourceView.{SourceView, Went}
 use Rattle.line_source.specs.SourceView as source

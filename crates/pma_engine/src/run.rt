@@ -53,11 +53,7 @@ pub(crate) fn run_file<I: Source, S: Station>(
 }
 
 // Opens the store of that name.
-fn open_file<S: Station>(
-    alloc: Global,
-    station: &mut S,
-    name: &str,
-) -> Result<Store, OpenFault>
+fn open_file<S: Station>(alloc: Global, station: &mut S, name: &str) -> Result<Store, OpenFault>
     requires first { (S.view station.old).attached ≡ None }
     requires named { NamedBy name.now (S.view station.old).fixed.name }
     ensures opened { IfOk result (λ store. IsOpened store (S.view station.old) (S.view station.new)) }

@@ -76,7 +76,9 @@ fn read_journal(height: u32, word: &String) -> Option<u32>
     ensures { result ≡ journal_in height (string_bytes word.now) }
 {
     match read_number(word.as_bytes()) {
-        Some(journal) if LEAST_JOURNAL <= journal && journal <= full_journal(height) => Some(journal),
+        Some(journal) if LEAST_JOURNAL <= journal && journal <= full_journal(height) => Some(
+            journal,
+        ),
         _ => None,
     }
 }

@@ -6,13 +6,11 @@ use Rattle.std.specs.List.{flat_map}
 use Rattle.station.specs.View.{Told, SaidTold}
 use Rattle.map_model.specs.Image.{map_of}
 use Rattle.map_model.specs.Scan.{scanned}
-use Rattle.range_scan.specs.SweepView.{SweepView}
-use Rattle.range_scan.specs.Sweeping.{BeginsThere}
 use Rattle.command_text.specs.Answers.{range_lines}
 use Rattle.command_text.specs.Reply.{reply_text}
 use Rattle.command_text.specs.declared.reply.Reply.TheVariants.{End}
 use Rattle.pma_engine.specs.Costs.{Walks}
-use Rattle.pma_engine.specs.Ranging.{SaysFront, scan_of, row_text}
+use Rattle.pma_engine.specs.Ranging.{SaysFront, row_text}
 use Rattle.pma_engine.specs.declared.fault.ServeFault.{ServeFault}
 use Rattle.pma_engine.specs.declared.fault.ServeFault.TheVariants.{Disk, Reply}
 use Rattle.pma_engine.proofs.Pieces.{front_on, piece_front}
@@ -104,7 +102,7 @@ returns-in-Err g c =
     answers_range c.args.store.now c.args.low c.args.high c.args.limit a b (g.met.S.Station.lawful c.args.station.now) (g.met.S.Station.lawful c.say_rows.new.station) c.requires.store c.requires.nothing c.requires.open
     (row_text stops.rows) stops.front
     (λ told. rest_of stops.rows stops.rest (scanned c.args.low c.args.high c.args.limit (entries (map_of a.held))) (stops.are told ∙ scan_is c.args.store.now first c.args.low c.args.high c.args.limit c.scan-sweep.result c.scan-sweep.ensures.fresh a.held))
-    c.scan-sweep.result.reader.next c.say_rows.new.sweep.reader.next 
+    c.scan-sweep.result.reader.next c.say_rows.new.sweep.reader.next
     (walks_of c.args.store.now first c.args.low c.args.high c.args.limit c.scan-sweep.result c.scan-sweep.ensures.fresh c.say_rows.new.sweep a.travel b.travel c.say_rows.ensures.same c.say_rows.ensures.is_sweep c.say_rows.ensures.walks) (Err c.in-Err.fault)
     (λ kind told. few_of c.args.store.now first c.args.low c.args.high c.args.limit c.scan-sweep.result c.scan-sweep.ensures.fresh a.held c.say_rows.new.sweep.reader.next
     (c.in-Err.ensures.few (reply_kind c.in-Err.fault kind) told (c.scan-sweep.ensures.begins a.held (c.requires.store a.held (inl (told, refl))))))

@@ -1,4 +1,4 @@
-use Rattle.std.proofs.Common.{◌≡◌, ◌∷◌, [], ◌+◌, ℕ, Option, Some, None, refl, sym, ap, ◌∙◌, arith, length}
+use Rattle.std.proofs.Common.{◌≡◌, ◌+◌, Option, Some, None, refl, sym, ap, ◌∙◌, arith}
 use Rattle.std.specs.Prelude.{slice_get, is_some, if◌then◌else◌}
 use Rattle.std.specs.Option.{option_map}
 use Rattle.station.specs.View.{Told}
@@ -21,8 +21,7 @@ given_none g c = c.in-Ok-None.ensures.given ∙ ap (λ (o : Option Row). if is_s
 
 pub returns-in-Ok-clause-row : goal.returns-in-Ok-clause-row
 returns-in-Ok-clause-row g c =
-    let here = (goal.at.returns-in-Ok-clause-row g c).In-Ok-Some in
-    (
+    let here = (goal.at.returns-in-Ok-clause-row g c).In-Ok-Some in (
       Some (record_of c.in-Ok-Some.row),
       refl,
       one_row c.args.sweep.now (g.S.Station.view c.args.station.now) c.in-Ok-Some.row (next g here) c.next_row.new.self.given (given g here)

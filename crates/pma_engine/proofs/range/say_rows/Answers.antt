@@ -1,4 +1,4 @@
-use Rattle.std.proofs.Common.{◌≡◌, ◌+◌, ◌++◌, [], ℕ, List, length, Ok, Err, refl, sym, ap, subst, ◌∙◌, arith}
+use Rattle.std.proofs.Common.{◌≡◌, ◌+◌, ◌++◌, [], ℕ, List, length, refl, sym, ap, subst, ◌∙◌, arith}
 use Rattle.std.specs.Prelude.{if◌then◌else◌}
 use Rattle.std.proofs.lemmas.Result.{err_from_is_err_and}
 use Rattle.station.specs.View.{Told}
@@ -55,8 +55,11 @@ returns-clause-rows g c =
     let rows : List Record = here.rows ++ as_list step.row.0 in
     let says : SaysRows rows c.args.sweep.now 0 c.loop-count.count a d =
     subst (λ (n : ℕ). SaysRows rows c.args.sweep.now 0 n a d) last
-    (rows_on c.args.sweep.now c.loop-count.sweep (g.met.S.Station.lawful c.args.station.now) here.rows 0 c.loop-count.sweep.given here.says (same_scan here.same) (as_list step.row.0) c.say_row.new.sweep.given step.row.2) in
-    (rows, says, λ told.
-    let on : Told b = ap (λ f. f.tells_held) here.says.whole.front.run.fixed ∙ told in
-    let same : scan_of c.loop-count.sweep b.held ≡ scan_of c.args.sweep.now a.held = ap (scan_of c.loop-count.sweep) (here.says.whole.front.held told) ∙ same_scan here.same a.held in
-    all_rows c.args.sweep.now rows c.loop-count.count says told (omega (arith, step.end c.if-branch.false on, ap length same, here.counted)))
+    (rows_on c.args.sweep.now c.loop-count.sweep (g.met.S.Station.lawful c.args.station.now) here.rows 0 c.loop-count.sweep.given here.says (same_scan here.same) (as_list step.row.0) c.say_row.new.sweep.given step.row.2) in (
+      rows,
+      says,
+      λ told.
+          let on : Told b = ap (λ f. f.tells_held) here.says.whole.front.run.fixed ∙ told in
+          let same : scan_of c.loop-count.sweep b.held ≡ scan_of c.args.sweep.now a.held = ap (scan_of c.loop-count.sweep) (here.says.whole.front.held told) ∙ same_scan here.same a.held in
+          all_rows c.args.sweep.now rows c.loop-count.count says told (omega (arith, step.end c.if-branch.false on, ap length same, here.counted)),
+    )

@@ -1,5 +1,5 @@
 use Rattle.std.proofs.Common.{Err, ap}
-use Rattle.pma_engine.proofs.Opening.{attach_failed, opened_after, unattached, opened_of, unopened_of}
+use Rattle.pma_engine.proofs.Opening.{opened_after, opened_of, unopened_of}
 use Rattle.pma_engine.proofs.run.open_file.Goals as goal
 
 pub returns-in-Ok-open_on-clause-opened : goal.returns-in-Ok-open_on-clause-opened

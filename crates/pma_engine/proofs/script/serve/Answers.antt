@@ -1,7 +1,7 @@
-use Rattle.std.proofs.Common.{◌≡◌, ◌⊎◌, inl, inr, ℕ, List, [], ◌∷◌, ◌++◌, Option, Some, None, Ok, Err, refl, sym, ap, subst, ◌∙◌}
+use Rattle.std.proofs.Common.{◌≡◌, ◌⊎◌, inl, inr, ℕ, List, [], ◌∷◌, ◌++◌, Option, Some, None, Ok, Err, refl, sym, subst, ◌∙◌}
 use Rattle.std.specs.Prelude.{IsOk, IsErrOf}
 use Rattle.pma_engine.specs.declared.fault.ServeFault.{ServeFault}
-use Rattle.pma_engine.specs.declared.fault.ServeFault.TheVariants.{Disk, Damaged, Script, Reply, Spent}
+use Rattle.pma_engine.specs.declared.fault.ServeFault.TheVariants.{Script, Spent}
 use Rattle.pma_engine.specs.declared.next.Given.{Given}
 use Rattle.pma_engine.specs.Faults.{IsNoScriptFault}
 use Rattle.pma_engine.specs.Serving.{IsNextCommand, GivesCommand, given_command}
