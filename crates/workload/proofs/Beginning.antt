@@ -12,10 +12,10 @@ use Rattle.map_model.proofs.Recovering.{determined}
 use Rattle.map_model.proofs.SessionLaws.{opened_sound}
 use Rattle.workload.specs.Generation.{empty_state}
 
-abbrev nothing : Map
+abbrev pub nothing : Map
 nothing = empty
 
-no_entries : entries nothing ≡ []
+pub no_entries : entries nothing ≡ []
 no_entries = nil_from_length (entries nothing) (sym (len-entries nothing) ∙ len-empty key_cmp Bytes)
 
 -- one segment without a record

@@ -1,5 +1,5 @@
 -- One command more: its state, the lines of its reply, and what they count.
-use Rattle.std.proofs.Common.{◌≡◌, ℕ, ◌+◌, List, [], ◌∷◌, ◌++◌, length, map, cond, refl, sym, ap, ◌∙◌, arith, append-nil, append_assoc}
+use Rattle.std.proofs.Common.{◌≡◌, ℕ, suc, ◌+◌, List, [], ◌∷◌, ◌++◌, length, map, cond, refl, sym, ap, subst, ◌∙◌, arith, append-nil, append_assoc}
 use Rattle.std.specs.List.{sum_by}
 use Rattle.std.proofs.lemmas.List.Sums.{sum_by-append, sum_by-cons}
 use Rattle.key_slot.specs.Record.{Record}
@@ -9,9 +9,9 @@ use Rattle.command_text.specs.ArraySession.{array_step, array_state_after}
 use Rattle.command_text.specs.declared.command.Command.{Command}
 use Rattle.command_text.specs.declared.reply.Reply.{Reply}
 use Rattle.command_text.specs.declared.reply.Reply.TheVariants.{End}
-use Rattle.workload.specs.declared.summary.Summary.{Summary}
-use Rattle.workload.specs.Summaries.{is_stored, is_replaced, is_removed, is_absent, is_found, rows_ended, summary_of, counted}
-use Rattle.workload.specs.Generation.{lines_to}
+use Rattle.workload.specs.Summaries.{is_stored, is_replaced, is_removed, is_absent, is_found, rows_ended, summary_of, counted, CountsBy}
+use Rattle.workload.specs.Generator.{generated, command_numbered}
+use Rattle.workload.specs.Generation.{gen_hmax, empty_state, lines_to, gen_state, gen_counts}
 
 pub state_more : (hmax : ℕ) (s : ArrayState) (cs : List Command) (c : Command) → array_state_after hmax s (cs ++ c ∷ []) ≡ array_step hmax (array_state_after hmax s cs) c
 state_more hmax s [] c = refl
@@ -23,6 +23,9 @@ lines_more hmax s (d ∷ cs) c =
     let next = array_step hmax s d in
     ap (λ (lines : List Reply). answers hmax s d ++ lines) (lines_more hmax next cs c)
     ∙ sym (append_assoc (answers hmax s d) (lines_to hmax next cs) (answers hmax (array_state_after hmax next cs) c))
+
+one_more : (count : ℕ) → suc count ≡ count + 1
+one_more count = omega arith
 
 -- a summary of more lines
 pub summary_more : (n : ℕ) (xs ys : List Reply) → summary_of (n + 1) (xs ++ ys) ≡ counted (summary_of n xs) ys
@@ -44,8 +47,8 @@ rows_count_nothing f none [] last = refl
 rows_count_nothing f none (r ∷ rows) last =
     omega (arith, sum_by-cons f (row_line r) (map row_line rows ++ last ∷ []), none r, rows_count_nothing f none rows last)
 
-pub ranges_by_end : (s : Summary) (rows : List Record) → counted s (range_lines rows) ≡ counted s (End (length rows) ∷ [])
-ranges_by_end s rows =
+pub ranges_by_end : (rows : List Record) → CountsBy (range_lines rows) (End (length rows))
+ranges_by_end rows s =
     let end : Reply = End (length rows) in
     λ i. record {
       commands = s.commands + 1;
@@ -58,3 +61,16 @@ ranges_by_end s rows =
       records = s.records;
       height = s.height;
     }
+
+-- one generated command more
+pub state_next : (count seed : ℕ) → gen_state (count + 1) seed ≡ array_step gen_hmax (gen_state count seed) (command_numbered seed (count + 1))
+state_next count seed = subst (λ (n : ℕ). gen_state n seed ≡ array_step gen_hmax (gen_state count seed) (command_numbered seed n)) (one_more count) (state_more gen_hmax empty_state (generated count seed) (command_numbered seed (suc count)))
+
+pub counts_next : (count seed : ℕ) → gen_counts (count + 1) seed ≡ counted (gen_counts count seed) (answers gen_hmax (gen_state count seed) (command_numbered seed (count + 1)))
+counts_next count seed =
+    let lines = lines_to gen_hmax empty_state (generated count seed) in
+    let next : List Reply = answers gen_hmax (gen_state count seed) (command_numbered seed (suc count)) in
+    subst (λ (n : ℕ). gen_counts n seed ≡ counted (gen_counts count seed) (answers gen_hmax (gen_state count seed) (command_numbered seed n))) (one_more count)
+        (ap (summary_of (suc count)) (lines_more gen_hmax empty_state (generated count seed) (command_numbered seed (suc count)))
+        ∙ ap (λ (n : ℕ). summary_of n (lines ++ next)) (one_more count)
+        ∙ summary_more count lines next)

@@ -1,3 +1,4 @@
 pub mod Growing
 pub mod Fitting
 pub mod Beginning
+pub mod Vectors

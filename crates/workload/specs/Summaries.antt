@@ -1,5 +1,5 @@
 -- What commands were answered, counted.
-use Rattle.std.specs.Prelude.{ℕ, ◌+◌, ◌^◌, ◌<◌, Bool, true, false, List, [], ◌∷◌, ◌++◌, codes, decimal}
+use Rattle.std.specs.Prelude.{◌≡◌, ℕ, ◌+◌, ◌^◌, ◌<◌, Bool, true, false, List, [], ◌∷◌, ◌++◌, codes, decimal}
 use Rattle.std.specs.List.{count_by, sum_by}
 use Rattle.std.specs.FinMap.{len}
 use Rattle.map_model.specs.Store.{State}
@@ -60,6 +60,10 @@ counted s lines = record {
   records = s.records;
   height = s.height;
 }
+
+-- of these lines the last counts alone
+abbrev pub CountsBy : List Reply → Reply → Type 0
+CountsBy lines last = (s : Summary) → counted s lines ≡ counted s (last ∷ [])
 
 -- a summary with the size of a store
 abbrev pub sized : Summary → State → Summary

@@ -1,16 +1,16 @@
 //! What holds of generated commands and of their summary.
 
-ghost use Rattle.std.specs.Prelude.{◌≡◌, ◌+◌, ◌≤◌, ◌∷◌, [], ℕ, List, length};
+ghost use Rattle.std.specs.Prelude.{◌≡◌, ◌+◌, ◌<◌, ◌∷◌, [], ℕ, List, length};
 ghost use Rattle.std.specs.FinMap.{empty};
 ghost use Rattle.key_slot.specs.Record.{Record};
 ghost use Rattle.map_model.specs.ArrayState.{opened_state};
 ghost use Rattle.map_model.specs.Image.{Represents};
 ghost use Rattle.command_text.specs.Answers.{answers, range_lines};
 ghost use Rattle.command_text.specs.ArraySession.{array_step};
+ghost use Rattle.command_text.specs.declared.reply.Reply.{Reply};
 ghost use Rattle.command_text.specs.declared.reply.Reply.TheVariants.{End};
-ghost use Rattle.workload.specs.declared.summary.Summary.{Summary};
 ghost use Rattle.workload.specs.Generator.{next_draw, draw, command_by, command_numbered};
-ghost use Rattle.workload.specs.Summaries.{summary_of, counted, Fits};
+ghost use Rattle.workload.specs.Summaries.{summary_of, counted, CountsBy, Fits};
 ghost use Rattle.workload.specs.Generation.{gen_hmax, empty_state, gen_state, gen_counts};
 
 /// A law: what one command more makes of the generator, of the store and of the counts.
@@ -26,12 +26,13 @@ pub fn summaries_grow()
 
 /// A law: of the lines of a range the last counts alone.
 pub fn ranges_count_by_their_end()
-    ensures { (s : Summary) (rows : List Record) → counted s (range_lines rows) ≡ counted s (End (length rows) ∷ []) }
+    ensures { (rows : List Record) → CountsBy (range_lines rows) (End (length rows)) }
 {}
 
-/// A law: the counts of a million commands are numbers below 2^32.
-pub fn counts_fit()
-    ensures { (count seed : ℕ) → count ≤ 1000000 → Fits (gen_counts count seed) }
+/// A law: so the last line of each reply suffices, and with it the counts of a million commands are numbers below 2^32.
+pub fn last_lines_suffice()
+    ensures counts { (count seed : ℕ) (last : Reply) → CountsBy (answers gen_hmax (gen_state count seed) (command_numbered seed (count + 1))) last → counted (gen_counts count seed) (last ∷ []) ≡ gen_counts (count + 1) seed }
+    ensures fits { (count seed : ℕ) (last : Reply) → count < 1000000 → CountsBy (answers gen_hmax (gen_state count seed) (command_numbered seed (count + 1))) last → Fits (counted (gen_counts count seed) (last ∷ [])) }
 {}
 
 /// A law: what an opening makes of the file of the empty store is the empty state.
