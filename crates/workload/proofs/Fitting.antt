@@ -67,11 +67,13 @@ module _ (f : Reply → ℕ) (few : IsFew f) where
   few_counted (suc count) seed =
       let lines = lines_to gen_hmax empty_state (generated count seed) in
       let more = answers gen_hmax (gen_state count seed) (command_numbered seed (suc count)) in
-      omega (arith,
-          few_counted count seed,
-          ap (sum_by f) (lines_more gen_hmax empty_state (generated count seed) (command_numbered seed (suc count))),
-          sum_by-append f lines more,
-          chosen_few (gen_state count seed) (draw seed (suc count) / 2 ^ 33) (suc count))
+      omega (
+        arith,
+        few_counted count seed,
+        ap (sum_by f) (lines_more gen_hmax empty_state (generated count seed) (command_numbered seed (suc count))),
+        sum_by-append f lines more,
+        chosen_few (gen_state count seed) (draw seed (suc count) / 2 ^ 33) (suc count),
+      )
 
 at_most_1 : (b : Bool) → cond b 1 0 ≤ 1
 at_most_1 true = omega arith

@@ -71,6 +71,6 @@ counts_next count seed =
     let lines = lines_to gen_hmax empty_state (generated count seed) in
     let next : List Reply = answers gen_hmax (gen_state count seed) (command_numbered seed (suc count)) in
     subst (λ (n : ℕ). gen_counts n seed ≡ counted (gen_counts count seed) (answers gen_hmax (gen_state count seed) (command_numbered seed n))) (one_more count)
-        (ap (summary_of (suc count)) (lines_more gen_hmax empty_state (generated count seed) (command_numbered seed (suc count)))
-        ∙ ap (λ (n : ℕ). summary_of n (lines ++ next)) (one_more count)
-        ∙ summary_more count lines next)
+    (ap (summary_of (suc count)) (lines_more gen_hmax empty_state (generated count seed) (command_numbered seed (suc count)))
+    ∙ ap (λ (n : ℕ). summary_of n (lines ++ next)) (one_more count)
+    ∙ summary_more count lines next)
