@@ -1,5 +1,5 @@
 -- The counts of generated commands: each command adds at most 10 to each of them.
-use Rattle.std.proofs.Common.{◌≡◌, ℕ, zero, suc, ◌+◌, ◌*◌, ◌%◌, ◌/◌, ◌^◌, ◌<◌, ◌≤◌, ◌==◌, nat_lt, Bool, true, false, cond, List, [], ◌∷◌, length, refl, sym, ap, subst, ◌∙◌, arith, Option, Some, None, decimal}
+use Rattle.std.proofs.Common.{◌≡◌, ℕ, zero, suc, ◌*◌, ◌%◌, ◌/◌, ◌^◌, ◌≤◌, ◌==◌, nat_lt, Bool, true, false, cond, List, length, refl, ap, arith, Option, Some, None, decimal}
 use Rattle.std.specs.List.{count_by, sum_by}
 use Rattle.std.specs.FinMap.{contains_key, entries, get, len}
 use Rattle.std.specs.FinMap.Entries.{where_key}
@@ -15,9 +15,9 @@ use Rattle.command_text.specs.declared.command.Command.TheVariants as command
 use Rattle.command_text.specs.declared.reply.Reply.{Reply}
 use Rattle.command_text.specs.declared.reply.Reply.TheVariants.{Stored, Replaced, Full, Removed, Absent, Found, End}
 use Rattle.workload.specs.Generator.{draw, command_chosen, command_numbered, generated, key_numbered}
-use Rattle.workload.specs.Summaries.{is_stored, is_replaced, is_removed, is_absent, is_found, rows_ended, counted, CountsBy, Fits}
+use Rattle.workload.specs.Summaries.{is_stored, is_replaced, is_removed, is_absent, is_found, rows_ended, Fits}
 use Rattle.workload.specs.Generation.{gen_hmax, empty_state, gen_state, gen_counts, lines_to}
-use Rattle.workload.proofs.Growing.{lines_more, rows_count_nothing, counts_next}
+use Rattle.workload.proofs.Growing.{lines_more, rows_count_nothing}
 
 -- what a count adds for a line
 record IsFew (f : Reply → ℕ) : Type 0 where
@@ -102,7 +102,7 @@ module _ (test : Reply → Bool) (row : (r : Record) → test (row_line r) ≡ f
 few_ended : IsFew rows_ended
 few_ended = record { row = λ r. refl; end = λ n. omega arith; stored = omega arith; replaced = omega arith; full = λ n. omega arith; removed = omega arith; absent = omega arith; found = λ v. omega arith }
 
-fits : (count seed : ℕ) → count ≤ 1000000 → Fits (gen_counts count seed)
+pub fits : (count seed : ℕ) → count ≤ 1000000 → Fits (gen_counts count seed)
 fits count seed most = record {
   commands = omega (arith, most);
   stored = omega (arith, most, few_passed is_stored (λ r. refl) (λ n. refl) count seed);
@@ -112,10 +112,3 @@ fits count seed most = record {
   found = omega (arith, most, few_passed is_found (λ r. refl) (λ n. refl) count seed);
   ranged = omega (arith, most, few_counted rows_ended few_ended count seed);
 }
-
-module _ (count seed : ℕ) (last : Reply) where
-  pub counted_last : CountsBy (answers gen_hmax (gen_state count seed) (command_numbered seed (count + 1))) last → counted (gen_counts count seed) (last ∷ []) ≡ gen_counts (count + 1) seed
-  counted_last by_last = sym (counts_next count seed ∙ by_last (gen_counts count seed))
-
-  pub fits_last : count < 1000000 → CountsBy (answers gen_hmax (gen_state count seed) (command_numbered seed (count + 1))) last → Fits (counted (gen_counts count seed) (last ∷ []))
-  fits_last few by_last = subst Fits (sym (counted_last by_last)) (fits (count + 1) seed (omega (arith, few)))

@@ -10,7 +10,7 @@ use Rattle.command_text.specs.declared.command.Command.{Command}
 use Rattle.command_text.specs.declared.reply.Reply.{Reply}
 use Rattle.command_text.specs.declared.reply.Reply.TheVariants.{End}
 use Rattle.workload.specs.Summaries.{is_stored, is_replaced, is_removed, is_absent, is_found, rows_ended, summary_of, counted, CountsBy}
-use Rattle.workload.specs.Generator.{generated, command_numbered}
+use Rattle.workload.specs.Generator.{next_draw, draw, generated, command_numbered}
 use Rattle.workload.specs.Generation.{gen_hmax, empty_state, lines_to, gen_state, gen_counts}
 
 pub state_more : (hmax : ℕ) (s : ArrayState) (cs : List Command) (c : Command) → array_state_after hmax s (cs ++ c ∷ []) ≡ array_step hmax (array_state_after hmax s cs) c
@@ -63,6 +63,9 @@ ranges_by_end rows s =
     }
 
 -- one generated command more
+pub draw_next : (count seed : ℕ) → draw seed (count + 1) ≡ next_draw (draw seed count)
+draw_next count seed = subst (λ (n : ℕ). draw seed n ≡ next_draw (draw seed count)) (one_more count) refl
+
 pub state_next : (count seed : ℕ) → gen_state (count + 1) seed ≡ array_step gen_hmax (gen_state count seed) (command_numbered seed (count + 1))
 state_next count seed = subst (λ (n : ℕ). gen_state n seed ≡ array_step gen_hmax (gen_state count seed) (command_numbered seed n)) (one_more count) (state_more gen_hmax empty_state (generated count seed) (command_numbered seed (suc count)))
 

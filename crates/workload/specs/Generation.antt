@@ -1,5 +1,5 @@
 -- Generated commands on an empty store, and what they come to.
-use Rattle.std.specs.Prelude.{ℕ, List, [], ◌∷◌, ◌++◌}
+use Rattle.std.specs.Prelude.{◌≡◌, ℕ, List, [], ◌∷◌, ◌++◌}
 use Rattle.std.specs.FinMap.{empty}
 use Rattle.key_slot.specs.Record.{Bytes}
 use Rattle.density_rule.specs.Marks.{no_marks}
@@ -9,7 +9,7 @@ use Rattle.command_text.specs.declared.reply.Reply.{Reply}
 use Rattle.command_text.specs.Answers.{answers}
 use Rattle.command_text.specs.ArraySession.{array_step, array_state_after}
 use Rattle.workload.specs.declared.summary.Summary.{Summary}
-use Rattle.workload.specs.Generator.{generated}
+use Rattle.workload.specs.Generator.{draw, generated}
 use Rattle.workload.specs.Summaries.{summary_of, sized, summary_text}
 
 -- the greatest height of the store
@@ -40,3 +40,10 @@ gen_summary count seed = sized (gen_counts count seed) (plain (gen_state count s
 -- the line that sums them up
 abbrev pub gen_line : ℕ → ℕ → Bytes
 gen_line count seed = summary_text (gen_summary count seed)
+
+-- The first so many commands of a seed were carried out, one after another: this is what the generator holds, their
+-- replies counted, and the state.
+pub record HasRun (count seed x : ℕ) (s : Summary) (state : ArrayState) : Type 0 where
+  pub drawn : x ≡ draw seed count
+  pub counts : s ≡ gen_counts count seed
+  pub state_is : state ≡ gen_state count seed

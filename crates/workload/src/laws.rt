@@ -3,15 +3,17 @@
 ghost use Rattle.std.specs.Prelude.{◌≡◌, ◌+◌, ◌<◌, ◌∷◌, [], ℕ, List, length};
 ghost use Rattle.std.specs.FinMap.{empty};
 ghost use Rattle.key_slot.specs.Record.{Record};
-ghost use Rattle.map_model.specs.ArrayState.{opened_state};
+ghost use Rattle.map_model.specs.ArrayState.{ArrayState, plain, opened_state};
 ghost use Rattle.map_model.specs.Image.{Represents};
 ghost use Rattle.command_text.specs.Answers.{answers, range_lines};
 ghost use Rattle.command_text.specs.ArraySession.{array_step};
+ghost use Rattle.command_text.specs.declared.command.Command.{Command};
 ghost use Rattle.command_text.specs.declared.reply.Reply.{Reply};
 ghost use Rattle.command_text.specs.declared.reply.Reply.TheVariants.{End};
+ghost use Rattle.workload.specs.declared.summary.Summary.{Summary};
 ghost use Rattle.workload.specs.Generator.{next_draw, draw, command_by, command_numbered};
-ghost use Rattle.workload.specs.Summaries.{summary_of, counted, CountsBy, Fits};
-ghost use Rattle.workload.specs.Generation.{gen_hmax, empty_state, gen_state, gen_counts};
+ghost use Rattle.workload.specs.Summaries.{summary_of, counted, CountsBy, sized, Fits};
+ghost use Rattle.workload.specs.Generation.{gen_hmax, empty_state, gen_state, gen_counts, gen_summary, HasRun};
 
 /// A law: what one command more makes of the generator, of the store and of the counts.
 pub fn summaries_grow()
@@ -29,10 +31,14 @@ pub fn ranges_count_by_their_end()
     ensures { (rows : List Record) → CountsBy (range_lines rows) (End (length rows)) }
 {}
 
-/// A law: so the last line of each reply suffices, and with it the counts of a million commands are numbers below 2^32.
-pub fn last_lines_suffice()
-    ensures counts { (count seed : ℕ) (last : Reply) → CountsBy (answers gen_hmax (gen_state count seed) (command_numbered seed (count + 1))) last → counted (gen_counts count seed) (last ∷ []) ≡ gen_counts (count + 1) seed }
-    ensures fits { (count seed : ℕ) (last : Reply) → count < 1000000 → CountsBy (answers gen_hmax (gen_state count seed) (command_numbered seed (count + 1))) last → Fits (counted (gen_counts count seed) (last ∷ [])) }
+/// A law: a run of generated commands begins with the seed on the empty store. It goes on by the generator's next command
+/// and by the last line of its reply; with it the counts of a million commands are numbers below 2^32. In the end the size
+/// of the store makes them the whole summary.
+pub fn runs_go_on()
+    ensures begins { (seed : ℕ) → HasRun 0 seed seed (summary_of 0 []) empty_state }
+    ensures fits { (count seed x : ℕ) (s : Summary) (state : ArrayState) (c : Command) (last : Reply) → HasRun count seed x s state → count < 1000000 → c ≡ command_by (next_draw x) (count + 1) → CountsBy (answers gen_hmax state c) last → Fits (counted s (last ∷ [])) }
+    ensures next { (count seed x : ℕ) (s : Summary) (state : ArrayState) (c : Command) (last : Reply) → HasRun count seed x s state → c ≡ command_by (next_draw x) (count + 1) → CountsBy (answers gen_hmax state c) last → HasRun (count + 1) seed (next_draw x) (counted s (last ∷ [])) (array_step gen_hmax state c) }
+    ensures ends { (count seed x : ℕ) (s : Summary) (state : ArrayState) → HasRun count seed x s state → sized s (plain state) ≡ gen_summary count seed }
 {}
 
 /// A law: what an opening makes of the file of the empty store is the empty state.

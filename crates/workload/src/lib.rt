@@ -5,9 +5,7 @@
 #![tactic(auto)]
 
 pub use self::generator::next_command;
-pub use self::laws::{
-    empty_files_begin, last_lines_suffice, ranges_count_by_their_end, summaries_grow,
-};
+pub use self::laws::{empty_files_begin, ranges_count_by_their_end, runs_go_on, summaries_grow};
 pub use self::summary::{Summary, write_summary};
 
 mod generator;
