@@ -2,6 +2,9 @@
 //!
 //! The numbers of the generator were computed apart from this project.
 
+ghost use Rattle.std.specs.Prelude.{◌∷◌, []};
+ghost use Rattle.workload.specs.Summaries.{summary_of, counted, Fits};
+
 use command_text::{Command, Reply, ReplyText};
 use key_slot::{Key, Value};
 use workload::{Summary, next_command, write_summary};
@@ -78,18 +81,35 @@ fn commands_follow_one_another(rt: HostRuntime) {
     }
 }
 
+// Writes the line of one command whose reply ends so, with a store of so many records behind it.
+fn write_one(last: &Reply, records: u32, text: &mut ReplyText)
+    requires { Fits (counted (summary_of 0 []) (last.now ∷ [])) }
+{
+    let mut summary = Summary::new();
+    summary.count(last);
+    summary.records = records;
+    write_summary(&summary, text);
+}
+
 #[test]
 fn summaries_are_lines(rt: HostRuntime) {
     let mut text = ReplyText::new();
-    let mut summary = Summary::new();
-    write_summary(&summary, &mut text);
+    write_summary(&Summary::new(), &mut text);
     assert!(rt;
         text.as_bytes()
             == b"gen commands=0 stored=0 replaced=0 removed=0 absent=0 found=0 ranged=0 records=0 height=0\n".as_slice()
     );
-    summary.count(&Reply::Stored);
-    summary.records = 1;
-    write_summary(&summary, &mut text);
+    write_one(&Reply::End(0), 0, &mut text);
+    assert!(rt;
+        text.as_bytes()
+            == b"gen commands=1 stored=0 replaced=0 removed=0 absent=0 found=0 ranged=0 records=0 height=0\n".as_slice()
+    );
+    write_one(&Reply::Absent, 0, &mut text);
+    assert!(rt;
+        text.as_bytes()
+            == b"gen commands=1 stored=0 replaced=0 removed=0 absent=1 found=0 ranged=0 records=0 height=0\n".as_slice()
+    );
+    write_one(&Reply::Stored, 1, &mut text);
     assert!(rt;
         text.as_bytes()
             == b"gen commands=1 stored=1 replaced=0 removed=0 absent=0 found=0 ranged=0 records=1 height=0\n".as_slice()
