@@ -26,3 +26,5 @@ mod slots;
 mod stations;
 #[cfg(test)]
 mod tallies;
+#[cfg(test)]
+mod workloads;

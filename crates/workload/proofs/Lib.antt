@@ -1,0 +1,5 @@
+pub mod Growing
+pub mod Fitting
+pub mod Runs
+pub mod Beginning
+pub mod Vectors

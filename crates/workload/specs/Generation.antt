@@ -1,0 +1,49 @@
+-- Generated commands on an empty store, and what they come to.
+use Rattle.std.specs.Prelude.{◌≡◌, ℕ, List, [], ◌∷◌, ◌++◌}
+use Rattle.std.specs.FinMap.{empty}
+use Rattle.key_slot.specs.Record.{Bytes}
+use Rattle.density_rule.specs.Marks.{no_marks}
+use Rattle.map_model.specs.ArrayState.{ArrayState, plain}
+use Rattle.command_text.specs.declared.command.Command.{Command}
+use Rattle.command_text.specs.declared.reply.Reply.{Reply}
+use Rattle.command_text.specs.Answers.{answers}
+use Rattle.command_text.specs.ArraySession.{array_step, array_state_after}
+use Rattle.workload.specs.declared.summary.Summary.{Summary}
+use Rattle.workload.specs.Generator.{draw, generated}
+use Rattle.workload.specs.Summaries.{summary_of, sized, summary_text}
+
+-- the greatest height of the store
+abbrev pub gen_hmax : ℕ
+gen_hmax = 11
+
+-- the empty store: one segment without a record, and no window rested
+abbrev pub empty_state : ArrayState
+empty_state = record { map = empty; height = 0; array = [] ∷ []; marks = no_marks 0 }
+
+-- the lines of the replies to commands, from a state on, in a store with the greatest height hmax
+abbrev pub lines_to : ℕ → ArrayState → List Command → List Reply
+lines_to hmax s [] = []
+lines_to hmax s (c ∷ cs) = answers hmax s c ++ lines_to hmax (array_step hmax s c) cs
+
+-- the state after the first so many commands of a seed
+abbrev pub gen_state : ℕ → ℕ → ArrayState
+gen_state count seed = array_state_after gen_hmax empty_state (generated count seed)
+
+-- their replies counted
+abbrev pub gen_counts : ℕ → ℕ → Summary
+gen_counts count seed = summary_of count (lines_to gen_hmax empty_state (generated count seed))
+
+-- the same with the size of the store behind them
+abbrev pub gen_summary : ℕ → ℕ → Summary
+gen_summary count seed = sized (gen_counts count seed) (plain (gen_state count seed))
+
+-- the line that sums them up
+abbrev pub gen_line : ℕ → ℕ → Bytes
+gen_line count seed = summary_text (gen_summary count seed)
+
+-- The first so many commands of a seed were carried out, one after another: this is what the generator holds, their
+-- replies counted, and the state.
+pub record HasRun (count seed x : ℕ) (s : Summary) (state : ArrayState) : Type 0 where
+  pub drawn : x ≡ draw seed count
+  pub counts : s ≡ gen_counts count seed
+  pub state_is : state ≡ gen_state count seed
