@@ -9,7 +9,7 @@ ghost use Rattle.segment.specs.Held.{held_rows};
 ghost use Rattle.segment.specs.Reading.{is_bad_next, HoldsNext};
 
 use super::fault::BadSegment;
-use key_slot::{BadSlot, SEGMENT_SIZE, SEGMENT_SLOTS, SLOT_SIZE, holds_row, key_bytes};
+use key_slot::{BadSlot, SEGMENT_SIZE, SEGMENT_SLOTS, SLOT_SIZE, compare_keys, holds_row};
 
 /// The number of rows in 4096 bytes. It fails where a slot is bad, and names the first one: a slot that spells
 /// nothing, or a row behind an empty slot or behind a key that isn't below its own.
@@ -63,5 +63,5 @@ fn is_below(slot: &[u8; SLOT_SIZE], next: &[u8; SLOT_SIZE]) -> bool
     requires next { IsSlot (Some (fields_of next.now)) next.now }
     ensures { result ≡ is_lt (key_cmp (fields_of slot.now).0 (fields_of next.now).0) }
 {
-    key_bytes(slot).cmp(key_bytes(next)).is_lt()
+    compare_keys(slot, next).is_lt()
 }
