@@ -134,7 +134,7 @@ static double least_loop(const char *folder, void (*calls)(int, int, char *))
 
 static void print_line(const char *what, double time, double loop)
 {
-    printf("%-28s %9.2f us %9.2f us %7.1f\n", what, time / commands * 1e6, loop / commands * 1e6, time / loop);
+    printf("%-30s %9.2f us %9.2f us %7.1f\n", what, time / commands * 1e6, loop / commands * 1e6, time / loop);
 }
 
 int main(int argc, char **argv)
@@ -167,7 +167,7 @@ int main(int argc, char **argv)
         {"put of a present key", "put key-%02d value-of-other-bytes", "put key-%02d value-of-some-bytes", 1},
         {"put of an absent key, removal", "put kez-%02d value", "remove kez-%02d", 1},
     };
-    printf("%-28s %12s %12s %7s\n", "command", "program", "calls alone", "times");
+    printf("%-30s %12s %12s %7s\n", "command", "program", "calls alone", "times");
     for (size_t k = 0; k < sizeof kinds / sizeof *kinds; k++) {
         write_script(kinds[k].first, kinds[k].second, commands);
         print_line(kinds[k].what, least_run() - empty, kinds[k].writes ? put : get);

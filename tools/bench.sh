@@ -19,11 +19,11 @@ instructions() {
 }
 
 echo
-printf '%-28s %12s\n' command instructions
+printf '%-30s %12s\n' command instructions
 : >"$folder/script"
 empty=$(instructions)
 count=1000
 for line in 'get key-07' 'get kez-07' 'put key-07 value-of-some-bytes'; do
     yes "$line" | head -n $count >"$folder/script"
-    printf '%-28s %12s\n' "$line" $((($(instructions) - empty) / count))
+    printf '%-30s %12s\n' "$line" $((($(instructions) - empty) / count))
 done
