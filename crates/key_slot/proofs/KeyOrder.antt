@@ -1,5 +1,5 @@
 -- Keys are compared by their fields, the zeros behind them included, and words as numbers.
-use Rattle.std.proofs.Common.{◌≡◌, ℕ, zero, suc, true, false, subst, ◌+◌, ◌-◌, ◌*◌, ◌<◌, ◌≤◌, List, [], ◌∷◌, ◌++◌, length, take, drop, get_or, replicate, slice_range, slice_index, refl, sym, ap, ◌∙◌, arith, Some}
+use Rattle.std.proofs.Common.{◌≡◌, ℕ, zero, suc, true, false, subst, ◌+◌, ◌-◌, ◌*◌, ◌<◌, ◌≤◌, [], ◌∷◌, ◌++◌, length, take, drop, get_or, replicate, slice_range, slice_index, refl, sym, ap, ◌∙◌, arith, Some}
 use Rattle.std.specs.declared.cmp.Ordering.{Ordering}
 use Rattle.std.specs.declared.cmp.Ordering.TheVariants.{Less, Equal, Greater}
 use Rattle.std.specs.Ordering.{nat_cmp, ordering_then, MatchOrdering, is_ne}
@@ -9,7 +9,7 @@ use Rattle.std.proofs.lemmas.List.Edits.{get_or-between, length-between}
 use Rattle.std.specs.Cmp.Lexicographic.{slice_cmp, nat_list_cmp_total}
 use Rattle.std.specs.Slice.Scan.{big_endian}
 use Rattle.std.proofs.lemmas.Cmp.{ranked, nat_cmp_total, tied_itself}
-use Rattle.std.proofs.lemmas.List.{length-append, length-replicate, drop-drop, get_or-replicate}
+use Rattle.std.proofs.lemmas.List.{length-append, length-replicate, drop-drop}
 use Rattle.std.proofs.Math.Seq.{take-add}
 use Rattle.key_slot.specs.declared.sizes.TheConstants.{SLOT_SIZE, KEY_AT, VALUE_AT, MAX_KEY_LEN}
 use Rattle.key_slot.specs.Record.{Bytes, Record, key_cmp}

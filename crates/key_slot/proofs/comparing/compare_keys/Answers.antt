@@ -1,5 +1,5 @@
 -- The first word that differs decides, and else the lengths.
-use Rattle.std.proofs.Common.{◌≡◌, ◌+◌, ◌*◌, ◌≤◌, ◌∙◌, ℕ, ap, sym, arith, slice_range}
+use Rattle.std.proofs.Common.{◌≡◌, ◌+◌, ◌*◌, ◌∙◌, ℕ, ap, sym, arith, slice_range}
 use Rattle.key_slot.specs.declared.sizes.TheConstants.{KEY_AT, VALUE_AT}
 use Rattle.key_slot.specs.Record.{Bytes}
 use Rattle.key_slot.proofs.KeyOrder.{decided, same_word, by_length}

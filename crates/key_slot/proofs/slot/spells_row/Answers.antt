@@ -1,5 +1,5 @@
 -- Each test that fails shows that the bytes are no slot, and all that pass that they are a record's.
-use Rattle.std.proofs.Common.{◌≡◌, true, false, sym, ap, ◌∙◌, arith, slice_index, Some}
+use Rattle.std.proofs.Common.{sym, ap, ◌∙◌, arith, slice_index, Some}
 use mathlib.Core.Bool.{true≢false}
 use Rattle.key_slot.specs.declared.sizes.TheConstants.{SLOT_SIZE, KEY_AT, VALUE_AT, MAX_KEY_LEN, MAX_VALUE_LEN}
 use Rattle.key_slot.proofs.SlotBytes.{Tests, refused_reads, record_reads, fields_there}
