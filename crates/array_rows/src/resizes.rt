@@ -1,0 +1,94 @@
+//! Stores grow and shrink through their other region, and are stopped at every call.
+
+use crate::files::{file_of, noting, see_opens, see_records, see_stops};
+use density_rule::{Window, in_bounds};
+use header_gate::Layout;
+use recovery::{Parts, open_store};
+use resize_region::{grow, shrink};
+use station::{CrashStation, Pick};
+use std::alloc::Global;
+use std::process::Abort;
+use std::test::Fail;
+
+// Opens a store and grows it by one height.
+fn grow_once(rt: &impl Abort, alloc: Global, station: &mut CrashStation) -> Result<(), Fail> {
+    let Ok(
+        Parts {
+            mut place,
+            mut tally,
+            mut index,
+            mut frames,
+        },
+    ) = open_store(alloc, station)
+    else {
+        return Err("no store".into());
+    };
+    let height = tally.height();
+    let records = tally.count(Window { height, number: 0 });
+    assert!(rt; height < place.layout.hmax);
+    assert!(rt; in_bounds(height + 1, height + 1, records));
+    index.reset(height + 1);
+    grow(station, &mut place, &mut frames, &mut tally, &mut index)?;
+    Ok(())
+}
+
+// Opens a store and shrinks it by one height.
+fn shrink_once(rt: &impl Abort, alloc: Global, station: &mut CrashStation) -> Result<(), Fail> {
+    let Ok(
+        Parts {
+            mut place,
+            mut tally,
+            mut index,
+            mut frames,
+        },
+    ) = open_store(alloc, station)
+    else {
+        return Err("no store".into());
+    };
+    let height = tally.height();
+    let records = tally.count(Window { height, number: 0 });
+    assert!(rt; height >= 1);
+    assert!(rt; in_bounds(height - 1, height - 1, records));
+    index.reset(height - 1);
+    shrink(station, &mut place, &mut frames, &mut tally, &mut index)?;
+    Ok(())
+}
+
+/// Height limit, journal, the heights and the counts before and after, and the number of records.
+const RESIZES: [(u32, u32, u32, [u32; 4], u32, [u32; 4], u32); 6] = [
+    (1, 4, 0, [64, 0, 0, 0], 1, [32, 32, 0, 0], 64),
+    (3, 8, 0, [64, 0, 0, 0], 1, [32, 32, 0, 0], 64),
+    (2, 4, 1, [62, 64, 0, 0], 2, [31, 32, 31, 32], 126),
+    (3, 8, 1, [62, 64, 0, 0], 2, [31, 32, 31, 32], 126),
+    (1, 4, 1, [4, 6, 0, 0], 0, [10, 0, 0, 0], 10),
+    (3, 8, 1, [4, 6, 0, 0], 0, [10, 0, 0, 0], 10),
+];
+
+/// Between the selector's write and its sync, the last call, either region may be the live one.
+#[test]
+fn a_resize_is_stopped_at_every_call(rt: HostRuntime) -> Result<(), Fail> {
+    for (hmax, journal, from, before, to, after, records) in RESIZES {
+        let layout = Layout { hmax, journal };
+        assert!(rt; from <= 2);
+        let file = file_of(&rt, rt.alloc(), layout, from, &before[..1 << from])?;
+        let mut station = noting(&rt, rt.alloc(), &file)?;
+        if to > from {
+            grow_once(&rt, rt.alloc(), &mut station)?;
+        } else {
+            shrink_once(&rt, rt.alloc(), &mut station)?;
+        }
+        let found = see_records(&rt, station.inner().held(), layout, 1, records)?;
+        assert_eq!(rt; found, (to, after));
+        see_stops(&rt, rt.alloc(), &station, layout, records)?;
+        let noted = station.noted();
+        assert!(rt; noted >= 1 && noted < 400);
+        for (pick, want) in [(Pick::Settled, (from, before)), (Pick::Held, (to, after))] {
+            let image = station.crash_image(rt.alloc(), noted as u32 - 1, pick)?;
+            assert!(rt; image.len() > 0);
+            assert_eq!(rt; image[0] as u32, (want.0 == to) as u32, "the selector");
+            let opened = see_opens(&rt, rt.alloc(), &image, layout, records)?;
+            assert_eq!(rt; opened, want);
+        }
+    }
+    Ok(())
+}
