@@ -37,13 +37,13 @@ pub fn lay(rt: &impl Abort, file: &mut [u8], at: usize, bytes: &[u8])
     file[at..at + bytes.len()].copy_from_slice(bytes);
 }
 
-/// A file of this layout, whose live region 0 has segments of so many records, with the numbers from 1 on.
+/// A file of this layout and height, whose live region 0 has segments of so many records, with the numbers from 1 on.
 pub fn file_of(
     rt: &impl Abort,
     alloc: Global,
     layout: Layout,
     height: u32,
-    counts: &[u32],
+    counts: [u32; 4],
 ) -> Result<Vec<u8>, Fail> {
     let mut file = vec![in alloc; 0; page_of(rt, layout, 2, 0)]?;
     lay(rt, &mut file, 3072, b"PMASTORE\x01");

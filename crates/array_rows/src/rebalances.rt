@@ -50,18 +50,15 @@ const FOUR_SEGMENTS: [Spread; 3] = [
 
 // Spreads each array, and sees what stops leave of it.
 fn see_spreads(rt: &impl Abort, alloc: Global, rows: &[Spread]) -> Result<(), Fail> {
-    for (hmax, journal, height, before, after, records) in rows {
-        let layout = Layout {
-            hmax: *hmax,
-            journal: *journal,
-        };
-        assert!(rt; *height <= 2);
-        let file = file_of(rt, alloc, layout, *height, &before[..1 << *height])?;
+    for row in rows {
+        let (hmax, journal, height, before, after, records) = *row;
+        let layout = Layout { hmax, journal };
+        let file = file_of(rt, alloc, layout, height, before)?;
         let mut station = noting(rt, alloc, &file)?;
         spread_all(rt, alloc, &mut station)?;
-        let found = see_records(rt, station.inner().held(), layout, 1, *records)?;
-        assert_eq!(rt; found, (*height, *after));
-        see_stops(rt, alloc, &station, layout, *records)?;
+        let found = see_records(rt, station.inner().held(), layout, 1, records)?;
+        assert_eq!(rt; found, (height, after));
+        see_stops(rt, alloc, &station, layout, records)?;
     }
     Ok(())
 }

@@ -1,5 +1,8 @@
 //! Stores grow and shrink through their other region, and are stopped at every call.
 
+ghost use Rattle.std.specs.Prelude.{◌≤◌};
+ghost use Rattle.density_rule.specs.Bounds.{IsInBounds};
+
 use crate::files::{file_of, noting, see_opens, see_records, see_stops};
 use density_rule::{Window, in_bounds};
 use header_gate::Layout;
@@ -9,6 +12,14 @@ use station::{CrashStation, Pick};
 use std::alloc::Global;
 use std::process::Abort;
 use std::test::Fail;
+
+// Sees that a store of this height may have so many records.
+fn see_fits(rt: &impl Abort, height: u32, records: u32)
+    requires { height ≤ 16 }
+    ensures { IsInBounds height height records }
+{
+    assert!(rt; in_bounds(height, height, records));
+}
 
 // Opens a store and grows it by one height.
 fn grow_once(rt: &impl Abort, alloc: Global, station: &mut CrashStation) -> Result<(), Fail> {
@@ -26,7 +37,7 @@ fn grow_once(rt: &impl Abort, alloc: Global, station: &mut CrashStation) -> Resu
     let height = tally.height();
     let records = tally.count(Window { height, number: 0 });
     assert!(rt; height < place.layout.hmax);
-    assert!(rt; in_bounds(height + 1, height + 1, records));
+    see_fits(rt, height + 1, records);
     index.reset(height + 1);
     grow(station, &mut place, &mut frames, &mut tally, &mut index)?;
     Ok(())
@@ -48,7 +59,7 @@ fn shrink_once(rt: &impl Abort, alloc: Global, station: &mut CrashStation) -> Re
     let height = tally.height();
     let records = tally.count(Window { height, number: 0 });
     assert!(rt; height >= 1);
-    assert!(rt; in_bounds(height - 1, height - 1, records));
+    see_fits(rt, height - 1, records);
     index.reset(height - 1);
     shrink(station, &mut place, &mut frames, &mut tally, &mut index)?;
     Ok(())
@@ -70,7 +81,7 @@ fn a_resize_is_stopped_at_every_call(rt: HostRuntime) -> Result<(), Fail> {
     for (hmax, journal, from, before, to, after, records) in RESIZES {
         let layout = Layout { hmax, journal };
         assert!(rt; from <= 2);
-        let file = file_of(&rt, rt.alloc(), layout, from, &before[..1 << from])?;
+        let file = file_of(&rt, rt.alloc(), layout, from, before)?;
         let mut station = noting(&rt, rt.alloc(), &file)?;
         if to > from {
             grow_once(&rt, rt.alloc(), &mut station)?;
