@@ -1,7 +1,8 @@
 # make: proves and builds ./pma.  make demo: makes a store and runs a script on it.  make check: the merge gate.
 # make install PREFIX=..: the program and its manual page.  make gate-times: how long the gate's parts take.
+# make bench: the processor time of commands beside that of their system calls.
 
-.PHONY: all demo check install gate-times
+.PHONY: all demo check install gate-times bench
 
 PREFIX ?= /usr/local
 
@@ -29,3 +30,6 @@ install: pma
 
 gate-times:
 	tools/gate-times.sh
+
+bench: pma
+	tools/bench.sh ./pma

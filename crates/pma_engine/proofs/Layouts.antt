@@ -1,13 +1,14 @@
 -- The layouts that command lines ask for.
 use Rattle.std.proofs.Common.{◌≡◌, ℕ, ◌^◌, ◌≤◌, Bool, true, false, List, [], ◌∷◌, Option, Some, None, refl, ap, arith, ◌&&◌, if◌then◌else◌, nat_le}
 use Rattle.std.specs.Prelude.{codes}
+use Rattle.std.specs.Str.{bytes_eq}
 use Rattle.std.proofs.lemmas.Bool.{leb-true}
 use Rattle.std.proofs.Math.Pow.{pow_mono}
 use Rattle.command_text.specs.Number.{number_of}
 use Rattle.header_gate.specs.Places.{IsLayout, file_length}
-use Rattle.pma_engine.specs.Words.{job_of, is_on_file, height_in, journal_in, full_journal, make_full, make_by, make_with, layout_of, within}
+use Rattle.pma_engine.specs.Words.{job_of, is_on_file, height_in, journal_in, full_journal, make_full, make_by, make_with, make_gen, count_in, layout_of, within}
 use Rattle.pma_engine.specs.declared.words.Job.{Job}
-use Rattle.pma_engine.specs.declared.words.Job.TheVariants.{Create, Run}
+use Rattle.pma_engine.specs.declared.words.Job.TheVariants.{Create, Run, Gen}
 
 chosen : (b : Bool) (o : Option Job) (job : Job) → (if b then o else None) ≡ Some job → o ≡ Some job
 chosen true o job is = is
@@ -51,7 +52,16 @@ is_layout [] height journal is = absurd cc
 is_layout (command ∷ []) height journal is = absurd cc
 is_layout (command ∷ file ∷ []) height journal is = let e = chosen (is_on_file (codes "run") command file) (Some Run) (Create height journal) is in absurd cc
 is_layout (command ∷ file ∷ tall ∷ []) height journal is =
-    of_full (height_in tall) height journal (λ h read. (within_bounds 0 16 (number_of tall) h read).1) (chosen (is_on_file (codes "create") command file) (make_full (height_in tall)) (Create height journal) is)
+    by (is_on_file (codes "create") command file) is
+  where
+    no_gen : (count seed : Option ℕ) → make_gen count seed ≡ Some (Create height journal) → ⊥
+    no_gen None seed e = cc
+    no_gen (Some count) None e = cc
+    no_gen (Some count) (Some seed) e = let f : Gen count seed ≡ Create height journal = cc in cc
+
+    by : (b : Bool) → (if b then make_full (height_in tall) else (if bytes_eq command (codes "gen") then make_gen (count_in file) (number_of tall) else None)) ≡ Some (Create height journal) → IsLayout (layout_of height journal)
+    by true e = of_full (height_in tall) height journal (λ h read. (within_bounds 0 16 (number_of tall) h read).1) e
+    by false e = absurd (no_gen (count_in file) (number_of tall) (chosen (bytes_eq command (codes "gen")) (make_gen (count_in file) (number_of tall)) (Create height journal) e))
 is_layout (command ∷ file ∷ tall ∷ word ∷ []) height journal is =
     of_with (height_in tall) word height journal (λ h read. (within_bounds 0 16 (number_of tall) h read).1) (chosen (is_on_file (codes "create") command file) (make_with (height_in tall) word) (Create height journal) is)
 is_layout (command ∷ file ∷ tall ∷ word ∷ more ∷ rest) height journal is = absurd cc

@@ -82,7 +82,7 @@ state_is s a b m height is state =
     let both = determined a.held m height is in state ∙ (λ t. state_of (sym both.0 t) (sym both.1 t) a.held)
 
 -- and its layout
-layout_opened : (old new : List ℕ) → Opens old new → layout_in new ≡ layout_in old
+pub layout_opened : (old new : List ℕ) → Opens old new → layout_in new ≡ layout_in old
 layout_opened old new opens t = record { hmax = at 3084 (omega arith) (omega arith) t; journal = at 3088 (omega arith) (omega arith) t }
   where
     outside : (k : ℕ) → 3072 ≤ k → k < 3092 → IsGatePlace k ⊎ (IsJournalPlace (layout_in old) k ⊎ IsRegionPlace (layout_in old) k) → ⊥

@@ -40,6 +40,10 @@ empty_map = empty
 abbrev pub IsCreateStatus : ℕ → Type 0
 IsCreateStatus status = (status ≡ DONE) ⊎ ((status ≡ REFUSED) ⊎ (status ≡ DISK_FAULT))
 
+-- the statuses with which a run of generated commands may end
+abbrev pub IsGenStatus : ℕ → Type 0
+IsGenStatus status = (status ≡ DONE) ⊎ ((status ≡ REPLY_FAULT) ⊎ (status ≡ OUT_OF_MEMORY))
+
 -- A making was refused: the file isn't empty, one line tells its length, and no byte of it changed.
 pub record IsCreateRefused (a b : View) : Type 0 where
   pub some : Told a → 0 < length a.held

@@ -1,8 +1,8 @@
 //! All that the program does.
 
-ghost use Rattle.std.specs.Prelude.{◌≡◌, ◌+◌, ◌<◌, ◌≤◌, ◌⊎◌, ◌↔◌, ℕ, List, [], Some, None, IsSome, true, false, length, map, string_bytes};
+ghost use Rattle.std.specs.Prelude.{◌≡◌, ◌+◌, ◌<◌, ◌≤◌, ◌⊎◌, ◌↔◌, ◌++◌, ℕ, List, [], Some, None, true, false, length, map, string_bytes};
 ghost use Rattle.station.specs.View.{Told, SaidTold, Honest, NothingPending, Rose, NamedBy, attached_by};
-ghost use Rattle.station.specs.Steps.{Steps};
+ghost use Rattle.station.specs.Steps.{Steps, Says};
 ghost use Rattle.header_gate.specs.Places.{file_length};
 ghost use Rattle.header_gate.specs.EmptyStore.{IsEmptyStore, Anything};
 ghost use Rattle.line_source.specs.SourceView.{Told as SourceTold, Rose as SourceRose, Went};
@@ -10,16 +10,18 @@ ghost use Rattle.map_model.specs.Store.{Map};
 ghost use Rattle.map_model.specs.Image.{Represents};
 ghost use Rattle.recovery.specs.Restores.{IsAtRest};
 ghost use Rattle.command_text.specs.Script.{commands_of};
-ghost use Rattle.pma_engine.specs.Words.{job_of, file_of, layout_of};
+ghost use Rattle.workload.specs.Generation.{gen_line};
+ghost use Rattle.pma_engine.specs.Words.{job_of, file_of, layout_of, IsOnFile};
 ghost use Rattle.pma_engine.specs.Costs.{session_cost, most_written};
 ghost use Rattle.pma_engine.specs.Opening.{IsOutOfMemory};
-ghost use Rattle.pma_engine.specs.Outcome.{IsCreateStatus, IsCreateRefused, IsRunStatus, IsRest, IsRefused, NoStore, RunHeadline, IsAnswered, IsAnsweredToCut, IsAnsweredToReply, hmax_in, state_of, empty_map};
+ghost use Rattle.pma_engine.specs.Outcome.{IsCreateStatus, IsGenStatus, IsCreateRefused, IsRunStatus, IsRest, IsRefused, NoStore, RunHeadline, IsAnswered, IsAnsweredToCut, IsAnsweredToReply, hmax_in, state_of, empty_map};
 ghost use Rattle.pma_engine.specs.Refusing.{KeepsBytes};
 ghost use Rattle.pma_engine.specs.Serving.{TakesAtMost};
 ghost use Rattle.pma_engine.specs.declared.words.Job.{Job};
-ghost use Rattle.pma_engine.specs.declared.words.Job.TheVariants.{Create, Run};
+ghost use Rattle.pma_engine.specs.declared.words.Job.TheVariants.{Create, Run, Gen};
 
 use crate::create::create_file;
+use crate::generate::generate;
 use crate::run::run_file;
 use crate::status::{
     DISK_FAULT, DONE, OUT_OF_MEMORY, REFUSED, REPLY_FAULT, SCRIPT_FAULT, TOO_LONG, USAGE,
@@ -33,12 +35,12 @@ use std::alloc::Global;
 /// Does what the words ask for, and answers the status with which the program ends.
 ///
 /// `create FILE HEIGHT` and `create FILE HEIGHT JOURNAL` make an empty store in an empty file. `run FILE` opens the store and
-/// answers the script that the source gives, of which it takes at most `most` bytes. Other words end with status 2, and no
-/// call is made.
+/// answers the script that the source gives, of which it takes at most `most` bytes. `gen COUNT SEED` runs generated commands
+/// on a store in memory and says one line that sums up their replies. Other words end with status 2, and no call is made.
 ///
-/// The statuses: 0 done; 2 usage; 3 the file is refused, as one line says, the last; 4 a disk call failed; 5 a read of the script failed; 6 a reply
-/// could not be sent whole, and the change that it answers is in the file; 7 there is not enough memory to open the
-/// store, no disk call failed, and nothing is written; 8 the script has `most` bytes or more. `create` takes no memory,
+/// The statuses: 0 done; 2 usage; 3 the file is refused, as one line says, the last; 4 a disk call failed; 5 a read of the
+/// script failed; 6 a reply could not be sent whole, and the change that it answers is in the file; 7 there is not enough
+/// memory to open the store, no disk call failed, and nothing is written; 8 the script has `most` bytes or more. `create` takes no memory,
 /// and leaves every byte of a file that isn't empty. Nothing is taken from the source before the store is open.
 pub fn run_words<I: Source, S: Station>(
     alloc: Global,
@@ -48,7 +50,7 @@ pub fn run_words<I: Source, S: Station>(
     most: u64,
 ) -> u8
     requires first { (S.view station.old).attached ≡ None }
-    requires named { IsSome (job_of (map string_bytes words.now)) → NamedBy (file_of (map string_bytes words.now)) (S.view station.old).fixed.name }
+    requires named { IsOnFile (job_of (map string_bytes words.now)) → NamedBy (file_of (map string_bytes words.now)) (S.view station.old).fixed.name }
     requires reach { (height journal : ℕ) → job_of (map string_bytes words.now) ≡ Some (Create height journal) → file_length (layout_of height journal) ≤ (S.view station.old).fixed.reach }
 
     // Usage: exactly the words that ask for nothing, and no call is made.
@@ -100,6 +102,14 @@ pub fn run_words<I: Source, S: Station>(
     ensures complete { job_of (map string_bytes words.now) ≡ Some Run → SourceTold (I.view source.old) → Told (S.view station.old) → (m : Map) (height : ℕ) → Represents (S.view station.old).held m height →
         length (I.view source.old).left < most → ¬ Rose (S.view station.old).disk_faults (S.view station.new).disk_faults → ¬ Rose (S.view station.old).say_faults (S.view station.new).say_faults → ¬ SourceRose (I.view source.old) (I.view source.new) → (result ≡ DONE) ⊎ (result ≡ OUT_OF_MEMORY) }
 
+    // Running generated commands: one line is said, and nothing else is asked of the station.
+    ensures gen_status { (count seed : ℕ) → job_of (map string_bytes words.now) ≡ Some (Gen count seed) → IsGenStatus result }
+    ensures gen_says { (count seed : ℕ) → job_of (map string_bytes words.now) ≡ Some (Gen count seed) → Says (gen_line count seed) (S.view station.old) (S.view station.new) }
+    ensures gen_done { (count seed : ℕ) → job_of (map string_bytes words.now) ≡ Some (Gen count seed) → result ≡ DONE → SaidTold (S.view station.old) → (S.view station.new).said ≡ (S.view station.old).said ++ gen_line count seed }
+    ensures gen_silent { (count seed : ℕ) → job_of (map string_bytes words.now) ≡ Some (Gen count seed) → result ≡ OUT_OF_MEMORY → station.new ≡ station.old }
+    ensures gen_source { (count seed : ℕ) → job_of (map string_bytes words.now) ≡ Some (Gen count seed) → source.new ≡ source.old }
+    ensures gen_complete { (count seed : ℕ) → job_of (map string_bytes words.now) ≡ Some (Gen count seed) → ¬ Rose (S.view station.old).say_faults (S.view station.new).say_faults → (result ≡ DONE) ⊎ (result ≡ OUT_OF_MEMORY) }
+
     // Causes.
     ensures disk { result ≡ DISK_FAULT → Rose (S.view station.old).disk_faults (S.view station.new).disk_faults }
     ensures reply { result ≡ REPLY_FAULT → Rose (S.view station.old).say_faults (S.view station.new).say_faults }
@@ -116,5 +126,6 @@ pub fn run_words<I: Source, S: Station>(
             create_file(station, words[1].as_str(), layout)
         }
         Some(Job::Run) => run_file(alloc, source, station, words[1].as_str(), most),
+        Some(Job::Gen { count, seed }) => generate(alloc, station, count, seed),
     }
 }

@@ -1,7 +1,8 @@
 //! The words of a command line.
 
 ghost use Rattle.std.specs.Prelude.{◌≡◌, ◌≤◌, map, string_bytes, codes};
-ghost use Rattle.pma_engine.specs.Words.{job_of, is_on_file, height_in, journal_in, full_journal};
+ghost use Rattle.pma_engine.specs.Words.{job_of, is_on_file, make_full, make_gen, count_in, height_in, journal_in, full_journal};
+ghost use Rattle.command_text.specs.Number.{number_of};
 
 use command_text::read_number;
 use header_gate::GREATEST_HEIGHT;
@@ -13,14 +14,19 @@ pub enum Job {
     Create { height: u32, journal: u32 },
     /// Open the store and answer the script.
     Run,
+    /// Run so many generated commands of a seed.
+    Gen { count: u32, seed: u32 },
 }
+
+// The most commands that are generated.
+const MOST_COMMANDS: u32 = 1_000_000;
 
 // The fewest segments that a journal may hold.
 const LEAST_JOURNAL: u32 = 4;
 
 /// What the words ask for: `create FILE HEIGHT`, `create FILE HEIGHT JOURNAL` or `run FILE`, with a FILE that isn't empty, a
-/// HEIGHT from 0 to 16, and a JOURNAL from 4 to the greater of 4 and 2^HEIGHT, which it is where none is given. None for all
-/// other words.
+/// HEIGHT from 0 to 16, and a JOURNAL from 4 to the greater of 4 and 2^HEIGHT, which it is where none is given; or
+/// `gen COUNT SEED`, with a COUNT from 0 to 1000000 and a SEED below 2^32. None for all other words.
 pub fn read_words(words: &[String]) -> Option<Job>
     ensures { result ≡ job_of (map string_bytes words.now) }
 {
@@ -31,15 +37,14 @@ pub fn read_words(words: &[String]) -> Option<Job>
             }
             None
         }
-        [command, file, height] => {
-            if !is_on_file("create", command, file) {
-                return None;
+        [command, first, second] => {
+            if is_on_file("create", command, first) {
+                return read_full(second);
             }
-            let height = read_height(height)?;
-            Some(Job::Create {
-                height,
-                journal: full_journal(height),
-            })
+            if command.as_str() == "gen" {
+                return read_gen(first, second);
+            }
+            None
         }
         [command, file, height, journal] => {
             if !is_on_file("create", command, file) {
@@ -58,6 +63,36 @@ fn is_on_file(wanted: &str, command: &String, file: &String) -> bool
     ensures { result ≡ is_on_file wanted.now (string_bytes command.now) (string_bytes file.now) }
 {
     command.as_str() == wanted && !file.is_empty()
+}
+
+// To make a store with the greatest height that a word names, and with the greatest journal.
+fn read_full(height: &String) -> Option<Job>
+    ensures { result ≡ make_full (height_in (string_bytes height.now)) }
+{
+    let height = read_height(height)?;
+    Some(Job::Create {
+        height,
+        journal: full_journal(height),
+    })
+}
+
+// To run as many commands of a seed as the words name.
+fn read_gen(count: &String, seed: &String) -> Option<Job>
+    ensures { result ≡ make_gen (count_in (string_bytes count.now)) (number_of (string_bytes seed.now)) }
+{
+    let count = read_count(count)?;
+    let seed = read_number(seed.as_bytes())?;
+    Some(Job::Gen { count, seed })
+}
+
+// The number of commands that a word names.
+fn read_count(word: &String) -> Option<u32>
+    ensures { result ≡ count_in (string_bytes word.now) }
+{
+    match read_number(word.as_bytes()) {
+        Some(count) if count <= MOST_COMMANDS => Some(count),
+        _ => None,
+    }
 }
 
 // The greatest height that a word names.

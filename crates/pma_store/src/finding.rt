@@ -70,11 +70,8 @@ pub(crate) fn read_rows<S: Station>(
     let Ok(()) = read_page(station, &place.layout, place.region, segment, &mut page) else {
         return Err(StoreFault::Failed);
     };
-    match Segment::judge(&page, segment, kept_count(tally, segment)) {
-        Ok(rows) => {
-            *found = rows;
-            Ok(())
-        }
+    match found.load_kept(&page, segment, kept_count(tally, segment)) {
+        Ok(()) => Ok(()),
         Err(fault) => Err(fault),
     }
 }

@@ -8,7 +8,7 @@ ghost use Rattle.segment_frames.specs.Reading.{IsPageFault};
 
 use key_slot::SEGMENT_SLOTS;
 use redo_journal::Frames;
-use segment::{Segment, StoreFault};
+use segment::{StoreFault, judge_kept};
 
 /// Sees that a frame holds a segment, with as many records as the store keeps for it.
 ///
@@ -22,6 +22,8 @@ pub fn judge_frame(frames: &Frames, f: u32, segment: u32, kept: u32) -> Result<(
     ensures fault { IfErr result (IsPageFault (page_at frames.now.slots f) segment kept) }
 {
     let page = frames.bytes(SEGMENT_SLOTS * f as usize, SEGMENT_SLOTS);
-    Segment::judge(page, segment, kept)?;
-    Ok(())
+    match judge_kept(page, segment, kept) {
+        Ok(()) => Ok(()),
+        Err(fault) => Err(fault),
+    }
 }

@@ -8,11 +8,11 @@ use Rattle.pma_store.proofs.finding.read_rows.Goals as goal
 pub read_page-requires-clause-segment : goal.read_page-requires-clause-segment
 read_page-requires-clause-segment g c = omega (arith, c.requires.segment, pow_mono {i = c.args.tally.now.height} {j = c.args.place.now.layout.hmax} c.requires.height)
 
-pub returns-in-Ok-judge-clause-rows : goal.returns-in-Ok-judge-clause-rows
-returns-in-Ok-judge-clause-rows g c told =
+pub returns-in-Ok-load_kept-clause-rows : goal.returns-in-Ok-load_kept-clause-rows
+returns-in-Ok-load_kept-clause-rows g c told =
     let a = c.args in
-    let page = subst (IsSegment c.in-Ok-judge.rows) (c.in-Ok.ensures.bytes told) c.in-Ok-judge.ensures.rows in
-    read_is a.place.now.layout a.place.now.region a.tally.now.height a.tally.now.counts (g.S.Station.view a.station.now).held (c.requires.stands told).stands a.segment c.in-Ok-judge.rows c.requires.segment page
+    let page = subst (IsSegment c.load_kept.new.self) (c.in-Ok.ensures.bytes told) c.in-Ok-load_kept.ensures.rows in
+    read_is a.place.now.layout a.place.now.region a.tally.now.height a.tally.now.counts (g.S.Station.view a.station.now).held (c.requires.stands told).stands a.segment c.load_kept.new.self c.requires.segment page
 
 pub returns-in-Err-clause-damaged : goal.returns-in-Err-clause-damaged
 returns-in-Err-clause-damaged g c told =

@@ -1,9 +1,10 @@
 use Rattle.std.proofs.Common.{length, ap, ◌∙◌}
+use Rattle.key_slot.specs.Segment.{segment_of}
 use Rattle.segment_frames.proofs.ReadLaws.{decoded, reads_as}
 use Rattle.segment_frames.proofs.judging.judge_frame.Goals as goal
 
-pub returns-clause-held : goal.returns-clause-held
-returns-clause-held c = decoded c.args.frames.now.slots c.args.f c.in_ok-judge.field-0 c.bytes-page.result.now c.in_ok-judge.ensures.rows c.bytes-page.ensures.value c.bytes-page.ensures.slots
+pub returns-in-Ok-clause-held : goal.returns-in-Ok-clause-held
+returns-in-Ok-clause-held c = decoded c.args.frames.now.slots c.args.f (segment_of c.bytes-page.result.now) c.bytes-page.result.now c.in-Ok.ensures.sound c.bytes-page.ensures.value c.bytes-page.ensures.slots
 
-pub returns-clause-count : goal.returns-clause-count
-returns-clause-count c = ap length (reads_as c.args.frames.now.slots c.args.f c.in_ok-judge.field-0 c.bytes-page.result.now c.in_ok-judge.ensures.rows c.bytes-page.ensures.value) ∙ c.in_ok-judge.ensures.count
+pub returns-in-Ok-clause-count : goal.returns-in-Ok-clause-count
+returns-in-Ok-clause-count c = ap length (reads_as c.args.frames.now.slots c.args.f (segment_of c.bytes-page.result.now) c.bytes-page.result.now c.in-Ok.ensures.sound c.bytes-page.ensures.value) ∙ c.in-Ok.ensures.count

@@ -1,12 +1,15 @@
 use Rattle.std.proofs.Common.{ℕ, List, inl, refl, subst}
 use Rattle.std.proofs.lemmas.Result.{IfOk-weaker}
-use Rattle.station.proofs.Composition.{weaken, told_of, told_back}
+use Rattle.station.proofs.Composition.{weaken, nothing_on, told_of, told_back}
 use Rattle.map_model.specs.Image.{map_of}
 use Rattle.map_model.specs.Store.{map_after}
 use Rattle.pma_store.specs.Store.{Becomes}
 use Rattle.pma_store.specs.Updating.{update_of}
 use Rattle.pma_store.proofs.Steps.{same_keeps, keeps_then, own_of, leaves_on}
 use Rattle.pma_store.proofs.store.Store.apply.Goals as goal
+
+pub apply_at-requires-clause-nothing : goal.apply_at-requires-clause-nothing
+apply_at-requires-clause-nothing g c = nothing_on (g.met.S.Station.lawful c.args.station.now) c.requires.nothing c.find_spot.ensures.steps
 
 pub returns-in-Ok-clause-steps : goal.returns-in-Ok-clause-steps
 returns-in-Ok-clause-steps g c =
