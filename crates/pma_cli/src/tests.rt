@@ -68,6 +68,7 @@ fn words_to_run(alloc: Global) -> Result<Vec<String>, Fail>
 }
 
 // Whether a command line makes no longer file than the longest of these tests.
+#[tactic(auto, using(crate::proofs::Layouts::short_file))]
 fn is_small(words: &[String]) -> bool
     ensures { IsTrue result → (height journal : ℕ) → job_of (map string_bytes words.now) ≡ Some (Create height journal) → file_length (layout_of height journal) ≤ LONGEST }
 {
@@ -117,7 +118,7 @@ fn session(
     plan: Plan<'_>,
 ) -> Result<(u8, MemStation), Fail> {
     let bytes = &bytes[..bytes.len().min(LONGEST)];
-    let mut station = MemStation::new(alloc, bytes, LONGEST, plan.room, plan.fail, plan.stop)?;
+    let mut station = MemStation::new(alloc, bytes, bytes.len(), plan.room, plan.fail, plan.stop)?;
     let mut source = MemSource::new(alloc, script, 7, plan.broken)?;
     let words = words_to_run(alloc)?;
     let status = run_words(alloc, &words, &mut source, &mut station, plan.most);

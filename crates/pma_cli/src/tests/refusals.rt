@@ -23,7 +23,7 @@ fn status_of(alloc: Global, words: &[String]) -> Result<u8, Fail>
 
 #[test]
 fn other_words_are_usage(rt: HostRuntime) -> Result<(), Fail> {
-    let lines: [&[&str]; 16] = [
+    let lines: [&[&str]; 20] = [
         &[],
         &["run"],
         &["run", ""],
@@ -40,6 +40,10 @@ fn other_words_are_usage(rt: HostRuntime) -> Result<(), Fail> {
         &["create", "f", "3", "9"],
         &["create", "f", "3", "8", "8"],
         &["check", "f"],
+        &["gen", "1"],
+        &["gen", "1000001", "1"],
+        &["gen", "1", "4294967296"],
+        &["gen", "01", "1"],
     ];
     for line in lines {
         let mut words = Vec::new(rt.alloc());

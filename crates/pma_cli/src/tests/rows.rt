@@ -2,7 +2,9 @@
 //! hold then.
 
 use super::{SMOOTH, created, push_key, session};
-use station::Station;
+use line_source::MemSource;
+use pma_engine::{Job, read_words, run_words};
+use station::{MemStation, Station};
 use std::alloc::Global;
 use std::process::Abort;
 use std::test::Fail;
@@ -316,5 +318,57 @@ fn a_range_reads_straight_on(rt: HostRuntime) -> Result<(), Fail> {
     assert_eq!(rt; after.read.checked_sub(before.read), Some(8192));
     assert!(rt; after.breaks.saturating_sub(before.breaks) <= 1);
     assert_eq!(rt; after.written, before.written);
+    Ok(())
+}
+
+// Says the summary of generated commands.
+fn generated(alloc: Global, count: &str, seed: &str) -> Result<(u8, MemStation), Fail> {
+    let mut words = Vec::new(alloc);
+    words.push(String::from_str(alloc, "gen")?)?;
+    words.push(String::from_str(alloc, count)?)?;
+    words.push(String::from_str(alloc, seed)?)?;
+    let Some(Job::Gen { .. }) = read_words(&words) else {
+        return Err("these words generate nothing".into());
+    };
+    let mut station = MemStation::new(alloc, b"", 0, 200, &[], None)?;
+    let mut source = MemSource::new(alloc, b"", 1, &[0])?;
+    let status = run_words(alloc, &words, &mut source, &mut station, SMOOTH.most);
+    Ok((status, station))
+}
+
+/// The numbers come from the definition, worked out apart from this program.
+#[test]
+fn generated_commands_are_summed(rt: HostRuntime) -> Result<(), Fail> {
+    for (count, seed, want) in [
+        (
+            "0",
+            "7",
+            b"gen commands=0 stored=0 replaced=0 removed=0 absent=0 found=0 ranged=0 records=0 height=0\n".as_slice(),
+        ),
+        (
+            "1",
+            "0",
+            b"gen commands=1 stored=0 replaced=0 removed=0 absent=0 found=0 ranged=0 records=0 height=0\n",
+        ),
+        (
+            "1",
+            "1",
+            b"gen commands=1 stored=0 replaced=0 removed=0 absent=1 found=0 ranged=0 records=0 height=0\n",
+        ),
+        (
+            "1",
+            "2",
+            b"gen commands=1 stored=1 replaced=0 removed=0 absent=0 found=0 ranged=0 records=1 height=0\n",
+        ),
+        (
+            "100",
+            "5",
+            b"gen commands=100 stored=62 replaced=0 removed=0 absent=27 found=0 ranged=101 records=62 height=0\n",
+        ),
+    ] {
+        let (status, station) = generated(rt.alloc(), count, seed)?;
+        assert_eq!(rt; station.said(), want);
+        assert_eq!(rt; status, 0);
+    }
     Ok(())
 }
