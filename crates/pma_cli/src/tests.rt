@@ -68,7 +68,6 @@ fn words_to_run(alloc: Global) -> Result<Vec<String>, Fail>
 }
 
 // Whether a command line makes no longer file than the longest of these tests.
-#[tactic(auto, using(crate::proofs::Layouts::short_file))]
 fn is_small(words: &[String]) -> bool
     ensures { IsTrue result → (height journal : ℕ) → job_of (map string_bytes words.now) ≡ Some (Create height journal) → file_length (layout_of height journal) ≤ LONGEST }
 {

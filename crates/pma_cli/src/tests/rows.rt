@@ -171,6 +171,13 @@ const LINES: &[Row] = &[
             b"stored\nfound x%00y\nstored\nfound\nstored\nfound 1%232\n",
         )],
     ),
+    (
+        "0",
+        &[Lines(
+            b"PUT a b\nget\nput a b c\nrange a b -1\nput abcdefghijklmnopqrstuvwxy 1\nput a xxxxxxxxxxxxxxxxxxxxxxxxxxxxxxxxx\nget a\n",
+            b"bad command\nbad words\nbad words\nbad number\noversized key 24\noversized value 32\nabsent\n",
+        )],
+    ),
 ];
 
 // Stores that grow, spread their records, and shrink.
@@ -238,8 +245,8 @@ const ARRAYS: &[Row] = &[
         &[
             Put(1, 65),
             Lines(
-                b"range k031 k036\nrange k036 k031\nrange * * 0\nrange * k003\nrange k064 *\nrange k032 * 3\nrange k0315 k0316\n",
-                b"record k031\nrecord k032\nrecord k033\nrecord k034\nrecord k035\nend 5\nend 0\nend 0\nrecord k001\nrecord k002\nend 2\nrecord k064\nrecord k065\nend 2\nrecord k032\nrecord k033\nrecord k034\nend 3\nend 0\n",
+                b"range k031 k036\nrange k036 k031\nrange * * 0\nrange * k003\nrange k064 *\nrange k032 * 3\nrange k0315 k0316\nprobe k065 7\n",
+                b"record k031\nrecord k032\nrecord k033\nrecord k034\nrecord k035\nend 5\nend 0\nend 0\nrecord k001\nrecord k002\nend 2\nrecord k064\nrecord k065\nend 2\nrecord k032\nrecord k033\nrecord k034\nend 3\nend 0\nprobe segment=1 nodes=1 blocks=1 bound=4\n",
             ),
         ],
     ),
