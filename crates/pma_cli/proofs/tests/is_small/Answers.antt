@@ -1,0 +1,10 @@
+use Rattle.std.proofs.Common.{◌≡◌, ◌≤◌, ℕ, Some, arith, map, string_bytes, rules, sym, ◌∙◌, Bool, true}
+use Rattle.header_gate.specs.Places.{file_length}
+use Rattle.pma_engine.specs.Words.{job_of, layout_of}
+use Rattle.pma_engine.specs.declared.words.Job.TheVariants.{Create}
+use Rattle.pma_cli.proofs.Layouts.{short_made}
+use Rattle.pma_cli.proofs.tests.is_small.Goals as goal
+
+pub returns-then-height-le4 : goal.returns-then-height-le4
+returns-then-height-le4 c few height journal is =
+    short_made c.in-Some-Create.height c.in-Some-Create.journal height journal (search rules) (search rules) (search rules)

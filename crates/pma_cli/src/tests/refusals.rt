@@ -1,0 +1,175 @@
+//! Command lines that ask for nothing, new stores of several sizes, and files that are refused with a line.
+
+ghost use Rattle.std.specs.Prelude.{◌≡◌, None, map, string_bytes};
+ghost use Rattle.pma_engine.specs.Words.{job_of};
+
+use super::rows::{Part, answered};
+use super::updates::with_bytes;
+use super::{SMOOTH, created, created_in, session};
+use line_source::MemSource;
+use pma_engine::{read_words, run_words};
+use station::MemStation;
+use std::alloc::Global;
+use std::test::Fail;
+
+// The status of words that ask for nothing, over a station and a source whose first calls would fail.
+fn status_of(alloc: Global, words: &[String]) -> Result<u8, Fail>
+    requires { job_of (map string_bytes words.now) ≡ None }
+{
+    let mut station = MemStation::new(alloc, b"", 64, 64, &[], Some(0))?;
+    let mut source = MemSource::new(alloc, b"", 1, &[0])?;
+    Ok(run_words(alloc, words, &mut source, &mut station, SMOOTH.most))
+}
+
+#[test]
+fn other_words_are_usage(rt: HostRuntime) -> Result<(), Fail> {
+    let lines: [&[&str]; 20] = [
+        &[],
+        &["run"],
+        &["run", ""],
+        &["run", "f", "0"],
+        &["RUN", "f"],
+        &["create", "f"],
+        &["create", "", "0"],
+        &["create", "f", ""],
+        &["create", "f", "17"],
+        &["create", "f", "02"],
+        &["create", "f", "-1"],
+        &["create", "f", "2", "5"],
+        &["create", "f", "2", "3"],
+        &["create", "f", "3", "9"],
+        &["create", "f", "3", "8", "8"],
+        &["check", "f"],
+        &["gen", "1"],
+        &["gen", "1000001", "1"],
+        &["gen", "1", "4294967296"],
+        &["gen", "01", "1"],
+    ];
+    for line in lines {
+        let mut words = Vec::new(rt.alloc());
+        for word in line {
+            words.push(String::from_str(rt.alloc(), word)?)?;
+        }
+        assert!(rt; read_words(&words).is_none());
+        assert_eq!(rt; status_of(rt.alloc(), &words)?, 2);
+    }
+    Ok(())
+}
+
+#[test]
+fn an_empty_file_becomes_a_store(rt: HostRuntime) -> Result<(), Fail> {
+    for (height, journal, length) in [
+        ("0", None, 32768),
+        ("0", Some("4"), 32768),
+        ("2", None, 57344),
+        ("4", Some("4"), 155648),
+        ("4", Some("16"), 204800),
+        ("4", None, 204800),
+    ] {
+        let (status, station) = created(rt.alloc(), height, journal)?;
+        assert_eq!(rt; status, 0);
+        assert_eq!(rt; station.said(), b"".as_slice());
+        assert_eq!(rt; station.held().len(), length);
+        let (status, again) = session(rt.alloc(), station.held(), b"", SMOOTH)?;
+        assert_eq!(rt; status, 0);
+        assert_eq!(rt; again.said(), b"".as_slice());
+        assert!(rt;
+            again.held() == station.held(),
+            "an empty script leaves every byte"
+        );
+    }
+    Ok(())
+}
+
+// The height limit of a new store, a script on it, places whose bytes are changed then, and the line of the refusal.
+type Refused = (
+    &'static str,
+    &'static [Part],
+    &'static [(usize, u8)],
+    &'static [u8],
+);
+
+// In a store of one segment the gate is at 512, the journal's count at 4096, and region 0 at 24576; in one with height
+// limit 2 region 0 is at 24576 too, and segment 1 of region 1 at 45056.
+const REFUSED: &[Refused] = &[
+    ("0", &[], &[(3072, 0)], b"refused identity 3072\n"),
+    ("0", &[], &[(3079, b'e')], b"refused identity 3072\n"),
+    ("0", &[], &[(3080, 2)], b"refused version 2\n"),
+    ("0", &[], &[(3084, 17)], b"refused height-limit 17\n"),
+    ("0", &[], &[(3088, 3)], b"refused journal-size 3\n"),
+    ("0", &[], &[(3088, 5)], b"refused journal-size 5\n"),
+    ("0", &[], &[(3084, 1)], b"refused length 32768\n"),
+    ("0", &[], &[(1024, 1)], b"refused height 0 1\n"),
+    ("2", &[], &[(1024, 3)], b"refused height 0 3\n"),
+    ("0", &[], &[(1028, 2)], b"refused format 0 2\n"),
+    ("0", &[], &[(0, 1)], b"refused format 1 0\n"),
+    ("0", &[], &[(512, 1)], b"refused journal 4096\n"),
+    ("0", &[], &[(512, 1), (4096, 5)], b"refused journal 4096\n"),
+    (
+        "0",
+        &[],
+        &[(512, 1), (4096, 1), (4100, 1)],
+        b"refused journal 4100\n",
+    ),
+    (
+        "2",
+        &[],
+        &[(512, 1), (4096, 2), (1024, 1), (4100, 1)],
+        b"refused journal 4104\n",
+    ),
+    ("0", &[], &[(24576, 2)], b"refused slot 0 0\n"),
+    (
+        "0",
+        &[Part::Lines(b"put a\nput b\n", b"stored\nstored\n")],
+        &[(24584, b'b')],
+        b"refused slot 0 1\n",
+    ),
+    (
+        "2",
+        &[Part::Put(1, 65)],
+        &[(45064, b'a')],
+        b"refused order 1\n",
+    ),
+    ("2", &[], &[(1024, 1)], b"refused density 1 0 0\n"),
+];
+
+#[test]
+fn what_is_wrong_with_a_file_is_said(rt: HostRuntime) -> Result<(), Fail> {
+    for (height, parts, changes, line) in REFUSED {
+        let file = answered(&rt, rt.alloc(), height, None, parts)?;
+        let file = with_bytes(rt.alloc(), &file, changes)?;
+        let (status, station) = session(rt.alloc(), &file, b"put b 2\n", SMOOTH)?;
+        assert_eq!(rt; station.said(), *line);
+        assert_eq!(rt; status, 3);
+        assert!(rt; station.held() == file.as_slice());
+    }
+    Ok(())
+}
+
+#[test]
+fn zeros_are_no_store(rt: HostRuntime) -> Result<(), Fail> {
+    for (length, ran, made) in [
+        (
+            32768,
+            b"refused identity 3072\n".as_slice(),
+            b"refused length 32768\n".as_slice(),
+        ),
+        (4096, b"refused identity 3072\n", b"refused length 4096\n"),
+        (4095, b"refused length 4095\n", b"refused length 4095\n"),
+        (1, b"refused length 1\n", b"refused length 1\n"),
+    ] {
+        let zeros = vec![in rt.alloc(); 0; length]?;
+        let (status, station) = session(rt.alloc(), &zeros, b"put a 1\n", SMOOTH)?;
+        assert_eq!(rt; station.said(), ran);
+        assert_eq!(rt; status, 3);
+        assert!(rt; station.held() == zeros.as_slice());
+        let (status, station) = created_in(rt.alloc(), &zeros, "0", None)?;
+        assert_eq!(rt; station.said(), made);
+        assert_eq!(rt; status, 3);
+        assert!(rt; station.held() == zeros.as_slice());
+    }
+    let (status, station) = session(rt.alloc(), b"", b"put a 1\n", SMOOTH)?;
+    assert_eq!(rt; station.said(), b"refused length 0\n".as_slice());
+    assert_eq!(rt; status, 3);
+    Ok(())
+}
