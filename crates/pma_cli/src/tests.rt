@@ -15,6 +15,7 @@ use std::fs;
 use std::test::Fail;
 
 mod faults;
+mod generated;
 mod quiet_station;
 mod refusals;
 mod rows;
