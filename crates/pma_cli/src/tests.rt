@@ -19,6 +19,7 @@ mod generated;
 mod quiet_station;
 mod refusals;
 mod rows;
+mod stops;
 mod updates;
 
 // The longest file of these tests, in bytes: sixteen segments and a journal of as many.
