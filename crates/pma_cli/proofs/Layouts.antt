@@ -1,11 +1,9 @@
 -- The longest file of the tests.
-use Rattle.std.proofs.Common.{◌≡◌, ℕ, ◌^◌, ◌≤◌, Some, ap, arith}
+use Rattle.std.proofs.Common.{◌≡◌, ℕ, ◌^◌, ◌≤◌, Some, arith}
 use Rattle.std.proofs.Math.Pow.{pow_mono}
 use Rattle.header_gate.specs.Places.{file_length}
 use Rattle.pma_engine.specs.Words.{layout_of}
-use Rattle.pma_engine.specs.declared.words.Job.{Job}
 use Rattle.pma_engine.specs.declared.words.Job.TheVariants.{Create}
-use Rattle.std.specs.Prelude.{Option}
 
 -- a file of height limit 4 with a journal of 16 segments has 204800 bytes, and none below it has more
 pub short_file : (height journal : ℕ) → height ≤ 4 → journal ≤ 16 → file_length (layout_of height journal) ≤ 204800

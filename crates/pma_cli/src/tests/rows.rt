@@ -329,7 +329,7 @@ fn a_range_reads_straight_on(rt: HostRuntime) -> Result<(), Fail> {
 }
 
 // Says the summary of generated commands.
-fn generated(alloc: Global, count: &str, seed: &str) -> Result<(u8, MemStation), Fail> {
+pub(super) fn generated(alloc: Global, count: &str, seed: &str) -> Result<(u8, MemStation), Fail> {
     let mut words = Vec::new(alloc);
     words.push(String::from_str(alloc, "gen")?)?;
     words.push(String::from_str(alloc, count)?)?;

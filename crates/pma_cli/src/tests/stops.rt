@@ -28,7 +28,8 @@ type Update = (
     Keys,
 );
 
-const UPDATES: [Update; 8] = [
+const UPDATES: [Update; 9] = [
+    ("0", None, &[], b"put k001\n", (1, 0), (1, 1)),
     ("0", None, &[Put(1, 3)], b"put k004\n", (1, 3), (1, 4)),
     // grows to height 1
     ("2", None, &[Put(1, 64)], b"put k065\n", (1, 64), (1, 65)),
@@ -67,7 +68,7 @@ const UPDATES: [Update; 8] = [
 ];
 
 // So many of them are in files of no more than four segments.
-const SMALL: usize = 6;
+const SMALL: usize = 7;
 
 // The reply to a range over all the keys.
 fn range_reply(alloc: Global, keys: Keys) -> Result<Vec<u8>, Fail> {

@@ -1,7 +1,4 @@
-use Rattle.std.proofs.Common.{◌≡◌, ◌≤◌, ℕ, Some, arith, map, string_bytes, rules, sym, ◌∙◌, Bool, true}
-use Rattle.header_gate.specs.Places.{file_length}
-use Rattle.pma_engine.specs.Words.{job_of, layout_of}
-use Rattle.pma_engine.specs.declared.words.Job.TheVariants.{Create}
+use Rattle.std.proofs.Common.{rules}
 use Rattle.pma_cli.proofs.Layouts.{short_made}
 use Rattle.pma_cli.proofs.tests.is_small.Goals as goal
 
