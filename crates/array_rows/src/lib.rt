@@ -12,3 +12,5 @@ mod openings;
 mod rebalances;
 #[cfg(test)]
 mod resizes;
+#[cfg(test)]
+mod stores;
