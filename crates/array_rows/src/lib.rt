@@ -7,6 +7,10 @@
 #[cfg(test)]
 mod files;
 #[cfg(test)]
+mod openings;
+#[cfg(test)]
 mod rebalances;
 #[cfg(test)]
 mod resizes;
+#[cfg(test)]
+mod stores;
