@@ -72,6 +72,27 @@ fn remove_both(
     Ok(())
 }
 
+// A put or a removal of the key that a drawn number names.
+fn update_both(
+    rt: &impl Abort,
+    store: &mut Store,
+    station: &mut MemStation,
+    map: &mut BTreeMap<u32, u32>,
+    drawn: u64,
+    is_put: bool,
+    value: u32,
+) -> Result<(), Fail>
+    requires { IsReady store.old station.old }
+    ensures { OnOk result (IsReady store.new station.new) }
+{
+    let number = ((drawn >> 33) % u64::from(KEYS)) as u32;
+    if is_put {
+        put_both(rt, store, station, map, number, value)
+    } else {
+        remove_both(rt, store, station, map, number)
+    }
+}
+
 // A hundred updates, with so many puts among sixteen, and a check behind them.
 fn hundred(
     rt: &impl Abort,
@@ -87,12 +108,7 @@ fn hundred(
     let mut x = u64::from(round);
     for i in 0..100 {
         x = next(x);
-        let number = ((x >> 33) % u64::from(KEYS)) as u32;
-        if (x >> 20) % 16 < puts {
-            put_both(rt, store, station, map, number, i)?;
-        } else {
-            remove_both(rt, store, station, map, number)?;
-        }
+        update_both(rt, store, station, map, x, (x >> 20) % 16 < puts, i)?;
     }
     let height = store.height();
     let checked = store.check(station)?;
