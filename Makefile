@@ -1,8 +1,9 @@
 # make: proves and builds ./pma.  make demo: makes a store that grows.  make check: the merge gate.
 # make install PREFIX=..: the program and its manual page.  make gate-times: how long the gate's parts take.
 # make bench: the processor time of commands beside that of their system calls.
+# make faults: each allocation of the program refused in turn.
 
-.PHONY: all demo check install gate-times bench
+.PHONY: all demo check install gate-times bench faults
 
 PREFIX ?= /usr/local
 
@@ -35,3 +36,6 @@ gate-times:
 
 bench: pma
 	tools/bench.sh ./pma
+
+faults: pma
+	tools/faults.sh ./pma
