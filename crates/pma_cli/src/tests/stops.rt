@@ -67,9 +67,6 @@ const UPDATES: [Update; 9] = [
     ("3", None, &[Put(1, 189)], b"put k190\n", (1, 189), (1, 190)),
 ];
 
-// So many of them are in files of no more than four segments.
-const SMALL: usize = 7;
-
 // The reply to a range over all the keys.
 fn range_reply(alloc: Global, keys: Keys) -> Result<Vec<u8>, Fail> {
     let (first, last) = keys;
@@ -166,7 +163,7 @@ fn see_stops(
 ) -> Result<(), Fail> {
     let bytes = &file[..file.len().min(LONGEST)];
     let inner = MemStation::new(alloc, bytes, LONGEST, 64, &[], None)?;
-    let mut station = CrashStation::new(alloc, inner, CALLS, 1 << 18)?;
+    let mut station = CrashStation::new(alloc, inner, CALLS, 1 << 20)?;
     let mut source = MemSource::new(alloc, line, 7, &[])?;
     let words = words_to_run(alloc)?;
     let status = run_words(alloc, &words, &mut source, &mut station, SMOOTH.most);
@@ -177,7 +174,7 @@ fn see_stops(
         }
         for pick in [Pick::Settled, Pick::Held, Pick::Fill(0xA5)] {
             let image = station.crash_image(alloc, calls, pick)?;
-            see_opened(rt, alloc, &image, maps, station.said_after(calls) > 0)?;
+            see_opened_after_stops(rt, alloc, &image, maps, station.said_after(calls) > 0)?;
         }
     }
     Err("the session makes more calls".into())
@@ -198,7 +195,7 @@ fn a_failed_call_keeps_what_was_answered(rt: HostRuntime) -> Result<(), Fail> {
 
 #[test]
 fn a_stop_at_any_call_keeps_what_was_answered(rt: HostRuntime) -> Result<(), Fail> {
-    for (height, journal, parts, line, before, after) in &UPDATES[..SMALL] {
+    for (height, journal, parts, line, before, after) in &UPDATES {
         let file = answered(&rt, rt.alloc(), height, *journal, parts)?;
         let (before, after) = (
             range_reply(rt.alloc(), *before)?,
@@ -259,6 +256,7 @@ fn an_opening_repairs(rt: HostRuntime) -> Result<(), Fail> {
         let total = counts[0] + counts[1] + counts[2] + counts[3];
         let map = range_reply(rt.alloc(), (1, total))?;
         see_opened_after_stops(&rt, rt.alloc(), &file, (&map, &map), true)?;
+        see_stops(&rt, rt.alloc(), &file, b"", (&map, &map))?;
     }
     Ok(())
 }
