@@ -26,11 +26,11 @@ pub(crate) const NAME_FRONT: u32 = 0x5341_4d50;
 /// The text `TORE`, likewise.
 pub(crate) const NAME_BACK: u32 = 0x4552_4f54;
 
-/// The bytes of the header page.
+/// The bytes of a page: the header is one, and the journal's table is so many.
 pub(crate) const PAGE: usize = 4096;
 
 /// The place of the journal's table, behind the header page.
-pub const TABLE: u64 = 4096;
+pub const TABLE: u64 = PAGE as u64;
 
 /// The bytes of a segment.
 pub const SEGMENT: usize = 4096;
@@ -86,7 +86,7 @@ impl Layout {
         requires { IsLayout self.now }
         ensures { result ≡ table_size self.now }
     {
-        (4 + 4 * self.journal as u64 + 4095) / 4096 * 4096
+        (4 + 4 * self.journal as u64 + (PAGE as u64 - 1)) / PAGE as u64 * PAGE as u64
     }
 
     // The segments of a region.

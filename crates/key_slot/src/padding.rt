@@ -2,14 +2,16 @@
 
 ghost use Rattle.std.specs.Prelude.{◌≡◌, ◌↔◌, ◌+◌, ◌-◌, ◌*◌, ◌≤◌, min, IsTrue};
 ghost use Rattle.key_slot.specs.Padded.{AreZeros, limit};
+ghost use Rattle.key_slot.specs.declared.padding.TheConstants.{BEFORE_LAST, WORD_SIZE};
+ghost use Rattle.key_slot.specs.declared.sizes.TheConstants.{MAX_VALUE_LEN, SLOT_SIZE};
 
-use super::sizes::SLOT_SIZE;
+use super::sizes::{MAX_VALUE_LEN, SLOT_SIZE};
 
 // How many bytes a word has.
 pub(crate) const WORD_SIZE: usize = 8;
 
-// How many bytes of a field lie before its last word, at most.
-const BEFORE_LAST: usize = 24;
+// How many bytes of a field lie before its last word, at most: the value's field is the longest.
+const BEFORE_LAST: usize = MAX_VALUE_LEN - WORD_SIZE;
 
 // The greatest word that passes, by how many bytes a field has from the word on, counted from `BEFORE_LAST` bytes
 // before it: zeros alone where it has none, any word where it has eight.
@@ -74,13 +76,13 @@ const GREATEST: [u64; 2 * BEFORE_LAST + WORD_SIZE + 1] = [
 ];
 
 // Whether the bytes of a field are zeros behind the first `len`. The field begins at a place of the slot and has a
-// number of whole words, at most four.
+// number of whole words, no more than the value's.
 #[inline(always)]
 pub(crate) fn is_padded(slot: &[u8; SLOT_SIZE], at: usize, words: usize, len: usize) -> bool
-    requires field { at + 8 * words ≤ SLOT_SIZE }
-    requires few { words ≤ 4 }
-    requires within { len ≤ 8 * words }
-    ensures { IsTrue result ↔ AreZeros slot.now (at + len) (at + 8 * words) }
+    requires field { at + WORD_SIZE * words ≤ SLOT_SIZE }
+    requires few { WORD_SIZE * words ≤ MAX_VALUE_LEN }
+    requires within { len ≤ WORD_SIZE * words }
+    ensures { IsTrue result ↔ AreZeros slot.now (at + len) (at + WORD_SIZE * words) }
 {
     for i in 0..words {
         let passed = i * WORD_SIZE;
@@ -95,9 +97,9 @@ pub(crate) fn is_padded(slot: &[u8; SLOT_SIZE], at: usize, words: usize, len: us
 // from `BEFORE_LAST` bytes before.
 #[inline(always)]
 fn word_is_padded(slot: &[u8; SLOT_SIZE], at: usize, reach: usize) -> bool
-    requires word { at + 8 ≤ SLOT_SIZE }
-    requires reach { reach ≤ 56 }
-    ensures { IsTrue result ↔ AreZeros slot.now (at + (reach - 24)) (at + 8) }
+    requires word { at + WORD_SIZE ≤ SLOT_SIZE }
+    requires reach { reach ≤ 2 * BEFORE_LAST + WORD_SIZE }
+    ensures { IsTrue result ↔ AreZeros slot.now (at + (reach - BEFORE_LAST)) (at + WORD_SIZE) }
 {
     let word = u64::from_le_bytes([
         slot[at],
@@ -114,8 +116,8 @@ fn word_is_padded(slot: &[u8; SLOT_SIZE], at: usize, reach: usize) -> bool
 
 #[inline(always)]
 fn greatest(reach: usize) -> u64
-    requires { reach ≤ 56 }
-    ensures { result + 1 ≡ limit (min (reach - 24) 8) }
+    requires { reach ≤ 2 * BEFORE_LAST + WORD_SIZE }
+    ensures { result + 1 ≡ limit (min (reach - BEFORE_LAST) WORD_SIZE) }
 {
     GREATEST[reach]
 }

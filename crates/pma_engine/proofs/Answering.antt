@@ -27,7 +27,7 @@ use Rattle.pma_engine.specs.declared.fault.ServeFault.TheVariants as serve
 use Rattle.pma_engine.specs.Costs.{Travels, LooksFar}
 use Rattle.pma_engine.specs.Faults.{fault_of, is_of_store, closes, IsLineFault, IsNoScriptFault}
 use Rattle.pma_engine.specs.Replies.{tells_change, ChangesNothing}
-use Rattle.pma_engine.specs.Carrying.{hmax_of, IsCarriedOut, IsOneLine, Looks, Stays, Executes, AnswersLine}
+use Rattle.pma_engine.specs.Carrying.{hmax_of, IsCarriedOut, IsOneLine, Looks, Stays, IsMetBy, IsMetOnLine, Executes, AnswersLine}
 use Rattle.pma_engine.proofs.StoreLaws.{held_stands, nothing_says, looks_same}
 
 -- the text of a reply of one line is the reply
@@ -121,6 +121,7 @@ module _ (c : Command) (one : IsOneLine c) (s t : StoreView) (a b : View) (law :
     closed = tt;
     disk = λ is. absurd cc;
     reply = λ is. absurd cc;
+    early = tt;
     sound = tt;
     never = tt;
   }
@@ -140,6 +141,7 @@ module _ (c : Command) (one : IsOneLine c) (s t : StoreView) (a b : View) (law :
     closed = e.closed ∙ sym (closes_one c (fault_of fault) one ∙ of_store fault);
     disk = λ is. e.failed (ap Err (failed_of fault is));
     reply = λ is. absurd (neither fault (inr is));
+    early = met fault e.early;
     sound = λ told. line_fault fault (e.sound told);
     never = no_script fault;
   }
@@ -155,6 +157,10 @@ module _ (c : Command) (one : IsOneLine c) (s t : StoreView) (a b : View) (law :
       line_fault : (fault : StoreFault) → fault ≡ store.Failed → IsLineFault (fault_of fault)
       line_fault store.Failed is = tt
       line_fault (store.Damaged segment why) is = absurd cc
+
+      met : (fault : StoreFault) → IsMetBy (update_of c) s.tally a b fault → IsMetOnLine (update_of c) s.tally a b (fault_of fault)
+      met store.Failed is = tt
+      met (store.Damaged segment why) is = is
 
       no_script : (fault : StoreFault) → IsNoScriptFault (fault_of fault)
       no_script store.Failed = tt
@@ -213,6 +219,7 @@ module _ (c : Command) (one : IsOneLine c) (s t : StoreView) (a b : View) (law :
       closed = tt;
       disk = λ is. absurd cc;
       reply = λ is. absurd cc;
+      early = tt;
       sound = tt;
       never = tt;
     }
@@ -232,6 +239,7 @@ module _ (c : Command) (one : IsOneLine c) (s t : StoreView) (a b : View) (law :
       closed = e.done.opened ∙ sym (closes_one c serve.Reply one);
       disk = λ is. absurd cc;
       reply = λ is. omega (arith, rose, e.steps.frame.say_faults);
+      early = tt;
       sound = λ told. tt;
       never = tt;
     }

@@ -1,5 +1,5 @@
 -- What the answer to a range comes to.
-use Rattle.std.proofs.Common.{◌≡◌, ◌⊎◌, inl, inr, ℕ, ◌+◌, ◌-◌, ◌/◌, ◌≤◌, false, List, [], ◌∷◌, ◌++◌, length, take, map, Option, Result, refl, sym, ◌∙◌, ap, subst, arith, append_assoc, length-append}
+use Rattle.std.proofs.Common.{◌≡◌, ◌⊎◌, inl, inr, ℕ, ◌+◌, ◌-◌, ◌/◌, ◌≤◌, false, List, [], ◌∷◌, ◌++◌, length, take, map, Option, None, Result, Ok, Err, refl, sym, ◌∙◌, ap, subst, arith, append_assoc, length-append}
 use Rattle.std.specs.Prelude.{IsOk, IsErrOf, IfErr, OnOk}
 use Rattle.std.specs.List.{flat_map}
 use Rattle.std.specs.FinMap.{entries}
@@ -17,9 +17,10 @@ use Rattle.command_text.specs.Reply.{reply_text}
 use Rattle.command_text.specs.declared.command.Command.TheVariants.{Range}
 use Rattle.command_text.specs.declared.reply.Reply.{Reply}
 use Rattle.command_text.specs.declared.reply.Reply.TheVariants as reply
+use Rattle.window_tally.specs.View.{TallyView}
 use Rattle.pma_store.specs.Answers.{state_in}
 use Rattle.pma_store.specs.Store.{StoreView, Stands}
-use Rattle.pma_engine.specs.Carrying.{hmax_of, IsCarriedOut, Looks, AnswersLine}
+use Rattle.pma_engine.specs.Carrying.{hmax_of, IsCarriedOut, Looks, IsMetOnLine, AnswersLine}
 use Rattle.pma_engine.specs.Costs.{Walks}
 use Rattle.pma_engine.specs.Faults.{IsLineFault, IsNoScriptFault}
 use Rattle.pma_engine.specs.Ranging.{IsFront, SaysFront, row_text}
@@ -58,6 +59,15 @@ nothing_front {a} {d} {text} law law_d nothing front honest image left =
     by : Honest a → a.may_have_left a.calls image d.said ⊎ IsFront a.held a.said text image d.said → image ≡ a.held
     by honest_a (inl past) = nothing honest_a image (law.present honest_a image d.said past).0
     by honest_a (inr now) = now.image_is
+
+-- a command that is no update
+no_update : {T : Type 0} (r : Result T ServeFault) (t : TallyView) (a b : View) → IfErr r (IsMetOnLine None t a b)
+no_update (Ok x) t a b = tt
+no_update (Err serve.Disk) t a b = tt
+no_update (Err (serve.Damaged segment why)) t a b = tt
+no_update (Err serve.Script) t a b = tt
+no_update (Err serve.Reply) t a b = tt
+no_update (Err serve.Spent) t a b = tt
 
 module _ (s : StoreView) (low high : Option Bytes) (limit : ℕ) (a d : View) (law : Lawful a) (law_d : Lawful d) (here : EachHeld (Stands s) a) (nothing : NothingPending a) (open_yet : s.closed ≡ false) where
   answer_text : List ℕ
@@ -131,6 +141,7 @@ module _ (s : StoreView) (low high : Option Bytes) (limit : ℕ) (a d : View) (l
       closed = closed;
       disk = disk;
       reply = cut;
+      early = no_update result s.tally a d;
       sound = sound;
       never = never;
     }

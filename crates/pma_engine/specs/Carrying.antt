@@ -1,15 +1,20 @@
 -- What one command does to a store and to its station.
-use Rattle.std.specs.Prelude.{◌≡◌, ◌+◌, ◌≤◌, ◌⊎◌, ◌++◌, ℕ, List, false, Option, None, Result, is_err, IfOk, IfErr, OnOk, IsOk, IsErrOf}
+use Rattle.std.specs.Prelude.{◌≡◌, ◌+◌, ◌≤◌, ◌⊎◌, ◌++◌, ℕ, List, false, Option, Some, None, Result, is_err, IfOk, IfErr, OnOk, IsOk, IsErrOf}
 use Rattle.station.specs.View.{View, Told, SaidTold, EachHeld, NothingPending, Rose}
 use Rattle.station.specs.Steps.{Steps, Run}
 use Rattle.segment.specs.declared.fault.StoreFault.{StoreFault}
 use Rattle.segment.specs.declared.fault.StoreFault.TheVariants.{Failed}
+use Rattle.segment.specs.declared.fault.StoreFault.TheVariants as store
+use Rattle.header_gate.specs.Places.{height_limit}
+use Rattle.map_model.specs.Store.{Update}
+use Rattle.window_tally.specs.View.{TallyView}
 use Rattle.command_text.specs.Answers.{answers, reply_of, update_of}
 use Rattle.command_text.specs.ArraySession.{array_step}
 use Rattle.command_text.specs.declared.command.Command.{Command}
 use Rattle.command_text.specs.declared.command.Command.TheVariants.{Range, Probe}
 use Rattle.command_text.specs.declared.reply.Reply.{Reply}
 use Rattle.pma_store.specs.Answers.{state_in}
+use Rattle.pma_store.specs.Damaging.{IsMetFirst, change_in}
 use Rattle.pma_store.specs.Store.{StoreView, Stands, Becomes, LeavesAll}
 use Rattle.pma_engine.specs.Costs.{Travels, LooksFar, command_cost}
 use Rattle.pma_engine.specs.Faults.{IsLineFault, IsNoScriptFault, closes}
@@ -20,7 +25,7 @@ use Rattle.pma_engine.specs.declared.fault.ServeFault.TheVariants as serve
 
 -- the greatest height that the store may have, which its file's layout names
 abbrev pub hmax_of : StoreView → ℕ
-hmax_of s = s.place.layout.hmax
+hmax_of s = height_limit s.place.layout
 
 -- a command has one line of reply, or none: each but a range
 abbrev pub IsOneLine : Command → Type 0
@@ -53,6 +58,17 @@ pub record Stays (s t : StoreView) (a b : View) : Type 0 where
   pub looks : Looks a b
   pub store : t ≡ s
 
+-- The damage that an update met was met before anything was written, or behind what the update asked for first; a command
+-- that is no update writes nothing anyway.
+abbrev pub IsMetBy : Option Update → TallyView → View → View → StoreFault → Type 0
+IsMetBy None t a b fault = Unit {0}
+IsMetBy (Some u) t a b fault = IsMetFirst (change_in u) t a b fault
+
+-- the same of the fault of a line
+abbrev pub IsMetOnLine : Option Update → TallyView → View → View → ServeFault → Type 0
+IsMetOnLine u t a b (serve.Damaged segment why) = IsMetBy u t a b (store.Damaged segment why)
+IsMetOnLine u t a b _ = Unit {0}
+
 -- what carrying out a command on the store came to, before its reply is said
 pub record Executes (c : Command) (result : Result (Option Reply) StoreFault) (s t : StoreView) (a b : View) : Type 0 where
   pub answer : IfOk result (λ reply. Told a → lines_of reply ≡ answers (hmax_of s) (state_in s a.held) c)
@@ -63,6 +79,7 @@ pub record Executes (c : Command) (result : Result (Option Reply) StoreFault) (s
   pub travels : Travels c s a.travel b.travel
   pub layout : t.place.layout ≡ s.place.layout
   pub closed : t.closed ≡ is_err result
+  pub early : IfErr result (IsMetBy (update_of c) s.tally a b)
   pub sound : IfErr result (λ fault. Told a → fault ≡ Failed)
   pub failed : IsErrOf result Failed → Rose a.disk_faults b.disk_faults
 
@@ -81,5 +98,6 @@ pub record AnswersLine {T : Type 0} (c : Command) (result : Result T ServeFault)
   pub closed : IfErr result (λ fault. t.closed ≡ closes c fault)
   pub disk : IsErrOf result serve.Disk → Rose a.disk_faults b.disk_faults
   pub reply : IsErrOf result serve.Reply → Rose a.say_faults b.say_faults
+  pub early : IfErr result (IsMetOnLine (update_of c) s.tally a b)
   pub sound : IfErr result (λ fault. Told a → IsLineFault fault)
   pub never : IfErr result IsNoScriptFault

@@ -11,6 +11,7 @@ use Rattle.map_model.specs.Reasons.{reason_of}
 use Rattle.map_model.specs.Repairing.{repair}
 use Rattle.map_model.specs.Store.{Map}
 use Rattle.header_gate.specs.Header.{gate, layout_in}
+use Rattle.header_gate.specs.Places.{height_limit}
 use Rattle.header_gate.specs.Recovered.{recovered}
 use Rattle.header_gate.specs.declared.reason.Reason.{Reason}
 use Rattle.header_gate.specs.declared.reason.Reason.TheVariants.{Length}
@@ -60,7 +61,7 @@ IsRunStatus status = IsRest status ⊎ ((status ≡ REFUSED) ⊎ ((status ≡ DI
 
 -- the greatest height that the store of a file may have
 abbrev pub hmax_in : List ℕ → ℕ
-hmax_in image = (layout_in image).hmax
+hmax_in image = height_limit (layout_in image)
 
 -- the headline of a run that began on an image of a map, of a pair of an image and the bytes said
 abbrev pub RunHeadline : Map → ℕ → List ℕ → List Command → List ℕ → List ℕ → List ℕ → Type 0

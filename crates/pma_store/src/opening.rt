@@ -4,7 +4,7 @@ ghost use Rattle.std.specs.Prelude.{◌≡◌, ◌⊎◌, ◌+◌, ◌*◌, ◌�
 ghost use Rattle.station.specs.View.{Told, EachHeld, NothingPending, Rose};
 ghost use Rattle.station.specs.Steps.{Steps};
 ghost use Rattle.density_rule.specs.Marks.{no_marks};
-ghost use Rattle.header_gate.specs.Places.{file_length, segment_size};
+ghost use Rattle.header_gate.specs.Places.{file_length, segment_size, page_size};
 ghost use Rattle.header_gate.specs.Reasons.{header_reason};
 ghost use Rattle.map_model.specs.ArrayState.{opened_state};
 ghost use Rattle.map_model.specs.Image.{Represents, height_of, map_of};
@@ -55,7 +55,7 @@ impl Store {
         ensures memory_last { IsErrOf result OpenFault.Memory → NothingPending (S.view station.new) × (Told (S.view station.old) → header_reason (S.view station.old).held ≡ None) }
         ensures kept { Told (S.view station.old) → IsAtRest (S.view station.old).held → LeavesFile (S.view station.old) (S.view station.new) }
         ensures one_pass { Told (S.view station.old) → IsAtRest (S.view station.old).held →
-            (S.view station.new).travel.read ≤ (S.view station.old).travel.read + (4096 + segment_size * 2 ^ height_of (S.view station.old).held) }
+            (S.view station.new).travel.read ≤ (S.view station.old).travel.read + (page_size + segment_size * 2 ^ height_of (S.view station.old).held) }
 
         // Causes.
         ensures damaged { IfErr result (λ e. Told (S.view station.old) → IsNoDamage e) }

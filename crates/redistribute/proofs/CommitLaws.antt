@@ -26,7 +26,7 @@ use Rattle.map_model.proofs.Recovering.{kept, same_header, determined, represent
 use Rattle.redo_journal.specs.declared.place.Place.{Place}
 use Rattle.redo_journal.specs.Commit.{Commits, IsNamed, frame_byte}
 use Rattle.redo_journal.specs.Frames.{Batch}
-use Rattle.spread_plan.specs.declared.TheConstants.{SEGMENT_SLOTS}
+use Rattle.density_rule.specs.declared.TheConstants.{SEGMENT_SLOTS}
 use Rattle.spread_plan.specs.Stages.{FitSegments}
 use Rattle.segment_frames.specs.Standing.{IsSettledAt}
 use Rattle.redistribute.specs.Rearranged.{Rearranges}

@@ -5,7 +5,7 @@ use Rattle.std.proofs.lemmas.List.{length-map, map-append, take_all}
 use Rattle.map_model.specs.Array.{Array, rows, counts_of}
 use Rattle.map_model.specs.Image.{array_of}
 use Rattle.redo_journal.specs.declared.place.Place.{Place}
-use Rattle.spread_plan.specs.declared.TheConstants.{SEGMENT_SLOTS}
+use Rattle.density_rule.specs.declared.TheConstants.{SEGMENT_SLOTS}
 use Rattle.spread_plan.specs.Moves.{after_moves}
 use Rattle.spread_plan.specs.Plans.{full_counts, pack_moves, spread_moves}
 use Rattle.spread_plan.specs.States.{PlanView}

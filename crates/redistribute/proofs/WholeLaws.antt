@@ -11,7 +11,7 @@ use Rattle.map_model.proofs.Spreading.{length-spread_over, counts-spread_over}
 use Rattle.redo_journal.specs.declared.place.Place.{Place}
 use Rattle.redo_journal.specs.Frames.{Batch}
 use Rattle.spread_plan.specs.declared.Move.{Move}
-use Rattle.spread_plan.specs.declared.TheConstants.{SEGMENT_SLOTS}
+use Rattle.density_rule.specs.declared.TheConstants.{SEGMENT_SLOTS}
 use Rattle.spread_plan.specs.Moves.{after_moves, counts_moved}
 use Rattle.spread_plan.specs.Plans.{full_counts, pack_moves, spread_moves}
 use Rattle.spread_plan.proofs.Counts.{length-full}

@@ -7,7 +7,7 @@ ghost use Rattle.density_rule.specs.Spread.{shares};
 ghost use Rattle.header_gate.specs.Places.{IsLayout, file_length};
 ghost use Rattle.map_model.specs.Array.{Array, counts_of};
 ghost use Rattle.map_model.specs.Image.{array_of};
-ghost use Rattle.spread_plan.specs.declared.TheConstants.{SEGMENT_SLOTS};
+ghost use Rattle.density_rule.specs.declared.TheConstants.{SEGMENT_SLOTS};
 ghost use Rattle.spread_plan.specs.Moves.{after_moves};
 ghost use Rattle.segment_frames.specs.Lists.{held_lists, IsHeld, numbers_of};
 ghost use Rattle.segment_frames.specs.Standing.{IsSettledAt};

@@ -6,7 +6,7 @@ use Rattle.std.proofs.lemmas.List.FromFn.{length-map-range_with_len, get_or-map-
 use Rattle.density_rule.specs.Spread.{share, shares}
 use Rattle.density_rule.proofs.Shares.{length-shares, get_or-shares}
 use Rattle.spread_plan.specs.declared.Move.{Move}
-use Rattle.spread_plan.specs.declared.TheConstants.{SEGMENT_SLOTS}
+use Rattle.density_rule.specs.declared.TheConstants.{SEGMENT_SLOTS}
 use Rattle.spread_plan.specs.Moves.{counts_moved}
 use Rattle.spread_plan.specs.Plans.{full_counts}
 use Rattle.spread_plan.specs.States.{packing_counts, IsPacking, less_first, spreading_counts, IsSpreading}

@@ -5,7 +5,7 @@ use Rattle.std.proofs.lemmas.List.{length-append, length-map, length-reverse}
 use Rattle.density_rule.specs.Spread.{shares}
 use Rattle.density_rule.proofs.Shares.{length-shares}
 use Rattle.spread_plan.specs.declared.Move.{Move}
-use Rattle.spread_plan.specs.declared.TheConstants.{SEGMENT_SLOTS}
+use Rattle.density_rule.specs.declared.TheConstants.{SEGMENT_SLOTS}
 use Rattle.spread_plan.specs.Plans.{move_of, moves_between, pack_from, pack_moves, inverse_move, spread_moves}
 use Rattle.spread_plan.proofs.Packing.{move_of-none, move_of-some}
 

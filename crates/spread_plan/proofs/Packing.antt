@@ -4,7 +4,7 @@ use Rattle.std.proofs.lemmas.Bool.{cases_eq}
 use Rattle.std.proofs.lemmas.List.{length-append, length-drop, length-take-le}
 use Rattle.std.proofs.lemmas.List.Elements.{All-set}
 use Rattle.spread_plan.specs.declared.Move.{Move}
-use Rattle.spread_plan.specs.declared.TheConstants.{SEGMENT_SLOTS}
+use Rattle.density_rule.specs.declared.TheConstants.{SEGMENT_SLOTS}
 use Rattle.spread_plan.specs.Moves.{records_of, counts_of, list_at, after_move, after_move_left, after_moves}
 use Rattle.spread_plan.specs.Stages.{IsStage, CanMoveLeft, AllStages}
 use Rattle.spread_plan.specs.Plans.{full_counts, move_of, moves_between}

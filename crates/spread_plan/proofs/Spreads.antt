@@ -8,7 +8,7 @@ use Rattle.std.proofs.Math.Nat.{add-mul}
 use Rattle.density_rule.specs.Spread.{share, shares}
 use Rattle.density_rule.proofs.Quotients.{part_at_most}
 use Rattle.density_rule.proofs.Shares.{length-shares, get_or-shares, sum-shares}
-use Rattle.spread_plan.specs.declared.TheConstants.{SEGMENT_SLOTS}
+use Rattle.density_rule.specs.declared.TheConstants.{SEGMENT_SLOTS}
 use Rattle.spread_plan.specs.Moves.{records_of, counts_of, after_moves}
 use Rattle.spread_plan.specs.Stages.{FitSegments, IsStage, CanMoveLeft, CanMoveRight, AllStages}
 use Rattle.spread_plan.specs.Plans.{full_counts, pack_moves, spread_moves}

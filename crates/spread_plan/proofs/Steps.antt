@@ -7,7 +7,7 @@ use Rattle.density_rule.specs.Spread.{share, shares}
 use Rattle.density_rule.proofs.Quotients.{div_rises}
 use Rattle.density_rule.proofs.Shares.{length-shares, get_or-shares, total-shares}
 use Rattle.spread_plan.specs.declared.Move.{Move}
-use Rattle.spread_plan.specs.declared.TheConstants.{SEGMENT_SLOTS}
+use Rattle.density_rule.specs.declared.TheConstants.{SEGMENT_SLOTS}
 use Rattle.spread_plan.specs.Plans.{moves_between, pack_from, pack_moves, inverse_move, inverse_moves, spread_moves}
 use Rattle.spread_plan.specs.States.{moves_to_pack, IsPacking, moves_to_spread, IsSpreading}
 use Rattle.spread_plan.proofs.Fewness.{moves_between-none}

@@ -3,7 +3,7 @@ use Rattle.std.specs.Prelude.{ℕ, ◌+◌, ◌-◌, ◌*◌, ◌/◌, min, ◌=
 use Rattle.std.specs.List.{range_with_len}
 use Rattle.density_rule.specs.Spread.{shares}
 use Rattle.spread_plan.specs.declared.Move.{Move}
-use Rattle.spread_plan.specs.declared.TheConstants.{SEGMENT_SLOTS}
+use Rattle.density_rule.specs.declared.TheConstants.{SEGMENT_SLOTS}
 
 -- the counts of m segments that hold n records with no gap: all full but the last used one
 abbrev pub full_counts : ℕ → ℕ → List ℕ

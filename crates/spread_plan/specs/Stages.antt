@@ -1,7 +1,7 @@
 -- What is kept while moves are made one after another.
 use Rattle.std.specs.Prelude.{◌≡◌, ◌+◌, ◌<◌, ◌≤◌, List, [], ◌∷◌, length, All}
 use Rattle.spread_plan.specs.declared.Move.{Move}
-use Rattle.spread_plan.specs.declared.TheConstants.{SEGMENT_SLOTS}
+use Rattle.density_rule.specs.declared.TheConstants.{SEGMENT_SLOTS}
 use Rattle.spread_plan.specs.Moves.{records_of, list_at, after_move}
 
 -- no list has more records than a segment has room for

@@ -3,7 +3,7 @@ use Rattle.std.specs.Prelude.{◌≡◌, ℕ, zero, suc, ◌+◌, ◌-◌, ◌*�
 use Rattle.std.specs.Iterator.{YieldsFirst}
 use Rattle.density_rule.specs.Spread.{shares}
 use Rattle.spread_plan.specs.declared.Move.{Move}
-use Rattle.spread_plan.specs.declared.TheConstants.{SEGMENT_SLOTS}
+use Rattle.density_rule.specs.declared.TheConstants.{SEGMENT_SLOTS}
 use Rattle.spread_plan.specs.Moves.{counts_moved}
 use Rattle.spread_plan.specs.Plans.{full_counts, moves_between, pack_from, pack_moves, inverse_moves}
 

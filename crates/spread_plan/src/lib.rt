@@ -10,7 +10,9 @@
 
 ghost use Rattle.std.specs.Prelude.{◌≡◌, ◌+◌, ◌-◌, ◌*◌, ◌/◌, ◌^◌, ◌<◌, ◌≤◌, min};
 ghost use Rattle.density_rule.specs.Spread.{share as share_of};
-ghost use Rattle.spread_plan.specs.declared.TheConstants.{SEGMENT_SLOTS};
+ghost use Rattle.density_rule.specs.declared.TheConstants.{SEGMENT_SLOTS};
+
+use density_rule::SEGMENT_SLOTS;
 
 pub use laws::{packs_segments, spreads_segments};
 pub use pack::PackMoves;
@@ -19,9 +21,6 @@ pub use spread::SpreadMoves;
 mod laws;
 mod pack;
 mod spread;
-
-/// How many records a segment has room for.
-pub const SEGMENT_SLOTS: u32 = 64;
 
 /// Some records of one segment go to another, and stay in order: to a lower segment the first ones, at its end; to a
 /// higher segment the last ones, at its front.

@@ -2,7 +2,7 @@
 
 ghost use Rattle.std.specs.Prelude.{◌≡◌, ℕ, ◌^◌, ◌<◌, ◌≤◌, All, length, slice_index};
 ghost use Rattle.std.specs.Iterator.{item_count};
-ghost use Rattle.spread_plan.specs.declared.TheConstants.{SEGMENT_SLOTS};
+ghost use Rattle.density_rule.specs.declared.TheConstants.{SEGMENT_SLOTS};
 ghost use Rattle.spread_plan.specs.Plans.{pack_moves};
 ghost use Rattle.spread_plan.specs.States.{GivesMove, coming};
 

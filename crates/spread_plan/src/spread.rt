@@ -3,7 +3,7 @@
 ghost use Rattle.std.specs.Prelude.{◌≡◌, ◌*◌, ◌^◌, ◌<◌, ◌≤◌, [], length, slice_index};
 ghost use Rattle.std.specs.Iterator.{item_count};
 ghost use Rattle.density_rule.specs.Spread.{shares};
-ghost use Rattle.spread_plan.specs.declared.TheConstants.{SEGMENT_SLOTS};
+ghost use Rattle.density_rule.specs.declared.TheConstants.{SEGMENT_SLOTS};
 ghost use Rattle.spread_plan.specs.Plans.{full_counts, spread_moves};
 ghost use Rattle.spread_plan.specs.States.{GivesMove, coming};
 

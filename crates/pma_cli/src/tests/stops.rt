@@ -129,7 +129,24 @@ fn see_opened_after_stops(
     Err("the opening makes more calls".into())
 }
 
-// Fails each call of a session in turn.
+// Sees that a session makes no call from this one on.
+fn see_no_call_from(
+    rt: &impl Abort,
+    alloc: Global,
+    file: &[u8],
+    line: &[u8],
+    call: u32,
+) -> Result<(), Fail> {
+    let plan = Plan {
+        stop: Some(call),
+        ..SMOOTH
+    };
+    let (status, _) = session(alloc, file, line, plan)?;
+    assert_eq!(rt; status, 0);
+    Ok(())
+}
+
+// Fails each call of a session in turn. None of them is tried again.
 fn see_faults(
     rt: &impl Abort,
     alloc: Global,
@@ -145,7 +162,7 @@ fn see_faults(
         };
         let (status, failed) = session(alloc, file, line, plan)?;
         if status == 0 {
-            return Ok(());
+            return see_no_call_from(rt, alloc, file, line, call);
         }
         assert!(rt; status == 4 || status == 6);
         see_opened_after_stops(rt, alloc, failed.held(), maps, status == 6)?;

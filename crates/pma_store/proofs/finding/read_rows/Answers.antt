@@ -3,6 +3,10 @@ use Rattle.std.proofs.Math.Pow.{pow_mono}
 use Rattle.key_slot.specs.Segment.{IsSegment}
 use Rattle.segment.specs.Judged.{damage_of}
 use Rattle.pma_store.proofs.Standing.{read_is, undamaged}
+use Rattle.pma_store.proofs.Damages.{damage_tells}
+use Rattle.pma_store.specs.Looking.{TellsCount}
+use Rattle.key_slot.specs.Segment.{first_bad_slot, segment_of}
+use Rattle.std.specs.Prelude.{length}
 use Rattle.pma_store.proofs.finding.read_rows.Goals as goal
 
 pub read_page-requires-clause-segment : goal.read_page-requires-clause-segment
@@ -22,3 +26,10 @@ returns-in-Err-clause-damaged g c told =
     let read : damage_of c.read_page.new.page c.kept_count.result ≡ None = (λ t. damage_of (c.in-Ok.ensures.bytes told t) (c.kept_count.ensures t)) ∙ none in
     let both : None ≡ Some bad.0 = sym read ∙ bad.1 in
     cc
+
+pub returns-in-Err-clause-counted : goal.returns-in-Err-clause-counted
+returns-in-Err-clause-counted g c =
+    let counts = c.args.tally.now.counts in
+    let page = c.read_page.new.page in
+    let bad = c.in-Err.ensures.damage in
+    subst (TellsCount counts) (sym bad.2) (damage_tells counts c.args.segment (length (segment_of page)) c.kept_count.result (first_bad_slot page) bad.0 c.kept_count.ensures bad.1)

@@ -11,7 +11,7 @@ use Rattle.segment.specs.Rows.{key_at}
 use Rattle.map_model.specs.Array.{segment_at, spread}
 use Rattle.map_model.specs.Image.{array_of}
 use Rattle.window_tally.specs.View.{TallyView}
-use Rattle.spread_plan.specs.declared.TheConstants.{SEGMENT_SLOTS}
+use Rattle.density_rule.specs.declared.TheConstants.{SEGMENT_SLOTS}
 use Rattle.segment_frames.specs.Standing.{IsSettledAt, StandsFor}
 use Rattle.redistribute.specs.Moving.{all_moved}
 use Rattle.redistribute.specs.Windows.{run_of, spread_at, moves_over, HasWindow}

@@ -6,6 +6,8 @@ use Rattle.map_model.specs.Store.{map_after}
 use Rattle.pma_store.specs.Store.{Becomes}
 use Rattle.pma_store.specs.Updating.{update_of}
 use Rattle.pma_store.proofs.Steps.{same_keeps, keeps_then, own_of, leaves_on}
+use Rattle.pma_store.proofs.Damages.{first_early, early_on}
+use Rattle.pma_store.specs.Damaging.{change_in}
 use Rattle.pma_store.proofs.store.Store.apply.Goals as goal
 
 pub apply_at-requires-clause-nothing : goal.apply_at-requires-clause-nothing
@@ -26,3 +28,10 @@ returns-in-Ok-clause-steps g c =
 
 pub returns-in-Ok-clause-unchanged : goal.returns-in-Ok-clause-unchanged
 returns-in-Ok-clause-unchanged g c = IfOk-weaker c.apply_at.result _ _ (λ done leaves is. leaves_on c.find_spot.ensures.steps c.find_spot.ensures.unwritten (leaves is)) c.apply_at.ensures.unchanged
+
+pub returns-in-Err-clause-early : goal.returns-in-Err-clause-early
+returns-in-Err-clause-early g c =
+    first_early (change_in (update_of c.args.update.now)) c.args.self.now.tally (g.S.Station.view c.args.station.now) (g.S.Station.view c.find_spot.new.station) c.in-Err.fault c.in-Err.ensures.counted c.find_spot.ensures.unwritten
+
+pub returns-in-Ok-clause-early : goal.returns-in-Ok-clause-early
+returns-in-Ok-clause-early g c = early_on c.apply_at.result (change_in (update_of c.args.update.now)) c.args.self.now.tally (g.S.Station.view c.args.station.now) (g.S.Station.view c.find_spot.new.station) (g.S.Station.view c.apply_at.new.station) c.find_spot.ensures.unwritten c.apply_at.ensures.early

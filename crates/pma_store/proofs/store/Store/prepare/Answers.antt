@@ -17,6 +17,8 @@ use Rattle.pma_store.proofs.Outcomes.{records_are, rows_len}
 use Rattle.pma_store.proofs.Picks.{low_of, near_of}
 use Rattle.pma_store.proofs.Steps.{keeps_on, own_of, on_ok_too, all_spots}
 use Rattle.pma_store.proofs.store.Store.prepare.Goals as goal
+use Rattle.pma_store.proofs.Damages.{asked_first, on_err_too}
+use Rattle.pma_store.specs.Readying.{broken_in}
 use Rattle.pma_store.proofs.store.Store.prepare.Goals.{After-make_ready}
 
 stands : (g : _) (c : After-make_ready g) → Told (g.S.Station.view c.args.station.now) → Stands c.args.self.now (g.S.Station.view c.args.station.now).held
@@ -67,3 +69,17 @@ returns-in-Ok-clause-ready g c =
       is_spot = spot;
       needs = needs;
     })
+
+pub returns-in-Ok-clause-asks : goal.returns-in-Ok-clause-asks
+returns-in-Ok-clause-asks g c =
+    let t = c.args.self.now.tally in
+    let some : c.args.pick ≡ Fits → ⊥ = first_of (search rules, grind (arith, common_steps)) in
+    on_err_too c.find_again.result (asked_first t.hmax t.height c.args.spot.segment c.args.change (broken_in c.args.change c.args.spot.segment t) c.args.pick c.requires.pick some)
+
+pub returns-in-Err-clause-asks : goal.returns-in-Err-clause-asks
+returns-in-Err-clause-asks g c =
+    let t = c.args.self.now.tally in
+    let some : c.args.pick ≡ Fits → ⊥ = first_of (search rules, grind (arith, common_steps)) in
+    asked_first t.hmax t.height c.args.spot.segment c.args.change (broken_in c.args.change c.args.spot.segment t) c.args.pick c.requires.pick some
+
+

@@ -1,5 +1,5 @@
 use Rattle.std.proofs.Common.{◌≡◌, ◌+◌, ◌-◌, ◌/◌, List, ◌∷◌, ℕ, subst, sym, ap, ◌∙◌, ◌<◌, arith}
-use Rattle.spread_plan.specs.declared.TheConstants.{SEGMENT_SLOTS}
+use Rattle.density_rule.specs.declared.TheConstants.{SEGMENT_SLOTS}
 use Rattle.spread_plan.specs.Moves.{counts_moved}
 use Rattle.spread_plan.specs.States.{PlanView, IsPacking, moves_to_pack, packing_view}
 use Rattle.spread_plan.proofs.Counts.{counts_on, packing_moved}

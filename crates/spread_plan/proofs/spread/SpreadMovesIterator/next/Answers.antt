@@ -1,5 +1,5 @@
 use Rattle.std.proofs.Common.{◌-◌, ◌<◌, ◌/◌, length, ap, subst, sym, ◌∙◌, arith, refl, rules}
-use Rattle.spread_plan.specs.declared.TheConstants.{SEGMENT_SLOTS}
+use Rattle.density_rule.specs.declared.TheConstants.{SEGMENT_SLOTS}
 use Rattle.spread_plan.specs.Moves.{counts_moved}
 use Rattle.spread_plan.specs.States.{PlanView, IsSpreading, moves_to_spread}
 use Rattle.spread_plan.proofs.Counts.{counts_spread_on, spreading_moved}
