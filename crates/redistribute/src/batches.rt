@@ -3,7 +3,7 @@
 ghost use Rattle.std.specs.Prelude.{◌≡◌, ◌+◌, ◌*◌, ◌^◌, ◌<◌, ◌≤◌, length, take, OnOk, IfErr, IsErrOf};
 ghost use Rattle.station.specs.View.{Told, EachHeld, NothingPending, Rose};
 ghost use Rattle.station.specs.Steps.{Steps};
-ghost use Rattle.header_gate.specs.Places.{IsLayout, file_length};
+ghost use Rattle.header_gate.specs.Places.{IsLayout, file_length, segment_size};
 ghost use Rattle.map_model.specs.Image.{array_of};
 ghost use Rattle.spread_plan.specs.Moves.{after_moves};
 ghost use Rattle.spread_plan.specs.States.{coming};
@@ -47,6 +47,7 @@ pub(crate) fn make_batches<S: Station, P: Plan>(
     ensures after { OnOk result (Told (S.view station.old) →
         array_of (S.view station.new).held ≡ after_moves (in_store first (coming (P.plan plan.old))) (array_of (S.view station.old).held)) }
     ensures cost { (S.view station.new).travel.written ≤ (S.view station.old).travel.written + 16398 * length (coming (P.plan plan.old)) }
+    ensures reads { (S.view station.new).travel.read ≤ (S.view station.old).travel.read + segment_size * (2 * length (coming (P.plan plan.old))) }
     ensures journal { frames.new.journal ≡ frames.old.journal }
     ensures damaged { IfErr result (λ fault. Told (S.view station.old) → fault ≡ StoreFault.Failed) }
     ensures cause { IfErr result (IsShown frames.new first (P.plan plan.old).moves (P.plan plan.old).counts) }
@@ -83,6 +84,7 @@ fn move_batch<S: Station, P: Plan>(
         array_of (S.view station.new).held ≡ after_moves (in_store first (take group.moves (coming (P.plan plan.old)))) (array_of (S.view station.old).held)) }
     ensures cost { (S.view station.new).travel.written ≤
         (S.view station.old).travel.written + (8196 * (group.runs.low_len + group.runs.high_len) + 6) }
+    ensures reads { (S.view station.new).travel.read ≤ (S.view station.old).travel.read + segment_size * (group.runs.low_len + group.runs.high_len) }
     ensures journal { frames.new.journal ≡ frames.old.journal }
     ensures damaged { IfErr result (λ fault. Told (S.view station.old) → fault ≡ StoreFault.Failed) }
     ensures cause { IfErr result (IsShown frames.new first (P.plan plan.old).moves (P.plan plan.old).counts) }

@@ -36,6 +36,7 @@ pub(crate) fn commit_batch<S: Station>(
         Redone frames.old.numbers (held_lists frames.old) (array_of (S.view station.old).held) after →
         array_of (S.view station.new).held ≡ after) }
     ensures cost { (S.view station.new).travel.written ≤ (S.view station.old).travel.written + (8196 * length frames.old.numbers + 6) }
+    ensures no_reads { (S.view station.new).travel.read ≡ (S.view station.old).travel.read }
     ensures frames { frames.new ≡ frames.old }
     ensures fault { IfErr result (λ fault. fault ≡ StoreFault.Failed) }
     ensures failed { IsErrOf result StoreFault.Failed → Rose (S.view station.old).disk_faults (S.view station.new).disk_faults }

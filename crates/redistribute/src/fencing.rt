@@ -1,10 +1,10 @@
 //! The fences of a window that was spread.
 
-ghost use Rattle.std.specs.Prelude.{◌≡◌, ◌⊎◌, ◌+◌, ◌^◌, ◌<◌, ◌≤◌, ℕ, [], All, length, OnOk, IfErr, IsErrOf, IsSome};
+ghost use Rattle.std.specs.Prelude.{◌≡◌, ◌⊎◌, ◌+◌, ◌*◌, ◌^◌, ◌<◌, ◌≤◌, ℕ, [], All, length, OnOk, IfErr, IsErrOf, IsSome};
 ghost use Rattle.station.specs.Bytes.{Same};
 ghost use Rattle.station.specs.View.{Told, EachHeld, Rose};
 ghost use Rattle.station.specs.Steps.{Steps};
-ghost use Rattle.header_gate.specs.Places.{IsLayout, file_length};
+ghost use Rattle.header_gate.specs.Places.{IsLayout, file_length, segment_size};
 ghost use Rattle.map_model.specs.Array.{counts_of, segment_at};
 ghost use Rattle.map_model.specs.Image.{array_of};
 ghost use Rattle.segment.specs.Rows.{key_at};
@@ -55,6 +55,8 @@ pub(crate) fn fence_window<S: Station, F: Fences, P: Plan>(
     ensures same_room { F.room fences.new ≡ F.room fences.old }
     ensures steps { Steps Same (S.view station.old) (S.view station.new) }
     ensures unwritten { (S.view station.new).travel.written ≡ (S.view station.old).travel.written }
+    ensures reads { (S.view station.new).travel.read ≤ (S.view station.old).travel.read + segment_size * count }
+    ensures unread { count ≤ place.now.layout.journal → (S.view station.new).travel.read ≡ (S.view station.old).travel.read }
     ensures journal { frames.new.journal ≡ frames.old.journal }
     ensures damaged { IfErr result (λ fault. Told (S.view station.old) → fault ≡ StoreFault.Failed) }
     ensures cause { IfErr result (IsShown frames.new first [] (P.plan plan.now).counts) }
@@ -95,6 +97,7 @@ fn read_fences<S: Station, F: Fences, P: Plan>(
     ensures same_room { F.room fences.new ≡ F.room fences.old }
     ensures steps { Steps Same (S.view station.old) (S.view station.new) }
     ensures unwritten { (S.view station.new).travel.written ≡ (S.view station.old).travel.written }
+    ensures reads { (S.view station.new).travel.read ≤ (S.view station.old).travel.read + segment_size * count }
     ensures journal { frames.new.journal ≡ frames.old.journal }
     ensures damaged { IfErr result (λ fault. Told (S.view station.old) → fault ≡ StoreFault.Failed) }
     ensures cause { IfErr result (IsShown frames.new first [] (P.plan plan.now).counts) }
@@ -139,6 +142,7 @@ fn read_part<S: Station, F: Fences, P: Plan>(
     ensures same_room { F.room fences.new ≡ F.room fences.old }
     ensures steps { Steps Same (S.view station.old) (S.view station.new) }
     ensures unwritten { (S.view station.new).travel.written ≡ (S.view station.old).travel.written }
+    ensures reads { (S.view station.new).travel.read ≤ (S.view station.old).travel.read + segment_size * runs.low_len }
     ensures journal { frames.new.journal ≡ frames.old.journal }
     ensures damaged { IfErr result (λ fault. Told (S.view station.old) → fault ≡ StoreFault.Failed) }
     ensures cause { IfErr result (IsShown frames.new first [] (P.plan plan.now).counts) }

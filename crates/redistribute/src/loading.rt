@@ -1,10 +1,10 @@
 //! The segments of a batch are read and judged.
 
-ghost use Rattle.std.specs.Prelude.{◌≡◌, ◌+◌, ◌^◌, ◌<◌, ◌≤◌, [], length, OnOk, IfErr, IsErrOf};
+ghost use Rattle.std.specs.Prelude.{◌≡◌, ◌+◌, ◌*◌, ◌^◌, ◌<◌, ◌≤◌, [], length, OnOk, IfErr, IsErrOf};
 ghost use Rattle.station.specs.Bytes.{Same};
 ghost use Rattle.station.specs.View.{Told, EachHeld, Rose};
 ghost use Rattle.station.specs.Steps.{Steps};
-ghost use Rattle.header_gate.specs.Places.{IsLayout, file_length};
+ghost use Rattle.header_gate.specs.Places.{IsLayout, file_length, segment_size};
 ghost use Rattle.map_model.specs.Image.{array_of};
 ghost use Rattle.redo_journal.specs.Frames.{IsFrames};
 ghost use Rattle.segment_frames.specs.Lists.{held_lists, IsHeld, shown, numbers_of};
@@ -46,6 +46,7 @@ pub(crate) fn load<S: Station, P: Plan>(
         held_lists frames.new ≡ shown (numbers_of runs) (array_of (S.view station.old).held)) }
     ensures steps { Steps Same (S.view station.old) (S.view station.new) }
     ensures unwritten { (S.view station.new).travel.written ≡ (S.view station.old).travel.written }
+    ensures reads { (S.view station.new).travel.read ≤ (S.view station.old).travel.read + segment_size * (runs.low_len + runs.high_len) }
     ensures damaged { IfErr result (λ fault. Told (S.view station.old) → fault ≡ StoreFault.Failed) }
     ensures cause { IfErr result (IsShown frames.new first [] (P.plan plan.now).counts) }
     ensures failed { IsErrOf result StoreFault.Failed → Rose (S.view station.old).disk_faults (S.view station.new).disk_faults }

@@ -3,7 +3,7 @@
 ghost use Rattle.std.specs.Prelude.{◌≡◌, ◌⊎◌, ◌+◌, ◌-◌, ◌*◌, ◌^◌, ◌<◌, ◌≤◌, ℕ, OnOk, OnErr, IfErr, IsErrOf, IsSome};
 ghost use Rattle.station.specs.View.{Told, EachHeld, NothingPending, Rose};
 ghost use Rattle.station.specs.Steps.{Steps};
-ghost use Rattle.header_gate.specs.Places.{IsLayout, file_length};
+ghost use Rattle.header_gate.specs.Places.{IsLayout, file_length, segment_size};
 ghost use Rattle.density_rule.specs.Bounds.{IsInBounds};
 ghost use Rattle.density_rule.specs.Windows.{IsWindow, count_in};
 ghost use Rattle.density_rule.specs.Spread.{spread_counts};
@@ -76,6 +76,9 @@ pub fn rebalance<S: Station, F: Fences>(
     ensures cost { (S.view station.new).travel.written ≤ (S.view station.old).travel.written + (4 * 2 ^ window.height - 2) * 16398 }
     ensures one_batch { 2 ^ window.height ≤ place.now.layout.journal →
         (S.view station.new).travel.written ≤ (S.view station.old).travel.written + (8196 * 2 ^ window.height + 6) }
+    ensures reads { (S.view station.new).travel.read ≤ (S.view station.old).travel.read + segment_size * (9 * 2 ^ window.height - 4) }
+    ensures read_once { 2 ^ window.height ≤ place.now.layout.journal →
+        (S.view station.new).travel.read ≤ (S.view station.old).travel.read + segment_size * 2 ^ window.height }
     ensures damaged { IfErr result (λ fault. Told (S.view station.old) → fault ≡ StoreFault.Failed) }
     ensures cause { let counts = counts_at tally.old.counts window.height window.number in
         IfErr result (IsShown frames.new (window.number * 2 ^ window.height) (moves_over counts) counts) }

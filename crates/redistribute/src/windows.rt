@@ -4,7 +4,7 @@ ghost use Rattle.std.specs.Prelude.{◌≡◌, ◌+◌, ◌-◌, ◌*◌, ◌^�
 ghost use Rattle.station.specs.View.{Told, EachHeld, NothingPending, Rose};
 ghost use Rattle.station.specs.Steps.{Steps};
 ghost use Rattle.density_rule.specs.Spread.{shares};
-ghost use Rattle.header_gate.specs.Places.{IsLayout, file_length};
+ghost use Rattle.header_gate.specs.Places.{IsLayout, file_length, segment_size};
 ghost use Rattle.map_model.specs.Array.{Array, counts_of};
 ghost use Rattle.map_model.specs.Image.{array_of};
 ghost use Rattle.density_rule.specs.declared.TheConstants.{SEGMENT_SLOTS};
@@ -63,6 +63,9 @@ pub fn spread_segments<S: Station>(
     ensures cost { (S.view station.new).travel.written ≤ (S.view station.old).travel.written + (4 * length counts.now - 2) * 16398 }
     ensures one_batch { length counts.now ≤ place.now.layout.journal →
         (S.view station.new).travel.written ≤ (S.view station.old).travel.written + (8196 * length counts.now + 6) }
+    ensures reads { (S.view station.new).travel.read ≤ (S.view station.old).travel.read + segment_size * (8 * length counts.now - 4) }
+    ensures read_once { length counts.now ≤ place.now.layout.journal →
+        (S.view station.new).travel.read ≤ (S.view station.old).travel.read + segment_size * length counts.now }
 
     // After one batch the frames hold the segments of the window.
     ensures held { OnOk result (length counts.now ≤ place.now.layout.journal → IsHeld frames.new) }
@@ -107,6 +110,7 @@ fn spread_whole<S: Station>(
     ensures after { OnOk result (Told (S.view station.old) →
         array_of (S.view station.new).held ≡ spread_at first (length counts.now) (array_of (S.view station.old).held)) }
     ensures cost { (S.view station.new).travel.written ≤ (S.view station.old).travel.written + (8196 * length counts.now + 6) }
+    ensures reads { (S.view station.new).travel.read ≤ (S.view station.old).travel.read + segment_size * length counts.now }
     ensures held { OnOk result (IsHeld frames.new) }
     ensures counts { OnOk result (counts_of (held_lists frames.new) ≡ shares records (length counts.now)) }
     ensures lists { OnOk result (Told (S.view station.old) →
@@ -171,6 +175,7 @@ fn spread_in_batches<S: Station>(
     ensures after { OnOk result (Told (S.view station.old) →
         array_of (S.view station.new).held ≡ spread_at first (length counts.now) (array_of (S.view station.old).held)) }
     ensures cost { (S.view station.new).travel.written ≤ (S.view station.old).travel.written + 65592 * (length counts.now - 1) }
+    ensures reads { (S.view station.new).travel.read ≤ (S.view station.old).travel.read + segment_size * (8 * (length counts.now - 1)) }
     ensures journal { frames.new.journal ≡ frames.old.journal }
     ensures damaged { IfErr result (λ fault. Told (S.view station.old) → fault ≡ StoreFault.Failed) }
     ensures cause { IfErr result (IsShown frames.new first (moves_over counts.now) counts.now) }

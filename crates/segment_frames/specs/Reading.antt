@@ -1,5 +1,7 @@
 -- Segments of a file that are read into frames, and what can be wrong with them.
-use Rattle.std.specs.Prelude.{◌≡◌, ℕ, ◌+◌, ◌<◌, ◌≤◌, ◌^◌, List, length, get_or, slice_range, Some}
+use Rattle.std.specs.Prelude.{◌≡◌, ℕ, ◌+◌, ◌*◌, ◌<◌, ◌≤◌, ◌^◌, ◌==◌, if◌then◌else◌, List, length, get_or, slice_range, Some}
+use Rattle.station.specs.View.{after_read}
+use Rattle.station.specs.declared.travel.Travel.{Travel}
 use Rattle.header_gate.specs.Places.{segment_size, segment_place}
 use Rattle.map_model.specs.Image.{height_of}
 use Rattle.redo_journal.specs.declared.place.Place.{Place}
@@ -18,6 +20,10 @@ segment_bytes_at place file n = slice_range file (segment_place place.layout pla
 -- the frames from f on hold the bytes of the segments from n on
 abbrev pub HasRead : Place → List ℕ → List (List ℕ) → ℕ → ℕ → ℕ → Type 0
 HasRead place file slots f n count = (i : ℕ) → i < count → page_at slots (f + i) ≡ segment_bytes_at place file (n + i)
+
+-- the travel after one read of so many segments from n on, or none where there are none
+abbrev pub after_run : Place → ℕ → ℕ → Travel → Travel
+after_run place n count t = if count == 0 then t else after_read (segment_place place.layout place.region n) (segment_size * count) t
 
 -- a settled image that has so many segments
 pub record HasSegments (place : Place) (count : ℕ) (image : List ℕ) : Type 0 where

@@ -1,15 +1,15 @@
 //! Segments of the live region are read into the frames of a batch.
 
-ghost use Rattle.std.specs.Prelude.{◌≡◌, ◌==◌, if◌then◌else◌, ℕ, ◌+◌, ◌*◌, ◌^◌, ◌<◌, ◌≤◌, [], length, get_or, OnOk, OnErr};
+ghost use Rattle.std.specs.Prelude.{◌≡◌, ◌⊎◌, ℕ, ◌+◌, ◌*◌, ◌^◌, ◌<◌, ◌≤◌, [], length, get_or, OnOk, OnErr};
 ghost use Rattle.station.specs.Bytes.{Same};
-ghost use Rattle.station.specs.View.{Told, EachHeld, Rose, after_read};
+ghost use Rattle.station.specs.View.{Told, EachHeld, Rose};
 ghost use Rattle.station.specs.Steps.{Steps};
 ghost use Rattle.key_slot.specs.declared.sizes.TheConstants.{SEGMENT_SLOTS};
-ghost use Rattle.header_gate.specs.Places.{IsLayout, file_length, segment_place, segment_size};
+ghost use Rattle.header_gate.specs.Places.{IsLayout, file_length};
 ghost use Rattle.redo_journal.specs.Commit.{IsAt};
 ghost use Rattle.redo_journal.specs.Frames.{IsFrames};
 ghost use Rattle.segment_frames.specs.Lists.{numbers_of, InOrder};
-ghost use Rattle.segment_frames.specs.Reading.{HasRead};
+ghost use Rattle.segment_frames.specs.Reading.{HasRead, after_run};
 
 use crate::runs::{Runs, start_batch};
 use key_slot::SEGMENT_SLOTS;
@@ -38,6 +38,10 @@ pub fn read_batch<S: Station>(
     ensures rest { frames.new ≡ record frames.old { numbers = numbers_of runs; slots = frames.new.slots } }
     ensures steps { Steps Same (S.view station.old) (S.view station.new) }
     ensures unwritten { (S.view station.new).travel.written ≡ (S.view station.old).travel.written }
+    ensures reads { let low = after_run place.now runs.low runs.low_len (S.view station.old).travel in
+        OnOk result ((S.view station.new).travel ≡ after_run place.now runs.high runs.high_len low) }
+    ensures part { let low = after_run place.now runs.low runs.low_len (S.view station.old).travel in
+        OnErr result (((S.view station.new).travel ≡ low) ⊎ ((S.view station.new).travel ≡ after_run place.now runs.high runs.high_len low)) }
     ensures cause { OnErr result (Rose (S.view station.old).disk_faults (S.view station.new).disk_faults) }
 {
     start_batch(frames, runs);
@@ -75,8 +79,7 @@ pub fn read_run<S: Station>(
     ensures rest { frames.new ≡ record frames.old { slots = frames.new.slots } }
     ensures steps { Steps Same (S.view station.old) (S.view station.new) }
     ensures unwritten { (S.view station.new).travel.written ≡ (S.view station.old).travel.written }
-    ensures reads { let before = (S.view station.old).travel in
-        (S.view station.new).travel ≡ (if count == 0 then before else after_read (segment_place place.now.layout place.now.region segment) (segment_size * count) before) }
+    ensures reads { (S.view station.new).travel ≡ after_run place.now segment count (S.view station.old).travel }
     ensures cause { OnErr result (Rose (S.view station.old).disk_faults (S.view station.new).disk_faults) }
 {
     if count == 0 {

@@ -13,6 +13,7 @@ use Rattle.map_model.specs.Array.{cut}
 use Rattle.range_scan.specs.ReaderView.{ReaderView}
 use Rattle.range_scan.specs.Reading.{page_in, page_fault, next_page}
 use Rattle.range_scan.specs.Checking.{LieAbove}
+use Rattle.range_scan.specs.Walk.{after_walk}
 use Rattle.range_scan.proofs.Walks.{walk_none}
 use Rattle.range_scan.proofs.Standing.{cut_size, read_is, page_fine, count_kept}
 use Rattle.range_scan.proofs.Amid.{sum_more}
@@ -117,6 +118,20 @@ returns-in_err-next_counted-clause-part g c =
       c.next_counted.new.reader.next,
       omega (arith, c.next_counted.ensures.is_reader.within, over.end_is, inv.checking.end_is),
       walk_from a.layout c.loop-rows.reader.layout a.region c.loop-rows.reader.region 0 c.loop-rows.reader.next c.next_counted.new.reader.next _ _ _ inv.checking.layout_is inv.checking.region_is inv.reads c.next_counted.ensures.reads (omega arith) (omega (arith, over.next_is)),
+    )
+
+pub returns-in_err-next_counted-clause-last : goal.returns-in_err-next_counted-clause-last
+returns-in_err-next_counted-clause-last g c =
+    let p = err_from_is_err_and c.from_residual.result c.from_residual.ensures.1 in
+    let a = c.args in
+    let inv = c.loop-rows.invariant in
+    let over = c.in_err-next_counted.ensures.after_fault in
+    let walked = walk_from a.layout c.loop-rows.reader.layout a.region c.loop-rows.reader.region 0 c.loop-rows.reader.next c.next_counted.new.reader.next _ _ _ inv.checking.layout_is inv.checking.region_is inv.reads c.next_counted.ensures.reads (omega arith) (omega (arith, over.next_is)) in
+    rw (p.1, p.2) (
+      c.loop-rows.reader.next,
+      omega (arith, c.next_counted.ensures.is_reader.within, over.next_is, over.end_is, inv.checking.end_is),
+      c.in_err-next_counted.ensures.causes,
+      walked ∙ ap (λ (n : ℕ). after_walk a.layout a.region 0 n (g.S.Station.view a.station.now).travel) over.next_is,
     )
 
 pub returns-in_err-next_counted-clause-damaged : goal.returns-in_err-next_counted-clause-damaged

@@ -3,6 +3,7 @@ use Rattle.std.proofs.lemmas.List.{length-drop}
 use Rattle.std.proofs.lemmas.Result.{err_from_is_err_and}
 use Rattle.station.specs.View.{Fixed, EachHeld}
 use Rattle.station.proofs.Composition.{each_held, told_on, told_back}
+use Rattle.header_gate.specs.Places.{segment_size}
 use Rattle.map_model.specs.Image.{array_of}
 use Rattle.spread_plan.specs.declared.Move.{Move}
 use Rattle.spread_plan.specs.Moves.{after_moves}
@@ -29,6 +30,20 @@ returns-in_err-move_batch-clause-cost g c =
       arith,
       c.loop-group.invariant.cost,
       paid (g.S.Station.view c.loop-group.station).travel.written (g.S.Station.view c.move_batch.new.station).travel.written (c.in-Some.group.runs.low_len + c.in-Some.group.runs.high_len) c.in-Some.group.moves c.move_batch.ensures.cost group.few group.some,
+      group.within,
+    )
+
+-- and so is what it reads
+looked : (before now segments moves : ℕ) → now ≤ before + segment_size * segments → segments ≤ 2 * moves → now ≤ before + segment_size * (2 * moves)
+looked before now segments moves reads few = omega (arith, reads, few)
+
+pub returns-in_err-move_batch-clause-reads : goal.returns-in_err-move_batch-clause-reads
+returns-in_err-move_batch-clause-reads g c =
+    let group = c.in-Some.ensures in
+    omega (
+      arith,
+      c.loop-group.invariant.reads,
+      looked (g.S.Station.view c.loop-group.station).travel.read (g.S.Station.view c.move_batch.new.station).travel.read (c.in-Some.group.runs.low_len + c.in-Some.group.runs.high_len) c.in-Some.group.moves c.move_batch.ensures.reads group.few,
       group.within,
     )
 
@@ -65,6 +80,14 @@ loop-group-preserved g c =
         arith,
         inv.cost,
         paid a.travel.written b.travel.written (c.in-Some.group.runs.low_len + c.in-Some.group.runs.high_len) n c.move_batch.ensures.cost group.few group.some,
+        ap length moves,
+        length-drop n old.moves,
+        group.within,
+      );
+      reads = omega (
+        arith,
+        inv.reads,
+        looked a.travel.read b.travel.read (c.in-Some.group.runs.low_len + c.in-Some.group.runs.high_len) n c.move_batch.ensures.reads group.few,
         ap length moves,
         length-drop n old.moves,
         group.within,

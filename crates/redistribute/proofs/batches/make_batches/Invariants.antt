@@ -1,7 +1,7 @@
 use Rattle.std.proofs.Common.{◌≡◌, ◌+◌, ◌*◌, ◌^◌, ◌≤◌, length}
 use Rattle.station.specs.View.{Told, EachHeld, NothingPending}
 use Rattle.station.specs.Steps.{Steps}
-use Rattle.header_gate.specs.Places.{file_length}
+use Rattle.header_gate.specs.Places.{file_length, segment_size}
 use Rattle.map_model.specs.Image.{array_of}
 use Rattle.redo_journal.specs.Frames.{Batch}
 use Rattle.segment.specs.declared.fault.StoreFault.{StoreFault}
@@ -22,6 +22,7 @@ invariant-loop-group g l = record {
   nothing : NothingPending (g.S.Station.view l.station);
   end : Told (g.S.Station.view l.fn.station) → after_moves (in_store l.first (g.P.Plan.plan l.plan).moves) (array_of (g.S.Station.view l.station).held) ≡ after_moves (in_store l.first (g.P.Plan.plan l.fn.plan).moves) (array_of (g.S.Station.view l.fn.station).held);
   cost : (g.S.Station.view l.station).travel.written + 16398 * length (g.P.Plan.plan l.plan).moves ≤ (g.S.Station.view l.fn.station).travel.written + 16398 * length (g.P.Plan.plan l.fn.plan).moves;
+  reads : (g.S.Station.view l.station).travel.read + segment_size * (2 * length (g.P.Plan.plan l.plan).moves) ≤ (g.S.Station.view l.fn.station).travel.read + segment_size * (2 * length (g.P.Plan.plan l.fn.plan).moves);
   shown : (b : Batch) (fault : StoreFault) → IsShown b l.first (g.P.Plan.plan l.plan).moves (g.P.Plan.plan l.plan).counts fault → IsShown b l.first (g.P.Plan.plan l.fn.plan).moves (g.P.Plan.plan l.fn.plan).counts fault;
 }
 

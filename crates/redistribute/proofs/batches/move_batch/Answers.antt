@@ -95,3 +95,6 @@ returns-clause-cost g c = omega (arith, c.commit_batch.ensures.cost, c.load.ensu
 
 pub make_moves-requires-clause-within : goal.make_moves-requires-clause-within
 make_moves-requires-clause-within g c = group_within c.args.first c.args.place.now.layout.journal (2 ^ c.args.place.now.layout.hmax) (g.P.Plan.plan c.args.plan.now) c.args.group c.requires.plan c.requires.group
+
+pub returns-clause-reads : goal.returns-clause-reads
+returns-clause-reads g c = omega (arith, c.commit_batch.ensures.no_reads, c.load.ensures.reads)

@@ -34,6 +34,7 @@ loop-done-preserved g c =
       within = omega (arith, c.min-len.ensures, inv.within);
       steps = same_on inv.steps c.read_part.ensures.steps;
       unwritten = c.read_part.ensures.unwritten ∙ inv.unwritten;
+      reads = omega (arith, inv.reads, c.read_part.ensures.reads, is.low_len);
       reach = omega (arith, inv.reach, ap (λ (f : Fixed). f.reach) c.read_part.ensures.steps.frame.fixed);
       journal = c.read_part.ensures.journal ∙ inv.journal;
       window = each_on (HasWindow c.args.place.now first counts) (HasWindow c.args.place.now first counts) c.read_part.ensures.steps inv.window (λ d i has step. subst (HasWindow c.args.place.now first counts) (sym step) has);
@@ -57,3 +58,6 @@ loop-done-preserved g c =
       others = λ i out. c.read_part.ensures.others i (elim out [ inl low ↦ inl (omega (arith, low, is.low)) | inr high ↦ inr (omega (arith, high, is.low, is.low_len)) ])
           ∙ inv.others i (elim out [ inl low ↦ inl low | inr high ↦ inr (omega (arith, high)) ]);
     }
+
+pub returns-in_err-read_part-clause-reads : goal.returns-in_err-read_part-clause-reads
+returns-in_err-read_part-clause-reads g c = omega (arith, c.loop-done.invariant.reads, c.read_part.ensures.reads, c.window_runs-runs.ensures.low_len, c.min-len.ensures, c.loop-done.invariant.within)

@@ -1,9 +1,9 @@
-use Rattle.std.proofs.Common.{◌≡◌, ◌⊎◌, ◌+◌, ◌-◌, ◌<◌, ◌≤◌, ℕ}
+use Rattle.std.proofs.Common.{◌≡◌, ◌⊎◌, ◌+◌, ◌-◌, ◌*◌, ◌<◌, ◌≤◌, ℕ}
 use Rattle.std.specs.Prelude.{IsSome}
 use Rattle.station.specs.Bytes.{Same}
 use Rattle.station.specs.View.{Told, EachHeld}
 use Rattle.station.specs.Steps.{Steps}
-use Rattle.header_gate.specs.Places.{file_length}
+use Rattle.header_gate.specs.Places.{file_length, segment_size}
 use Rattle.map_model.specs.Array.{segment_at}
 use Rattle.map_model.specs.Image.{array_of}
 use Rattle.segment.specs.Rows.{key_at}
@@ -15,6 +15,7 @@ invariant-loop-done g l = record {
   within : l.done ≤ l.count;
   steps : Steps Same (g.S.Station.view l.fn.station) (g.S.Station.view l.station);
   unwritten : (g.S.Station.view l.station).travel.written ≡ (g.S.Station.view l.fn.station).travel.written;
+  reads : (g.S.Station.view l.station).travel.read ≤ (g.S.Station.view l.fn.station).travel.read + segment_size * l.done;
   reach : file_length l.place.layout ≤ (g.S.Station.view l.station).fixed.reach;
   journal : l.frames.journal ≡ l.fn.frames.journal;
   window : EachHeld (HasWindow l.place l.first (g.P.Plan.plan l.plan).counts) (g.S.Station.view l.station);

@@ -32,3 +32,9 @@ returns-clause-agree g c told f lt some =
     c.set_fences.ensures.set f lt some ∙ ap (λ (rows : List Record). key_at rows 0)
     (ap (λ (l : Array). segment_at l f) (c.in_ok-load.ensures.shown told) ∙ shown_at (numbers_of runs) (array_of a.held) f (omega (arith, lt, length_numbers runs))
     ∙ ap (segment_at (array_of a.held)) (run_number c.args.first (g.P.Plan.plan c.args.plan.now).counts runs c.requires.within c.requires.run c.requires.filled c.load.new.frames c.load.ensures.numbers c.in_ok-load.ensures.counts f lt))
+
+pub returns-in_err-load-clause-reads : goal.returns-in_err-load-clause-reads
+returns-in_err-load-clause-reads g c = omega (arith, c.load.ensures.reads, c.requires.run)
+
+pub returns-clause-reads : goal.returns-clause-reads
+returns-clause-reads g c = omega (arith, c.load.ensures.reads, c.requires.run)

@@ -1,4 +1,4 @@
-use Rattle.std.proofs.Common.{◌≡◌, inl, refl, ap}
+use Rattle.std.proofs.Common.{◌≡◌, inl, inr, refl, ap}
 use Rattle.std.proofs.lemmas.Result.{on_ok_weaker, IfErr-weaker}
 use Rattle.station.specs.View.{Told}
 use Rattle.redo_journal.specs.Frames.{Batch}
@@ -6,7 +6,7 @@ use Rattle.segment_frames.specs.Lists.{numbers_of}
 use Rattle.segment_frames.proofs.LoadLaws.{shown_read, no_fault}
 use Rattle.redistribute.specs.Windows.{HasWindow}
 use Rattle.redistribute.specs.Batches.{kept_in}
-use Rattle.redistribute.proofs.LoadingLaws.{window_segments, window_count, shown_now}
+use Rattle.redistribute.proofs.LoadingLaws.{window_segments, window_count, shown_now, one_read, both_read}
 use Rattle.redistribute.proofs.loading.load.Goals as goal
 use Rattle.redistribute.proofs.loading.load.Goals.{In-Ok}
 
@@ -38,3 +38,13 @@ returns-in-Ok-clause-damaged g c = IfErr-weaker c.judge_frames.result _ _ (λ fa
 
 pub returns-in-Ok-clause-cause : goal.returns-in-Ok-clause-cause
 returns-in-Ok-clause-cause g c = IfErr-weaker c.judge_frames.result _ _ (λ fault shows. shown_now c.read_batch.new.frames c.args.first (g.P.Plan.plan c.args.plan.now).counts fault shows) c.judge_frames.ensures.fault
+
+pub returns-in-Ok-clause-reads : goal.returns-in-Ok-clause-reads
+returns-in-Ok-clause-reads g c = both_read c.args.place.now c.args.runs (g.S.Station.view c.args.station.now).travel (g.S.Station.view c.read_batch.new.station).travel c.in-Ok.ensures.reads
+
+pub returns-in-Err-clause-reads : goal.returns-in-Err-clause-reads
+returns-in-Err-clause-reads g c =
+    let place = c.args.place.now in
+    let before = (g.S.Station.view c.args.station.now).travel in
+    let now = (g.S.Station.view c.read_batch.new.station).travel in
+    elim c.in-Err.ensures.part [ inl one ↦ one_read place c.args.runs before now one | inr both ↦ both_read place c.args.runs before now both ]

@@ -82,6 +82,14 @@ pub returns-in_err-spread_segments-clause-one_batch : goal.returns-in_err-spread
 returns-in_err-spread_segments-clause-one_batch g c few =
     let count = many g (goal.at.returns-in_err-spread_segments-clause-one_batch g c).After-leaves in omega (arith, c.spread_segments.ensures.one_batch (omega (arith, few, count)), count)
 
+pub returns-in_err-spread_segments-clause-reads : goal.returns-in_err-spread_segments-clause-reads
+returns-in_err-spread_segments-clause-reads g c =
+    let count = many g (goal.at.returns-in_err-spread_segments-clause-reads g c).After-leaves in omega (arith, c.spread_segments.ensures.reads, count)
+
+pub returns-in_err-spread_segments-clause-read_once : goal.returns-in_err-spread_segments-clause-read_once
+returns-in_err-spread_segments-clause-read_once g c few =
+    let count = many g (goal.at.returns-in_err-spread_segments-clause-read_once g c).After-leaves in omega (arith, c.spread_segments.ensures.read_once (omega (arith, few, count)), count)
+
 pub returns-in_err-spread_segments-clause-cause : goal.returns-in_err-spread_segments-clause-cause
 returns-in_err-spread_segments-clause-cause g c =
     let at = goal.at.returns-in_err-spread_segments-clause-cause g c in
@@ -167,6 +175,16 @@ returns-in_err-fence_window-clause-cost g c =
 pub returns-in_err-fence_window-clause-one_batch : goal.returns-in_err-fence_window-clause-one_batch
 returns-in_err-fence_window-clause-one_batch g c few =
     let count = many g (goal.at.returns-in_err-fence_window-clause-one_batch g c).After-leaves in omega (arith, c.spread_segments.ensures.one_batch (omega (arith, few, count)), c.fence_window.ensures.unwritten, count)
+
+pub returns-in_err-fence_window-clause-reads : goal.returns-in_err-fence_window-clause-reads
+returns-in_err-fence_window-clause-reads g c =
+    let count = many g (goal.at.returns-in_err-fence_window-clause-reads g c).After-leaves in
+    omega (arith, c.spread_segments.ensures.reads, c.fence_window.ensures.reads, count, c.segments_in-count.ensures.count, pow_pos c.args.window.height)
+
+pub returns-in_err-fence_window-clause-read_once : goal.returns-in_err-fence_window-clause-read_once
+returns-in_err-fence_window-clause-read_once g c few =
+    let count = many g (goal.at.returns-in_err-fence_window-clause-read_once g c).After-leaves in
+    omega (arith, c.spread_segments.ensures.read_once (omega (arith, few, count)), c.fence_window.ensures.unread (omega (arith, few, c.segments_in-count.ensures.count)), count)
 
 pub returns-in_err-fence_window-clause-damaged : goal.returns-in_err-fence_window-clause-damaged
 returns-in_err-fence_window-clause-damaged g c =
@@ -254,3 +272,13 @@ returns-clause-cost g c = omega (arith, c.spread_segments.ensures.cost, c.fence_
 pub returns-clause-one_batch : goal.returns-clause-one_batch
 returns-clause-one_batch g c few =
     let count = many g (goal.at.returns-clause-one_batch g c).After-leaves in omega (arith, c.spread_segments.ensures.one_batch (omega (arith, few, count)), c.fence_window.ensures.unwritten, count)
+
+pub returns-clause-reads : goal.returns-clause-reads
+returns-clause-reads g c =
+    let count = many g (goal.at.returns-clause-reads g c).After-leaves in
+    omega (arith, c.spread_segments.ensures.reads, c.fence_window.ensures.reads, count, c.segments_in-count.ensures.count, pow_pos c.args.window.height)
+
+pub returns-clause-read_once : goal.returns-clause-read_once
+returns-clause-read_once g c few =
+    let count = many g (goal.at.returns-clause-read_once g c).After-leaves in
+    omega (arith, c.spread_segments.ensures.read_once (omega (arith, few, count)), c.fence_window.ensures.unread (omega (arith, few, c.segments_in-count.ensures.count)), count)

@@ -109,3 +109,10 @@ returns-clause-cause g c = IfErr-weaker c.make_batches-2.result _ _ (λ fault sh
     let spread : c.new-spread.result ≡ record { moves = spread_moves (sum counts) (length counts); counts = all_moved (pack_moves counts) counts } =
     spread_is g here ∙ (λ t. record { moves = spread_moves (c.requires.records t) (length counts); counts = sym (all_packed counts c.requires.some c.requires.room c.args.records c.requires.records) t }) in
     shown_last frames c.args.first counts (pack_moves counts) (spread_moves (sum counts) (length counts)) fault (shown_same frames c.args.first c.new-spread.result _ spread fault shown)) c.make_batches-2.ensures.cause
+
+pub returns-in_err-make_batches-clause-reads : goal.returns-in_err-make_batches-clause-reads
+returns-in_err-make_batches-clause-reads g c = omega (arith, c.make_batches.ensures.reads, ap length c.over-pack.ensures.moves, length-pack_moves-le c.args.counts.now)
+
+pub returns-clause-reads : goal.returns-clause-reads
+returns-clause-reads g c =
+    omega (arith, c.make_batches.ensures.reads, ap length c.over-pack.ensures.moves, length-pack_moves-le c.args.counts.now, c.make_batches-2.ensures.reads, ap length c.new-spread.ensures.moves, length-spread_moves-le c.args.records (length c.args.counts.now))

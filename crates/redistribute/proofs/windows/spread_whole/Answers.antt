@@ -137,3 +137,9 @@ returns-clause-lists g c = on_ok_weaker c.commit_batch.result (λ after told.
     omega (arith, has.within, length-array_of c.args.place.now old has.settled, ap length is, same_length (in_store first (moves_over c.args.counts.now)) (array_of old) (takes g here told).keeps) in
     ap (λ (b : Batch). held_lists b) c.commit_batch.ensures.frames ∙ holds g here told ∙ ap (shown (numbers_of c.window_runs-runs.result)) (sym is)
     ∙ shown_run (array_of new) first (length c.args.counts.now) fits c.window_runs-runs.result c.window_runs-runs.ensures) c.commit_batch.ensures.after
+
+pub returns-in_err-load-clause-reads : goal.returns-in_err-load-clause-reads
+returns-in_err-load-clause-reads g c = let is = c.window_runs-runs.ensures in omega (arith, c.load.ensures.reads, is.low_len, is.high_len)
+
+pub returns-clause-reads : goal.returns-clause-reads
+returns-clause-reads g c = let is = c.window_runs-runs.ensures in omega (arith, c.commit_batch.ensures.no_reads, c.load.ensures.reads, is.low_len, is.high_len)
