@@ -1,6 +1,7 @@
 -- What a crash may leave of one command and its reply.
 use Rattle.std.proofs.Common.{◌≡◌, ◌⊎◌, inl, inr, true, ℕ, ◌≤◌, List, ◌∷◌, [], ◌++◌, length, take, Some, None, Ok, Err, refl, sym, ◌∙◌, ap, subst, arith}
 use Rattle.std.specs.Prelude.{IsOk, IsErrOf}
+use Rattle.std.proofs.lemmas.Bool.{true≢false}
 use Rattle.std.specs.List.{flat_map, list_any}
 use Rattle.std.proofs.lemmas.List.{append-nil}
 use Rattle.station.specs.Bytes.{Same}
@@ -119,6 +120,7 @@ module _ (c : Command) (one : IsOneLine c) (s t : StoreView) (a b : View) (law :
     travels = e.travels;
     layout = e.layout;
     closed = tt;
+    usable = λ is. record { store = e.done.store; settled = e.done.settled };
     disk = λ is. absurd cc;
     reply = λ is. absurd cc;
     early = tt;
@@ -139,6 +141,7 @@ module _ (c : Command) (one : IsOneLine c) (s t : StoreView) (a b : View) (law :
     travels = e.travels;
     layout = e.layout;
     closed = e.closed ∙ sym (closes_one c (fault_of fault) one ∙ of_store fault);
+    usable = λ is. absurd (true≢false (sym e.closed ∙ is));
     disk = λ is. e.failed (ap Err (failed_of fault is));
     reply = λ is. absurd (neither fault (inr is));
     early = met fault e.early;
@@ -217,6 +220,7 @@ module _ (c : Command) (one : IsOneLine c) (s t : StoreView) (a b : View) (law :
       travels = subst (Travels c s a.travel) (sym says.travel) e.travels;
       layout = e.layout;
       closed = tt;
+      usable = λ is. record { store = carried.store; settled = carried.settled };
       disk = λ is. absurd cc;
       reply = λ is. absurd cc;
       early = tt;
@@ -237,6 +241,7 @@ module _ (c : Command) (one : IsOneLine c) (s t : StoreView) (a b : View) (law :
       travels = subst (Travels c s a.travel) (sym says.travel) e.travels;
       layout = e.layout;
       closed = e.done.opened ∙ sym (closes_one c serve.Reply one);
+      usable = λ is. record { store = carried.store; settled = carried.settled };
       disk = λ is. absurd cc;
       reply = λ is. omega (arith, rose, e.steps.frame.say_faults);
       early = tt;

@@ -35,7 +35,7 @@ use Rattle.pma_engine.specs.Costs.{session_cost, most_written}
 use Rattle.pma_engine.specs.Opening.{IsOpened, IsUnopened}
 use Rattle.pma_engine.specs.Refusing.{SaysLine, SaysLastLine, IsRefusal, line_text, line_of_opening, status_of_opening}
 use Rattle.pma_engine.specs.Session.{Headline, replies_after}
-use Rattle.pma_engine.specs.Serving.{ScriptPair, IsAtState, IsServed, IsServedToCut, IsCutInReply, TakesAtMost, fresh_reader}
+use Rattle.pma_engine.specs.Serving.{ScriptPair, IsAtState, IsServed, IsServedToCut, IsCutInReply, IsStopped, TakesAtMost, fresh_reader}
 use Rattle.pma_engine.specs.Outcome.{state_of, hmax_in, RunHeadline, IsAnswered, IsAnsweredToReply, IsRefused, IsRest, IsRunStatus, NoStore, Ran}
 use Rattle.pma_engine.proofs.SessionLaws.{headline_at}
 
@@ -137,8 +137,20 @@ module _ (most : ℕ) (s : SourceView) (a b : View) (law : Lawful a) (ab : Steps
     answered = λ e. absurd (other DONE ((λ x. omega (arith, x)), (λ x. omega (arith, x))) e);
     cut = λ e. absurd (elim e [ inl x ↦ other SCRIPT_FAULT ((λ x. omega (arith, x)), (λ x. omega (arith, x))) x | inr x ↦ other TOO_LONG ((λ x. omega (arith, x)), (λ x. omega (arith, x))) x ]);
     reply_cut = λ e. absurd (other REPLY_FAULT ((λ x. omega (arith, x)), (λ x. omega (arith, x))) e);
+    stopped = λ e told_s told said_told m height here. record {
+      lines = [];
+      last = [];
+      one = omega arith;
+      ahead = [];
+      are = refl;
+      few = omega arith;
+      count = 0;
+      within = omega arith;
+      said_is = ab.frame.said ∙ sym (append-nil a.said) ∙ sym (append-nil (a.said ++ []));
+    };
     written = λ told_s told rest m height here. omega (arith, unopened.unwritten told rest);
     settled = λ e. absurd (elim e [ inl x ↦ other DONE ((λ x. omega (arith, x)), (λ x. omega (arith, x))) x | inr (inl x) ↦ other SCRIPT_FAULT ((λ x. omega (arith, x)), (λ x. omega (arith, x))) x | inr (inr x) ↦ other TOO_LONG ((λ x. omega (arith, x)), (λ x. omega (arith, x))) x ]);
+    reply_settled = λ e. absurd (other REPLY_FAULT ((λ x. omega (arith, x)), (λ x. omega (arith, x))) e);
     refused = λ e. absurd (other REFUSED ((λ x. omega (arith, x)), (λ x. omega (arith, x))) e);
     no_store = λ told none. inr (is, ab.frame.said);
     memory = λ e. unopened.memory (memory e);
@@ -179,8 +191,10 @@ module _ (most : ℕ) (s : SourceView) (a b : View) (law : Lawful a) (ab : Steps
       answered = λ e. absurd (omega (arith, e));
       cut = λ e. absurd (elim e [ inl x ↦ omega (arith, x) | inr x ↦ omega (arith, x) ]);
       reply_cut = λ e. absurd (omega (arith, e));
+      stopped = λ e. absurd (elim e [ inl x ↦ omega (arith, x) | inr x ↦ omega (arith, x) ]);
       written = λ told_s told rest m height here. absurd (never told m height here);
       settled = λ e. absurd (elim e [ inl x ↦ omega (arith, x) | inr (inl x) ↦ omega (arith, x) | inr (inr x) ↦ omega (arith, x) ]);
+      reply_settled = λ e. absurd (omega (arith, e));
       refused = λ e. refused;
       no_store = λ told none. inl refl;
       memory = λ e. absurd (omega (arith, e));
@@ -226,8 +240,10 @@ pub record Serves (status most hmax : ℕ) (state now : ArrayState) (s0 s1 : Sou
   pub served : status ≡ DONE → source.Told s0 → Told a → IsServed hmax state a (commands_of s0.left) now b
   pub cut : (status ≡ SCRIPT_FAULT) ⊎ (status ≡ TOO_LONG) → source.Told s0 → Told a → IsServedToCut hmax state a s0.left s1.left now b
   pub reply_cut : status ≡ REPLY_FAULT → source.Told s0 → Told a → IsCutInReply hmax state s0.left s1.left now a b
+  pub stopped : (status ≡ DISK_FAULT) ⊎ (status ≡ REPLY_FAULT) → source.Told s0 → Told a → SaidTold a → IsStopped hmax state s0.left s1.left a.said b.said
   pub written : (status ≡ REFUSED → ⊥) → source.Told s0 → Told a → b.travel.written ≤ a.travel.written + session_cost hmax state (commands_of s0.left) + most_written hmax
   pub settled : IsRest status → NothingPending b
+  pub reply_settled : status ≡ REPLY_FAULT → NothingPending b
   pub refused : status ≡ REFUSED → Told a → ⊥
   pub line : status ≡ REFUSED → SaidTold a → SaysLastLine a b
   pub disk : status ≡ DISK_FAULT → Rose a.disk_faults b.disk_faults
@@ -292,11 +308,14 @@ module _ (a b : View) (law : Lawful a) (ab : Steps Opens (attached_by false a) b
         };
     reply_cut = λ e told_s told m height here.
         cut_answered a b d m height s0.left s1.left (hmax_of v) (state_in v b.held) now (same_limit told) (same_state told m height here) ab.frame.said on_said (opened.unwritten told) (serves.reply_cut e told_s (on told));
+    stopped = λ e told_s told said_told m height here.
+        subst (λ (x : Type 0). x) (λ i. IsStopped (same_limit told i) (same_state told m height here i) s0.left s1.left (ab.frame.said i) d.said) (serves.stopped e told_s (on told) (on_said said_told));
     written = λ told_s told rest m height here.
         let cost : session_cost (hmax_of v) (state_in v b.held) (commands_of s0.left) ≡ session_cost (hmax_in a.held) (state_of m height a.held) (commands_of s0.left) =
         (λ t. session_cost (same_limit told t) (same_state told m height here t) (commands_of s0.left)) in
         omega (arith, serves.written (λ e. serves.refused e (on told)) told_s (on told), opened.unwritten told rest, cost, ap most_written (same_limit told));
     settled = serves.settled;
+    reply_settled = serves.reply_settled;
     refused = λ e. record {
       line = λ told. last_since d (serves.line e (on_said told));
       reason = λ told. absurd (serves.refused e (on told));

@@ -139,6 +139,7 @@ module _ (s : StoreView) (low high : Option Bytes) (limit : ℕ) (a d : View) (l
       travels = (from, (to, walks));
       layout = refl;
       closed = closed;
+      usable = λ is. record { store = stands; settled = settled };
       disk = disk;
       reply = cut;
       early = no_update result s.tally a d;

@@ -69,6 +69,11 @@ abbrev pub IsMetOnLine : Option Update → TallyView → View → View → Serve
 IsMetOnLine u t a b (serve.Damaged segment why) = IsMetBy u t a b (store.Damaged segment why)
 IsMetOnLine u t a b _ = Unit {0}
 
+-- a store with which one may go on: it stands for the file, and nothing is pending
+pub record IsUsable (t : StoreView) (b : View) : Type 0 where
+  pub store : EachHeld (Stands t) b
+  pub settled : NothingPending b
+
 -- what carrying out a command on the store came to, before its reply is said
 pub record Executes (c : Command) (result : Result (Option Reply) StoreFault) (s t : StoreView) (a b : View) : Type 0 where
   pub answer : IfOk result (λ reply. Told a → lines_of reply ≡ answers (hmax_of s) (state_in s a.held) c)
@@ -96,6 +101,7 @@ pub record AnswersLine {T : Type 0} (c : Command) (result : Result T ServeFault)
   pub travels : Travels c s a.travel b.travel
   pub layout : t.place.layout ≡ s.place.layout
   pub closed : IfErr result (λ fault. t.closed ≡ closes c fault)
+  pub usable : t.closed ≡ false → IsUsable t b
   pub disk : IsErrOf result serve.Disk → Rose a.disk_faults b.disk_faults
   pub reply : IsErrOf result serve.Reply → Rose a.say_faults b.say_faults
   pub early : IfErr result (IsMetOnLine (update_of c) s.tally a b)

@@ -24,7 +24,7 @@ use Rattle.pma_engine.specs.Costs.{session_cost, most_written}
 use Rattle.pma_engine.specs.Opening.{IsOutOfMemory}
 use Rattle.pma_engine.specs.Refusing.{SaysLine, SaysLastLine, KeepsBytes}
 use Rattle.pma_engine.specs.Session.{Headline, replies_after}
-use Rattle.pma_engine.specs.Serving.{IsAtState, TakesAtMost}
+use Rattle.pma_engine.specs.Serving.{IsAtState, IsStopped, TakesAtMost}
 use Rattle.line_source.specs.Lines.{raw_lines, most_held}
 use Rattle.pma_engine.specs.declared.status.TheConstants.{DONE, REFUSED, DISK_FAULT, SCRIPT_FAULT, REPLY_FAULT, OUT_OF_MEMORY, TOO_LONG}
 
@@ -113,9 +113,11 @@ pub record Ran (status most : ℕ) (s0 s1 : SourceView) (a b : View) : Type 0 wh
   pub answered : status ≡ DONE → source.Told s0 → Told a → (m : Map) (height : ℕ) → Represents a.held m height → IsAnswered m height (commands_of s0.left) a b
   pub cut : (status ≡ SCRIPT_FAULT) ⊎ (status ≡ TOO_LONG) → source.Told s0 → Told a → (m : Map) (height : ℕ) → Represents a.held m height → IsAnsweredToCut m height s0.left s1.left a b
   pub reply_cut : status ≡ REPLY_FAULT → source.Told s0 → Told a → (m : Map) (height : ℕ) → Represents a.held m height → IsAnsweredToReply m height s0.left s1.left a b
+  pub stopped : (status ≡ DISK_FAULT) ⊎ (status ≡ REPLY_FAULT) → source.Told s0 → Told a → SaidTold a → (m : Map) (height : ℕ) → Represents a.held m height → IsStopped (hmax_in a.held) (state_of m height a.held) s0.left s1.left a.said b.said
   pub written : source.Told s0 → Told a → IsAtRest a.held → (m : Map) (height : ℕ) → Represents a.held m height
       → b.travel.written ≤ a.travel.written + session_cost (hmax_in a.held) (state_of m height a.held) (commands_of s0.left) + most_written (hmax_in a.held)
   pub settled : IsRest status → NothingPending b
+  pub reply_settled : status ≡ REPLY_FAULT → NothingPending b
   pub refused : status ≡ REFUSED → IsRefused a b
   pub no_store : Told a → NoStore a.held → (status ≡ REFUSED) ⊎ (((status ≡ DISK_FAULT) ⊎ (status ≡ OUT_OF_MEMORY)) × (b.said ≡ a.said))
   pub memory : status ≡ OUT_OF_MEMORY → IsOutOfMemory a b

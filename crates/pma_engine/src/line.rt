@@ -11,7 +11,7 @@ ghost use Rattle.pma_store.specs.Answers.{state_in};
 ghost use Rattle.pma_engine.specs.Faults.{IsLineFault, IsNoScriptFault, closes};
 ghost use Rattle.pma_engine.specs.Session.{AnswerPair};
 ghost use Rattle.pma_engine.specs.Replies.{ChangesNothing};
-ghost use Rattle.pma_engine.specs.Carrying.{hmax_of, IsCarriedOut, IsMetOnLine, Looks, Stays, AnswersLine};
+ghost use Rattle.pma_engine.specs.Carrying.{hmax_of, IsCarriedOut, IsMetOnLine, IsUsable, Looks, Stays, AnswersLine};
 ghost use Rattle.pma_engine.specs.Costs.{Travels};
 ghost use Rattle.pma_engine.specs.Serving.{given_command};
 
@@ -47,6 +47,7 @@ pub fn serve_line<S: Station>(
     ensures travels { Travels (command_of line.now) store.old (S.view station.old).travel (S.view station.new).travel }
     ensures layout { store.new.place.layout ≡ store.old.place.layout }
     ensures closed { IfErr result (λ fault. store.new.closed ≡ closes (command_of line.now) fault) }
+    ensures usable { store.new.closed ≡ false → IsUsable store.new (S.view station.new) }
     ensures disk { IsErrOf result ServeFault.Disk → Rose (S.view station.old).disk_faults (S.view station.new).disk_faults }
     ensures reply { IsErrOf result ServeFault.Reply → Rose (S.view station.old).say_faults (S.view station.new).say_faults }
     ensures early { IfErr result (IsMetOnLine (update_of (command_of line.now)) store.old.tally (S.view station.old) (S.view station.new)) }

@@ -16,7 +16,7 @@ ghost use Rattle.pma_engine.specs.Costs.{session_cost, most_written};
 ghost use Rattle.pma_engine.specs.Opening.{IsOutOfMemory};
 ghost use Rattle.pma_engine.specs.Outcome.{IsCreateStatus, IsGenStatus, IsCreateRefused, IsRunStatus, IsRest, IsRefused, NoStore, RunHeadline, IsAnswered, IsAnsweredToCut, IsAnsweredToReply, hmax_in, state_of, empty_map};
 ghost use Rattle.pma_engine.specs.Refusing.{KeepsBytes};
-ghost use Rattle.pma_engine.specs.Serving.{TakesAtMost};
+ghost use Rattle.pma_engine.specs.Serving.{IsStopped, TakesAtMost};
 ghost use Rattle.pma_engine.specs.declared.words.Job.{Job};
 ghost use Rattle.pma_engine.specs.declared.words.Job.TheVariants.{Create, Run, Gen};
 
@@ -53,6 +53,9 @@ pub fn run_words<I: Source, S: Station>(
     requires named { IsOnFile (job_of (map string_bytes words.now)) → NamedBy (file_of (map string_bytes words.now)) (S.view station.old).fixed.name }
     requires reach { (height journal : ℕ) → job_of (map string_bytes words.now) ≡ Some (Create height journal) → file_length (layout_of height journal) ≤ (S.view station.old).fixed.reach }
 
+    // The numbers of the statuses, by which the clauses below name them.
+    ensures numbers { (DONE ≡ 0) × (USAGE ≡ 2) × (REFUSED ≡ 3) × (DISK_FAULT ≡ 4) × (SCRIPT_FAULT ≡ 5) × (REPLY_FAULT ≡ 6) × (OUT_OF_MEMORY ≡ 7) × (TOO_LONG ≡ 8) }
+
     // Usage: exactly the words that ask for nothing, and no call is made.
     ensures usage { (result ≡ USAGE) ↔ (job_of (map string_bytes words.now) ≡ None) }
     ensures untouched { result ≡ USAGE → (station.new ≡ station.old) × (source.new ≡ source.old) }
@@ -84,9 +87,12 @@ pub fn run_words<I: Source, S: Station>(
         IsAnsweredToCut m height (I.view source.old).left (I.view source.new).left (S.view station.old) (S.view station.new) }
     ensures reply_cut { job_of (map string_bytes words.now) ≡ Some Run → result ≡ REPLY_FAULT → SourceTold (I.view source.old) → Told (S.view station.old) → (m : Map) (height : ℕ) → Represents (S.view station.old).held m height →
         IsAnsweredToReply m height (I.view source.old).left (I.view source.new).left (S.view station.old) (S.view station.new) }
+    ensures stopped { job_of (map string_bytes words.now) ≡ Some Run → (result ≡ DISK_FAULT) ⊎ (result ≡ REPLY_FAULT) → SourceTold (I.view source.old) → Told (S.view station.old) → SaidTold (S.view station.old) → (m : Map) (height : ℕ) → Represents (S.view station.old).held m height →
+        IsStopped (hmax_in (S.view station.old).held) (state_of m height (S.view station.old).held) (I.view source.old).left (I.view source.new).left (S.view station.old).said (S.view station.new).said }
     ensures written { job_of (map string_bytes words.now) ≡ Some Run → SourceTold (I.view source.old) → Told (S.view station.old) → IsAtRest (S.view station.old).held → (m : Map) (height : ℕ) → Represents (S.view station.old).held m height →
         (S.view station.new).travel.written ≤ (S.view station.old).travel.written + session_cost (hmax_in (S.view station.old).held) (state_of m height (S.view station.old).held) (commands_of (I.view source.old).left) + most_written (hmax_in (S.view station.old).held) }
     ensures run_settled { job_of (map string_bytes words.now) ≡ Some Run → IsRest result → NothingPending (S.view station.new) }
+    ensures reply_settled { job_of (map string_bytes words.now) ≡ Some Run → result ≡ REPLY_FAULT → NothingPending (S.view station.new) }
     ensures run_refused { job_of (map string_bytes words.now) ≡ Some Run → result ≡ REFUSED → IsRefused (S.view station.old) (S.view station.new) }
     ensures run_no_store { job_of (map string_bytes words.now) ≡ Some Run → Told (S.view station.old) → NoStore (S.view station.old).held → (result ≡ REFUSED) ⊎ (((result ≡ DISK_FAULT) ⊎ (result ≡ OUT_OF_MEMORY)) × ((S.view station.new).said ≡ (S.view station.old).said)) }
     ensures memory { job_of (map string_bytes words.now) ≡ Some Run → result ≡ OUT_OF_MEMORY → IsOutOfMemory (S.view station.old) (S.view station.new) }

@@ -14,7 +14,7 @@ ghost use Rattle.pma_engine.specs.Costs.{session_cost, most_written};
 ghost use Rattle.pma_engine.specs.Opening.{IsOpened, IsUnopened};
 ghost use Rattle.pma_engine.specs.Outcome.{IsRest, IsRunStatus, NoStore, Ran};
 ghost use Rattle.pma_engine.specs.Refusing.{SaysLine, SaysLastLine, line_text, line_of_opening, status_of_opening};
-ghost use Rattle.pma_engine.specs.Serving.{ScriptPair, IsServed, IsServedToCut, IsCutInReply, TakesAtMost, fresh_reader};
+ghost use Rattle.pma_engine.specs.Serving.{ScriptPair, IsServed, IsServedToCut, IsCutInReply, IsStopped, TakesAtMost, fresh_reader};
 
 use crate::fault::ServeFault;
 use crate::refusing::say_refusal;
@@ -112,9 +112,12 @@ fn serve_opened<I: Source, S: Station>(
         IsServedToCut (hmax_of store.old) (state_in store.old (S.view station.old).held) (S.view station.old) (I.view source.old).left (I.view source.new).left (state_in store.new (S.view station.new).held) (S.view station.new) }
     ensures reply_cut { result ≡ REPLY_FAULT → SourceTold (I.view source.old) → Told (S.view station.old) →
         IsCutInReply (hmax_of store.old) (state_in store.old (S.view station.old).held) (I.view source.old).left (I.view source.new).left (state_in store.new (S.view station.new).held) (S.view station.old) (S.view station.new) }
+    ensures stopped { (result ≡ DISK_FAULT) ⊎ (result ≡ REPLY_FAULT) → SourceTold (I.view source.old) → Told (S.view station.old) → SaidTold (S.view station.old) →
+        IsStopped (hmax_of store.old) (state_in store.old (S.view station.old).held) (I.view source.old).left (I.view source.new).left (S.view station.old).said (S.view station.new).said }
     ensures written { (result ≡ REFUSED → ⊥) → SourceTold (I.view source.old) → Told (S.view station.old) →
         (S.view station.new).travel.written ≤ (S.view station.old).travel.written + session_cost (hmax_of store.old) (state_in store.old (S.view station.old).held) (commands_of (I.view source.old).left) + most_written (hmax_of store.old) }
     ensures settled { IsRest result → NothingPending (S.view station.new) }
+    ensures reply_settled { result ≡ REPLY_FAULT → NothingPending (S.view station.new) }
     ensures refused { result ≡ REFUSED → Told (S.view station.old) → ⊥ }
     ensures line { result ≡ REFUSED → SaidTold (S.view station.old) → SaysLastLine (S.view station.old) (S.view station.new) }
     ensures disk { result ≡ DISK_FAULT → Rose (S.view station.old).disk_faults (S.view station.new).disk_faults }

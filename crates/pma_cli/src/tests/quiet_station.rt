@@ -2,6 +2,7 @@
 
 ghost use Rattle.std.specs.Prelude.{◌≡◌, ◌+◌, ◌-◌, ◌^◌, ◌≤◌, min, IsErr};
 
+use super::rows::{Part, answered};
 use super::{SMOOTH, created, session, words_to_run};
 use line_source::MemSource;
 use pma_engine::run_words;
@@ -105,18 +106,38 @@ impl Station for QuietStation {
 }
 
 // The opening of a store of one segment makes five calls, an attach, a sync and three reads; the segment is the last
-// that it reads, and lies at 24576.
+// that it reads, and lies at 24576. That of a store of two makes one more, and segment 1 of region 1 lies at 45056.
 #[test]
 fn a_segment_that_turns_bad_is_refused(rt: HostRuntime) -> Result<(), Fail> {
     let (_, empty) = created(rt.alloc(), "0", None)?;
     let (_, one) = session(rt.alloc(), empty.held(), b"put a 1\n", SMOOTH)?;
-    for (change, want, said) in [
-        ((5, 24576, 2), 3, b"refused slot 0 0\n".as_slice()),
-        ((5, 24578, 33), 3, b"refused slot 0 0\n"),
-        ((5, 24576, 1), 0, b"found 1\n"),
+    let two = answered(&rt, rt.alloc(), "2", None, &[Part::Put(1, 65)])?;
+    for (file, change, script, want, said) in [
+        (
+            one.held(),
+            (5, 24576, 2),
+            b"get a\n".as_slice(),
+            3,
+            b"refused slot 0 0\n".as_slice(),
+        ),
+        (
+            one.held(),
+            (5, 24578, 33),
+            b"get a\n",
+            3,
+            b"refused slot 0 0\n",
+        ),
+        (one.held(), (5, 24576, 1), b"get a\n", 0, b"found 1\n"),
+        (
+            two.as_slice(),
+            (6, 45056, 2),
+            b"get k065\n",
+            3,
+            b"refused slot 1 0\n",
+        ),
     ] {
         let mut station = QuietStation {
-            file: Vec::from_slice(rt.alloc(), one.held())?,
+            file: Vec::from_slice(rt.alloc(), file)?,
             said: Vec::new(rt.alloc()),
             change,
             attached: None,
@@ -125,7 +146,7 @@ fn a_segment_that_turns_bad_is_refused(rt: HostRuntime) -> Result<(), Fail> {
             say_faults: 0,
             travel: Travel::START,
         };
-        let mut source = MemSource::new(rt.alloc(), b"get a\n", 7, &[])?;
+        let mut source = MemSource::new(rt.alloc(), script, 7, &[])?;
         let words = words_to_run(rt.alloc())?;
         let status = run_words(rt.alloc(), &words, &mut source, &mut station, SMOOTH.most);
         assert_eq!(rt; station.said.as_slice(), said);

@@ -1,5 +1,6 @@
 use Rattle.std.proofs.Common.{◌≡◌, ◌⊎◌, inl, inr, ℕ, List, [], ◌∷◌, ◌++◌, Option, Some, None, Ok, Err, refl, sym, subst, ◌∙◌}
 use Rattle.std.specs.Prelude.{IsOk, IsErrOf}
+use Rattle.std.proofs.lemmas.Result.{err_from_is_err_and}
 use Rattle.pma_engine.specs.declared.fault.ServeFault.{ServeFault}
 use Rattle.pma_engine.specs.declared.fault.ServeFault.TheVariants.{Script, Spent}
 use Rattle.pma_engine.specs.declared.next.Given.{Given}
@@ -7,7 +8,7 @@ use Rattle.pma_engine.specs.Faults.{IsNoScriptFault}
 use Rattle.pma_engine.specs.Serving.{IsNextCommand, GivesCommand, given_command}
 use Rattle.pma_store.specs.Answers.{state_in}
 use Rattle.pma_engine.specs.Carrying.{hmax_of}
-use Rattle.pma_engine.proofs.ServingLaws.{serving_start, pair_at_rest, held_turn, run_turn, served_turn, cut_turn, most_turn, sent_turn, served_whole, served_to_cut, most_at_rest, takes_given, takes_last}
+use Rattle.pma_engine.proofs.ServingLaws.{serving_start, pair_at_rest, held_turn, run_turn, served_turn, cut_turn, most_turn, sent_turn, served_whole, served_to_cut, most_at_rest, takes_given, takes_last, no_line_fault, stopped_turn}
 use Rattle.pma_engine.proofs.script.serve.Goals as goal
 use Rattle.pma_engine.proofs.script.serve.Goals.{After-serve_given}
 
@@ -122,3 +123,22 @@ returns-in-Err-clause-sent g c =
     sent_turn (hmax_of c.args.store.now) (state_in c.args.store.now (g.S.Station.view c.args.station.now).held) (g.S.Station.view c.args.station.now) c.args.reader.now (g.I.Source.view c.args.source.now) (g.S.Station.view c.loop-given.station) c.loop-given.reader (g.I.Source.view c.loop-given.source) c.loop-given.store c.loop-given.invariant.serving
     (given_command c.in-Some.given c.line.result.now) (g.S.Station.view c.serve_given.new.station) c.next_given.new.reader (g.I.Source.view c.next_given.new.source) (turn g (goal.at.returns-in-Err-clause-sent g c).After-serve_given)
     c.serve_given.result c.serve_given.new.store c.serve_given.ensures
+
+pub returns-in_err-given-clause-stopped : goal.returns-in_err-given-clause-stopped
+returns-in_err-given-clause-stopped g c =
+    let p = err_from_is_err_and c.from_residual.result c.from_residual.ensures.1 in
+    let here = c.loop-given.invariant.serving in
+    rw (p.1, p.2) (λ line. absurd (no_line_fault c.in_err-given.field-0.0 c.args.reader.now (g.I.Source.view c.args.source.now) here.given c.next_given.new.reader (g.I.Source.view c.next_given.new.source)
+    (c.in_err-given.ensures.next c.args.reader.now (g.I.Source.view c.args.source.now) here.given here.reading) line))
+
+pub returns-in-Err-clause-stopped : goal.returns-in-Err-clause-stopped
+returns-in-Err-clause-stopped g c line =
+    stopped_turn (hmax_of c.args.store.now) (state_in c.args.store.now (g.S.Station.view c.args.station.now).held) (g.S.Station.view c.args.station.now) c.args.reader.now (g.I.Source.view c.args.source.now) (g.S.Station.view c.loop-given.station) c.loop-given.reader (g.I.Source.view c.loop-given.source) c.loop-given.store c.loop-given.invariant.serving
+    (given_command c.in-Some.given c.line.result.now) (g.S.Station.view c.serve_given.new.station) c.next_given.new.reader (g.I.Source.view c.next_given.new.source) (turn g (goal.at.returns-in-Err-clause-stopped g c).After-serve_given)
+    c.serve_given.result c.serve_given.new.store c.serve_given.ensures c.next_given.ensures.ahead
+
+pub returns-in_err-given-clause-usable : goal.returns-in_err-given-clause-usable
+returns-in_err-given-clause-usable g c is = record { store = c.loop-given.invariant.serving.store; settled = c.loop-given.invariant.serving.nothing }
+
+pub returns-clause-usable : goal.returns-clause-usable
+returns-clause-usable g c is = record { store = c.loop-given.invariant.serving.store; settled = c.loop-given.invariant.serving.nothing }
