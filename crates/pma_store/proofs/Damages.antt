@@ -1,5 +1,5 @@
 -- Damage that an update meets.
-use Rattle.std.proofs.Common.{◌≡◌, ◌≢◌, ℕ, ◌<◌, ◌^◌, ◌==◌, Bool, true, false, cond, List, length, Option, Some, None, inl, inr, refl, sym, ap, subst, ◌∙◌, arith}
+use Rattle.std.proofs.Common.{◌≡◌, ◌≢◌, ℕ, ◌<◌, ◌^◌, ◌==◌, Bool, true, false, cond, List, Option, Some, None, inl, inr, refl, sym, subst, ◌∙◌, arith}
 use Rattle.std.proofs.lemmas.Bool.{eqb-false}
 use Rattle.std.specs.Prelude.{IsSome, IfErr, OnErr, Result, Ok, Err}
 use Rattle.station.specs.View.{View}
@@ -18,7 +18,6 @@ use Rattle.window_tally.specs.View.{TallyView}
 use Rattle.pma_store.specs.declared.update.Need.TheVariants as need
 use Rattle.pma_store.specs.Damaging.{IsMetFirst, AsksFirst, change_in}
 use Rattle.pma_store.specs.Looking.{TellsCount}
-use Rattle.pma_store.specs.Readying.{broken_in}
 use Rattle.pma_store.specs.Updating.{need_of}
 
 -- what is wrong with a segment by itself

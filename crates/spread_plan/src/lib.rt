@@ -13,7 +13,6 @@ ghost use Rattle.density_rule.specs.Spread.{share as share_of};
 ghost use Rattle.density_rule.specs.declared.TheConstants.{SEGMENT_SLOTS};
 
 use density_rule::SEGMENT_SLOTS;
-
 pub use laws::{packs_segments, spreads_segments};
 pub use pack::PackMoves;
 pub use spread::SpreadMoves;

@@ -81,5 +81,3 @@ returns-in-Err-clause-asks g c =
     let t = c.args.self.now.tally in
     let some : c.args.pick ≡ Fits → ⊥ = first_of (search rules, grind (arith, common_steps)) in
     asked_first t.hmax t.height c.args.spot.segment c.args.change (broken_in c.args.change c.args.spot.segment t) c.args.pick c.requires.pick some
-
-
