@@ -1,5 +1,5 @@
 -- The reply to a range.
-use Rattle.std.proofs.Common.{◌≡◌, ℕ, zero, suc, ◌+◌, ◌-◌, ◌/◌, ◌≤◌, List, [], ◌∷◌, ◌++◌, length, take, drop, Option, Some, None, refl, sym, ◌∙◌, ap, subst, arith, append_assoc, length-append, length-take}
+use Rattle.std.proofs.Common.{◌≡◌, ℕ, zero, suc, ◌+◌, ◌-◌, ◌≤◌, List, [], ◌∷◌, ◌++◌, length, take, drop, Option, Some, None, refl, sym, ◌∙◌, ap, subst, arith, append_assoc, length-append, length-take}
 use Rattle.std.specs.Prelude.{slice_get}
 use Rattle.std.specs.Option.{option_map}
 use Rattle.std.specs.FinMap.{entries}
@@ -18,18 +18,15 @@ use Rattle.pma_store.specs.Looking.{fresh_sweep}
 use Rattle.pma_store.specs.Store.{StoreView}
 use Rattle.pma_engine.specs.Costs.{Walks}
 use Rattle.station.specs.declared.travel.Travel.{Travel}
-use Rattle.range_scan.specs.Sweeping.{BeginsThere}
+use Rattle.range_scan.specs.Sweeping.{BeginsThere, IsSweeping, scan_of}
+use Rattle.range_scan.specs.Taking.{Takes}
+use Rattle.range_scan.proofs.Takings.{take_one}
 use Rattle.command_text.specs.Reply.{reply_text}
 use Rattle.command_text.specs.declared.reply.Reply.TheVariants as reply
-use Rattle.pma_engine.specs.Ranging.{SaysFront, SaysWhole, SaysRows, StopsInRows, scan_of, row_text}
+use Rattle.pma_engine.specs.Ranging.{AreNext, SaysFront, SaysWhole, SaysRows, StopsInRows, row_text}
 use Rattle.pma_engine.proofs.Pieces.{pieces_read, piece_front, piece_whole, front_on, whole_on, row_text-append}
 
 -- Fronts of a list.
-
-pub take_one : {A : Type 0} (l : List A) (n : ℕ) (x : A) → slice_get l n ≡ Some x → take n l ++ x ∷ [] ≡ take (suc n) l
-take_one [] n x is = absurd cc
-take_one {A} (y ∷ l) zero x is = let same : y ≡ x = cc in ap (λ (z : A). z ∷ []) (sym same)
-take_one {A} (y ∷ l) (suc n) x is = ap (λ (rest : List A). y ∷ rest) (take_one l n x is)
 
 pub used_up : {A : Type 0} (l : List A) (n : ℕ) → slice_get l n ≡ None → length l ≤ n
 used_up [] n is = omega arith
@@ -41,57 +38,67 @@ is_there [] n x is = absurd cc
 is_there (y ∷ l) zero x is = omega arith
 is_there (y ∷ l) (suc n) x is = omega (arith, is_there l n x is)
 
--- One record.
+-- a sweep that goes on has the same scan, and begins where it began
+pub same_scan : {s t : SweepView} → GoesOn s t → (image : List ℕ) → scan_of t image ≡ scan_of s image
+same_scan {s} {t} on image = λ i. scanned_by (on.low_is i) (on.high_is i) (on.limit_is i)
+  where
+    scanned_by : Option (List ℕ) → Option (List ℕ) → ℕ → List Record
+    scanned_by low high limit = scan_of (record s { low = low; high = high; limit = limit }) image
 
-module _ {a m b : View} (law : Lawful a) (nothing : NothingPending a) (steps : Steps Same a m) (row : Row) (says : Says (reply_text (reply.Row row)) m b) where
-  line_is : reply_text (reply.Row row) ≡ row_text (record_of row ∷ [])
-  line_is = sym (append-nil (reply_text (reply.Row row)))
+pub begins_on : {s t : SweepView} (records : List Record) → GoesOn s t → BeginsThere s records → BeginsThere t records
+begins_on {s} {t} records on begins = subst (λ (x : Type 0). x) (λ i. BeginsThere (record s { tally = sym on.tally_is i; first = sym on.first_is i; low = sym on.low_is i }) records) begins
 
-  pub row_whole : (SaidTold m → b.said ≡ m.said ++ reply_text (reply.Row row)) → SaysWhole (row_text (record_of row ∷ [])) a b
-  row_whole all =
-      let read = pieces_read law nothing steps in
-      subst (λ (text : List ℕ). SaysWhole text a b) line_is (whole_on law [] (reply_text (reply.Row row)) read (piece_whole read.nothing says all))
+-- The next records of a scan.
 
-  pub row_front : SaysFront (row_text (record_of row ∷ [])) a b
-  row_front =
-      let read = pieces_read law nothing steps in
-      subst (λ (text : List ℕ). SaysFront text a b) line_is (front_on law [] (reply_text (reply.Row row)) read (piece_front read.nothing says))
+-- none
+pub none_next : (s : SweepView) (a : View) (to : ℕ) → to ≡ s.given → AreNext [] s s.given to a
+none_next s a to is = record {
+  count = omega (arith, is);
+  are = λ told. append-nil (take s.given (scan_of s a.held)) ∙ ap (λ (n : ℕ). take n (scan_of s a.held)) (sym is);
+}
 
--- the next of the scan
-next_is : (s : SweepView) (a : View) (row : Row) → option_map record_of (Some row) ≡ slice_get (scan_of s a.held) s.given → slice_get (scan_of s a.held) s.given ≡ Some (record_of row)
-next_is s a row is = sym is
+-- one that is read, and those at hand behind it
+module _ (s t u : SweepView) (a b : View) (row : Row) (rows : List Record) (next : Told a → option_map record_of (Some row) ≡ slice_get (scan_of s a.held) s.given) (given : t.given ≡ s.given + 1) (on : GoesOn s t) (held : Told a → b.held ≡ a.held) (sweeping : Told a → IsSweeping t b.held) (takes : Takes rows t u) where
+  scan_is_still : Told a → scan_of t b.held ≡ scan_of s a.held
+  scan_is_still told = ap (scan_of t) (held told) ∙ same_scan on a.held
 
-module _ (s : SweepView) (a : View) (row : Row) (next : Told a → option_map record_of (Some row) ≡ slice_get (scan_of s a.held) s.given) where
-  pub one_row : {b : View} (to : ℕ) → to ≡ s.given + 1 → SaysWhole (row_text (record_of row ∷ [])) a b → SaysRows (record_of row ∷ []) s s.given to a b
-  one_row {b} to is whole = record {
-    whole = whole;
-    count = is;
-    are = λ told. take_one (scan_of s a.held) s.given (record_of row) (next_is s a row (next told)) ∙ ap (λ (n : ℕ). take n (scan_of s a.held)) (let e : suc s.given ≡ to = omega (arith, is) in e);
-  }
+  one_more : Told a → take s.given (scan_of s a.held) ++ record_of row ∷ [] ≡ take t.given (scan_of t b.held)
+  one_more told =
+      take_one (scan_of s a.held) s.given (record_of row) (sym (next told))
+      ∙ ap (λ (n : ℕ). take n (scan_of s a.held)) (let e : suc s.given ≡ t.given = omega (arith, given) in e)
+      ∙ ap (take t.given) (sym (scan_is_still told))
 
-  pub stops_in_row : {b : View} → SaysFront (row_text (record_of row ∷ [])) a b → StopsInRows s s.given a b
-  stops_in_row {b} front = record {
-    rows = record_of row ∷ [];
-    rest = drop (suc s.given) (scan_of s a.held);
-    front = front;
+  pub rows_next : AreNext (record_of row ∷ rows) s s.given u.given a
+  rows_next = record {
+    count = omega (arith, given, takes.count);
     are = λ told.
-        ap (λ (l : List Record). l ++ drop (suc s.given) (scan_of s a.held)) (take_one (scan_of s a.held) s.given (record_of row) (next_is s a row (next told)))
-        ∙ take-append-drop (suc s.given) (scan_of s a.held);
+        sym (append_assoc (take s.given (scan_of s a.held)) (record_of row ∷ []) rows)
+        ∙ ap (λ (l : List Record). l ++ rows) (one_more told)
+        ∙ takes.next b.held (sweeping told)
+        ∙ ap (take u.given) (scan_is_still told);
   }
 
-  pub is_within : Told a → s.given + 1 ≤ length (scan_of s a.held)
-  is_within told = omega (arith, is_there (scan_of s a.held) s.given (record_of row) (next_is s a row (next told)))
+-- the line of one more
+pub text_more : (rows : List Record) (row : Row) (start before after : List ℕ) → before ≡ start ++ row_text rows → after ≡ before ++ reply_text (reply.Row row) → after ≡ start ++ row_text (rows ++ record_of row ∷ [])
+text_more rows row start before after was is =
+    is
+    ∙ ap (λ (l : List ℕ). l ++ reply_text (reply.Row row)) was
+    ∙ append_assoc start (row_text rows) (reply_text (reply.Row row))
+    ∙ ap (λ (l : List ℕ). start ++ (row_text rows ++ l)) (sym (append-nil (reply_text (reply.Row row))))
+    ∙ ap (λ (l : List ℕ). start ++ l) (sym (row_text-append rows (record_of row ∷ [])))
+
+-- a scan has as many
+pub next_within : {s : SweepView} {a : View} (rows : List Record) (from to : ℕ) → AreNext rows s from to a → Told a → from ≤ length (scan_of s a.held) → to ≤ length (scan_of s a.held)
+next_within {s} {a} rows from to next told within =
+    omega (arith, next.count, within, ap length (next.are told), length-append (take from (scan_of s a.held)) rows, length-take from (scan_of s a.held), length-take to (scan_of s a.held))
+
+-- One piece.
 
 module _ (s : SweepView) {a b : View} (law : Lawful a) (nothing : NothingPending a) (steps : Steps Same a b) where
-  -- no record more
-  pub no_row : (to : ℕ) → to ≡ s.given → SaysRows [] s s.given to a b
-  no_row to is = record {
-    whole = pieces_read law nothing steps;
-    count = omega (arith, is);
-    are = λ told. append-nil (take s.given (scan_of s a.held)) ∙ ap (λ (n : ℕ). take n (scan_of s a.held)) (sym is);
-  }
+  -- nothing was said
+  pub says_none : (to : ℕ) → to ≡ s.given → SaysRows [] s s.given to a b
+  says_none to is = record { whole = pieces_read law nothing steps; next = none_next s a to is }
 
-  -- a read failed
   pub stops_before : StopsInRows s s.given a b
   stops_before = record {
     rows = [];
@@ -99,6 +106,24 @@ module _ (s : SweepView) {a b : View} (law : Lawful a) (nothing : NothingPending
     front = (pieces_read law nothing steps).front;
     are = λ told. ap (λ (l : List Record). l ++ drop s.given (scan_of s a.held)) (append-nil (take s.given (scan_of s a.held))) ∙ take-append-drop s.given (scan_of s a.held);
   }
+
+module _ (s : SweepView) {a m b : View} (law : Lawful a) (nothing : NothingPending a) (steps : Steps Same a m) (piece : List ℕ) (says : Says piece m b) (rows : List Record) (text : piece ≡ row_text rows) (to : ℕ) (next : AreNext rows s s.given to a) where
+  -- the lines of these records were said
+  pub says_piece : (SaidTold m → b.said ≡ m.said ++ piece) → SaysRows rows s s.given to a b
+  says_piece all =
+      let read = pieces_read law nothing steps in
+      record { whole = subst (λ (l : List ℕ). SaysWhole l a b) text (whole_on law [] piece read (piece_whole read.nothing says all)); next = next }
+
+  -- or a front of them
+  pub stops_in_piece : StopsInRows s s.given a b
+  stops_in_piece =
+      let read = pieces_read law nothing steps in
+      record {
+        rows = rows;
+        rest = drop to (scan_of s a.held);
+        front = subst (λ (l : List ℕ). SaysFront l a b) text (front_on law [] piece read (piece_front read.nothing says));
+        are = λ told. ap (λ (l : List Record). l ++ drop to (scan_of s a.held)) (next.are told) ∙ take-append-drop to (scan_of s a.held);
+      }
 
 -- Records one behind another.
 
@@ -112,13 +137,15 @@ module _ (s t : SweepView) {a b : View} (law : Lawful a) (rows : List Record) (f
   pub rows_on : {c : View} (more : List Record) (end : ℕ) → SaysRows more t to end b c → SaysRows (rows ++ more) s from end a c
   rows_on {c} more end bc = record {
     whole = subst (λ (text : List ℕ). SaysWhole text a c) (sym (row_text-append rows more)) (whole_on law (row_text rows) (row_text more) ab.whole bc.whole);
-    count = omega (arith, ab.count, bc.count, length-append rows more);
-    are = λ told.
-        sym (append_assoc (take from (scan_of s a.held)) rows more)
-        ∙ ap (λ (l : List Record). l ++ more) (ab.are told)
-        ∙ ap (λ (l : List Record). take to l ++ more) (sym (held_on told))
-        ∙ bc.are (told_on told)
-        ∙ ap (take end) (held_on told);
+    next = record {
+      count = omega (arith, ab.next.count, bc.next.count, length-append rows more);
+      are = λ told.
+          sym (append_assoc (take from (scan_of s a.held)) rows more)
+          ∙ ap (λ (l : List Record). l ++ more) (ab.next.are told)
+          ∙ ap (λ (l : List Record). take to l ++ more) (sym (held_on told))
+          ∙ bc.next.are (told_on told)
+          ∙ ap (take end) (held_on told);
+    };
   }
 
   pub stops_on : {c : View} → StopsInRows t to b c → StopsInRows s from a c
@@ -128,30 +155,20 @@ module _ (s t : SweepView) {a b : View} (law : Lawful a) (rows : List Record) (f
     front = subst (λ (text : List ℕ). SaysFront text a c) (sym (row_text-append rows stops.rows)) (front_on law (row_text rows) (row_text stops.rows) ab.whole stops.front);
     are = λ told.
         ap (λ (l : List Record). l ++ stops.rest) (sym (append_assoc (take from (scan_of s a.held)) rows stops.rows))
-        ∙ ap (λ (l : List Record). l ++ stops.rows ++ stops.rest) (ab.are told)
+        ∙ ap (λ (l : List Record). l ++ stops.rows ++ stops.rest) (ab.next.are told)
         ∙ ap (λ (l : List Record). take to l ++ stops.rows ++ stops.rest) (sym (held_on told))
         ∙ stops.are (told_on told)
         ∙ held_on told;
   }
 
--- a sweep that goes on has the same scan, and begins where it began
-pub same_scan : {s t : SweepView} → GoesOn s t → (image : List ℕ) → scan_of t image ≡ scan_of s image
-same_scan {s} {t} on image = λ i. scanned_by (on.low_is i) (on.high_is i) (on.limit_is i)
-  where
-    scanned_by : Option (List ℕ) → Option (List ℕ) → ℕ → List Record
-    scanned_by low high limit = scan_of (record s { low = low; high = high; limit = limit }) image
-
-pub begins_on : {s t : SweepView} (records : List Record) → GoesOn s t → BeginsThere s records → BeginsThere t records
-begins_on {s} {t} records on begins = subst (λ (x : Type 0). x) (λ i. BeginsThere (record s { tally = sym on.tally_is i; first = sym on.first_is i; low = sym on.low_is i }) records) begins
-
 -- All records of a scan.
 
 module _ (s : SweepView) {a b : View} (rows : List Record) (to : ℕ) (says : SaysRows rows s 0 to a b) where
   pub within_rows : Told a → to ≤ length (scan_of s a.held)
-  within_rows told = omega (arith, says.count, ap length (says.are told), length-take to (scan_of s a.held))
+  within_rows told = next_within rows 0 to says.next told (omega arith)
 
   pub all_rows : Told a → length (scan_of s a.held) ≤ to → rows ≡ scan_of s a.held
-  all_rows told most = says.are told ∙ take_all to (scan_of s a.held) most
+  all_rows told most = says.next.are told ∙ take_all to (scan_of s a.held) most
 
 pub goes_on_refl : (s : SweepView) → GoesOn s s
 goes_on_refl s = record { layout_is = refl; region_is = refl; end_is = refl; tally_is = refl; first_is = refl; low_is = refl; high_is = refl; limit_is = refl; onward = omega arith }
@@ -184,6 +201,6 @@ module _ (s : StoreView) (first : ℕ) (low high : Option Bytes) (limit : ℕ) (
     travel = travel ∙ (λ i. after_walk (is i).reader.layout (is i).reader.region w.reader.next t.reader.next a);
   }
 
-  -- over few
-  pub few_of : (image : List ℕ) (end : ℕ) → end - w.first ≤ length (scan_of w image) / 4 + 2 → end - w.reader.next ≤ length (scanned low high limit (entries (map_of image))) / 4 + 2
-  few_of image end most = omega (arith, most, ap (λ (x : SweepView). x.reader.next) is, ap (λ (x : SweepView). x.first) is, ap length (scan_is image))
+  -- over as many as the sweep read from its first segment on
+  pub few_of : (end most : ℕ) → end - w.first ≤ most → end - w.reader.next ≤ most
+  few_of end most few = omega (arith, few, ap (λ (x : SweepView). x.reader.next) is, ap (λ (x : SweepView). x.first) is)
