@@ -1,4 +1,4 @@
-use Rattle.std.proofs.Common.{◌≡◌, inl, refl, ℕ, List, None, subst, sym, ap, ◌∙◌, arith}
+use Rattle.std.proofs.Common.{◌≡◌, ◌≤◌, inl, refl, ℕ, List, None, subst, sym, ap, ◌∙◌, arith}
 use Rattle.std.proofs.lemmas.Result.{on_ok_weaker, IfErr-weaker}
 use Rattle.station.specs.View.{Told, MayHold}
 use Rattle.station.proofs.Composition.{weaken, andthen, told_on, told_back, told_of, only_held}
@@ -10,6 +10,7 @@ use Rattle.map_model.specs.Repairing.{repair as repair_of}
 use Rattle.redo_journal.specs.declared.place.Place.{Place}
 use Rattle.recovery.specs.Faults.{IsNoDamage}
 use Rattle.recovery.specs.Restores.{IsAtRest}
+use Rattle.recovery.proofs.CostLaws.{both_within, replay_within}
 use Rattle.recovery.proofs.Repairing.{array_now}
 use Rattle.recovery.proofs.Bringing.{opens_restored, opens_repaired, leaves_on, balanced_as}
 use Rattle.recovery.proofs.open.bring_back.Goals as goal
@@ -79,3 +80,14 @@ returns-in-Ok-clause-one_pass g c told rest =
 pub returns-in-Ok-clause-damaged : goal.returns-in-Ok-clause-damaged
 returns-in-Ok-clause-damaged g c =
     IfErr-weaker c.repair.result _ _ (λ e failed told. subst IsNoDamage (sym (failed (told_on c.read_back.ensures.steps.frame told))) tt) c.repair.ensures.damaged
+
+-- What is written.
+
+pub returns-in-Ok-clause-cost : goal.returns-in-Ok-clause-cost
+returns-in-Ok-clause-cost g c =
+    let layout = c.args.parts.now.place.layout in
+    let height : c.read_back.new.parts.tally.height ≤ layout.hmax = omega (arith, c.in-Ok.ensures.parts.height, ap (λ (p : Place). p.layout.hmax) c.read_back.ensures.place) in
+    omega (arith, c.read_back.ensures.cost, c.repair.ensures.cost, both_within layout c.read_back.new.parts.tally.height height)
+
+pub returns-in-Err-clause-cost : goal.returns-in-Err-clause-cost
+returns-in-Err-clause-cost g c = omega (arith, c.read_back.ensures.cost, replay_within c.args.parts.now.place.layout)
