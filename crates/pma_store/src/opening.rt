@@ -1,15 +1,17 @@
 //! Opening a store.
 
-ghost use Rattle.std.specs.Prelude.{◌≡◌, ◌⊎◌, ◌+◌, ◌*◌, ◌≤◌, ◌^◌, ℕ, IsOk, OnOk, IfOk, IfErr, IsErrOf, None, Some, false};
+ghost use Rattle.std.specs.Prelude.{◌≡◌, ◌≢◌, ◌⊎◌, ◌+◌, ◌*◌, ◌≤◌, ◌^◌, ℕ, IsOk, OnOk, IfOk, IfErr, IsErrOf, None, Some, false};
 ghost use Rattle.station.specs.View.{Told, EachHeld, NothingPending, Rose};
 ghost use Rattle.station.specs.Steps.{Steps};
 ghost use Rattle.density_rule.specs.Marks.{no_marks};
+ghost use Rattle.header_gate.specs.Header.{layout_in};
 ghost use Rattle.header_gate.specs.Places.{file_length, segment_size, page_size};
 ghost use Rattle.header_gate.specs.Reasons.{header_reason};
 ghost use Rattle.map_model.specs.ArrayState.{opened_state};
 ghost use Rattle.map_model.specs.Image.{Represents, height_of, map_of};
 ghost use Rattle.map_model.specs.Reasons.{reason_of};
 ghost use Rattle.map_model.specs.Store.{Map};
+ghost use Rattle.recovery.specs.Costs.{opening_cost};
 ghost use Rattle.recovery.specs.Faults.{IsEarly, IsNoDamage, IsRereadFault};
 ghost use Rattle.recovery.specs.Restores.{Restores, Opens, LeavesFile, IsAtRest};
 ghost use Rattle.pma_store.specs.Answers.{state_in};
@@ -56,6 +58,9 @@ impl Store {
         ensures kept { Told (S.view station.old) → IsAtRest (S.view station.old).held → LeavesFile (S.view station.old) (S.view station.new) }
         ensures one_pass { Told (S.view station.old) → IsAtRest (S.view station.old).held →
             (S.view station.new).travel.read ≤ (S.view station.old).travel.read + (page_size + segment_size * 2 ^ height_of (S.view station.old).held) }
+        ensures cost { Told (S.view station.old) → (S.view station.new).travel.written ≤ (S.view station.old).travel.written + opening_cost (layout_in (S.view station.old).held) }
+        ensures cost_opened { IfOk result (λ store. (S.view station.new).travel.written ≤ (S.view station.old).travel.written + opening_cost store.place.layout) }
+        ensures unsound { Told (S.view station.old) → header_reason (S.view station.old).held ≢ None → LeavesFile (S.view station.old) (S.view station.new) }
 
         // Causes.
         ensures damaged { IfErr result (λ e. Told (S.view station.old) → IsNoDamage e) }
