@@ -1,6 +1,7 @@
 -- What an opening writes at most.
 use Rattle.std.specs.Prelude.{ℕ, ◌+◌, ◌-◌, ◌*◌, ◌^◌}
 use Rattle.header_gate.specs.declared.layout.Layout.{Layout}
+use Rattle.header_gate.specs.declared.layout.TheConstants.{GREATEST_HEIGHT}
 use Rattle.header_gate.specs.Places.{segment_size, height_limit}
 
 -- a replay: the segments of a full journal, and the gate
@@ -14,3 +15,7 @@ repair_cost height = (4 * 2 ^ height - 2) * 16398
 -- an opening: both, the repair at the greatest height that the layout allows
 unfoldable pub opening_cost : Layout → ℕ
 opening_cost l = replay_cost l + repair_cost (height_limit l)
+
+-- the layout with the greatest height and the longest journal
+abbrev pub greatest_layout : Layout
+greatest_layout = record { hmax = GREATEST_HEIGHT; journal = 2 ^ GREATEST_HEIGHT }
