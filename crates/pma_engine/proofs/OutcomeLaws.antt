@@ -3,6 +3,7 @@ use Rattle.std.proofs.Common.{◌≡◌, ◌⊎◌, inl, inr, ℕ, ◌+◌, ◌<
 use Rattle.std.proofs.lemmas.List.{append-nil}
 use Rattle.station.specs.View.{View, Told, SaidTold, Honest, NothingPending, Rose, Lawful, attached_by}
 use Rattle.station.specs.Steps.{Steps, Says, Run, LeavesOnly}
+use Rattle.station.specs.declared.travel.Travel.{Travel}
 use Rattle.station.proofs.Sayings.{since_entry, run_of_steps, run_on}
 use Rattle.line_source.specs.SourceView.{SourceView, Went}
 use Rattle.line_source.specs.SourceView as source
@@ -18,6 +19,7 @@ use Rattle.map_model.specs.Store.{Map}
 use Rattle.map_model.specs.Image.{Represents, map_of, height_of}
 use Rattle.map_model.proofs.Recovering.{determined}
 use Rattle.map_model.proofs.Reasonings.{represents_of_none, none_of_represents}
+use Rattle.recovery.specs.Costs.{opening_cost}
 use Rattle.recovery.specs.Restores.{Opens, IsAtRest}
 use Rattle.recovery.specs.declared.fault.OpenFault.{OpenFault}
 use Rattle.recovery.specs.declared.fault.OpenFault.TheVariants as opening
@@ -149,6 +151,8 @@ module _ (most : ℕ) (s : SourceView) (a b : View) (law : Lawful a) (ab : Steps
       said_is = ab.frame.said ∙ sym (append-nil a.said) ∙ sym (append-nil (a.said ++ []));
     };
     written = λ told_s told rest m height here. omega (arith, unopened.unwritten told rest);
+    written_in_all = λ told_s told m height here. omega (arith, unopened.cost told);
+    written_no_store = λ told none. unopened.cost told;
     settled = λ e. absurd (elim e [ inl x ↦ other DONE ((λ x. omega (arith, x)), (λ x. omega (arith, x))) x | inr (inl x) ↦ other SCRIPT_FAULT ((λ x. omega (arith, x)), (λ x. omega (arith, x))) x | inr (inr x) ↦ other TOO_LONG ((λ x. omega (arith, x)), (λ x. omega (arith, x))) x ]);
     reply_settled = λ e. absurd (other REPLY_FAULT ((λ x. omega (arith, x)), (λ x. omega (arith, x))) e);
     refused = λ e. absurd (other REFUSED ((λ x. omega (arith, x)), (λ x. omega (arith, x))) e);
@@ -182,8 +186,8 @@ module _ (most : ℕ) (s : SourceView) (a b : View) (law : Lawful a) (ab : Steps
     last_line line refuses says told = record { replies = []; line = line; refuses = refuses; says = subst (λ (l : List ℕ). SaysLine line l a d) (sym (append-nil a.said)) (said_since line says told) }
 
     -- a file that is refused represents no map
-    ran_refused : IsRefused a d → {text : List ℕ} → Says text b d → (Told a → (m : Map) (height : ℕ) → Represents a.held m height → ⊥) → Ran REFUSED most s s a d
-    ran_refused refused says never = record {
+    ran_refused : IsRefused a d → {text : List ℕ} → Says text b d → (Told a → b.travel.written ≤ a.travel.written + opening_cost (layout_in a.held)) → (Told a → (m : Map) (height : ℕ) → Represents a.held m height → ⊥) → Ran REFUSED most s s a d
+    ran_refused refused says cost never = record {
       status_is = inr (inl refl);
       attached = says.attached ∙ ab.frame.attached;
       headline = λ told_s honest nothing m height here. absurd (never (law.tells honest).0 m height here);
@@ -193,6 +197,8 @@ module _ (most : ℕ) (s : SourceView) (a b : View) (law : Lawful a) (ab : Steps
       reply_cut = λ e. absurd (omega (arith, e));
       stopped = λ e. absurd (elim e [ inl x ↦ omega (arith, x) | inr x ↦ omega (arith, x) ]);
       written = λ told_s told rest m height here. absurd (never told m height here);
+      written_in_all = λ told_s told m height here. absurd (never told m height here);
+      written_no_store = λ told none. omega (arith, cost told, ap (λ (t : Travel). t.written) says.travel);
       settled = λ e. absurd (elim e [ inl x ↦ omega (arith, x) | inr (inl x) ↦ omega (arith, x) | inr (inr x) ↦ omega (arith, x) ]);
       reply_settled = λ e. absurd (omega (arith, e));
       refused = λ e. refused;
@@ -217,7 +223,7 @@ module _ (most : ℕ) (s : SourceView) (a b : View) (law : Lawful a) (ab : Steps
           reason = λ told. (reason, unopened.refused reason refl told, said_since (reply.NotStore reason) (line (reply.NotStore reason) refl));
           recovers = λ told. ap (recovered (layout_in a.held)) says.held ∙ unopened.recovers reason refl told;
           even = λ told gate_even. says.held ∙ unopened.even reason refl told gate_even;
-        }) says (λ told m height here. none_some (sym (none_of_represents a.held m height here) ∙ unopened.refused reason refl told))
+        }) says unopened.cost (λ told m height here. none_some (sym (none_of_represents a.held m height here) ∙ unopened.refused reason refl told))
       where
         none_some : {r : Reason} → None ≡ Some r → ⊥
         none_some is = cc
@@ -227,7 +233,7 @@ module _ (most : ℕ) (s : SourceView) (a b : View) (law : Lawful a) (ab : Steps
           reason = λ told. absurd (unopened.undamaged told);
           recovers = λ told. absurd (unopened.undamaged told);
           even = λ told. absurd (unopened.undamaged told);
-        }) says (λ told. absurd (unopened.undamaged told))
+        }) says unopened.cost (λ told. absurd (unopened.undamaged told))
 
 -- A run over an open store.
 
@@ -314,6 +320,11 @@ module _ (a b : View) (law : Lawful a) (ab : Steps Opens (attached_by false a) b
         let cost : session_cost (hmax_of v) (state_in v b.held) (commands_of s0.left) ≡ session_cost (hmax_in a.held) (state_of m height a.held) (commands_of s0.left) =
         (λ t. session_cost (same_limit told t) (same_state told m height here t) (commands_of s0.left)) in
         omega (arith, serves.written (λ e. serves.refused e (on told)) told_s (on told), opened.unwritten told rest, cost, ap most_written (same_limit told));
+    written_in_all = λ told_s told m height here.
+        let cost : session_cost (hmax_of v) (state_in v b.held) (commands_of s0.left) ≡ session_cost (hmax_in a.held) (state_of m height a.held) (commands_of s0.left) =
+        (λ t. session_cost (same_limit told t) (same_state told m height here t) (commands_of s0.left)) in
+        omega (arith, serves.written (λ e. serves.refused e (on told)) told_s (on told), opened.cost told, cost, ap most_written (same_limit told));
+    written_no_store = λ told none. absurd (is_store told none);
     settled = serves.settled;
     reply_settled = serves.reply_settled;
     refused = λ e. record {

@@ -15,6 +15,7 @@ use Rattle.header_gate.specs.Places.{height_limit}
 use Rattle.header_gate.specs.Recovered.{recovered}
 use Rattle.header_gate.specs.declared.reason.Reason.{Reason}
 use Rattle.header_gate.specs.declared.reason.Reason.TheVariants.{Length}
+use Rattle.recovery.specs.Costs.{opening_cost}
 use Rattle.recovery.specs.Restores.{IsAtRest}
 use Rattle.command_text.specs.ArraySession.{array_state_after}
 use Rattle.command_text.specs.declared.command.Command.{Command}
@@ -116,6 +117,9 @@ pub record Ran (status most : ℕ) (s0 s1 : SourceView) (a b : View) : Type 0 wh
   pub stopped : (status ≡ DISK_FAULT) ⊎ (status ≡ REPLY_FAULT) → source.Told s0 → Told a → SaidTold a → (m : Map) (height : ℕ) → Represents a.held m height → IsStopped (hmax_in a.held) (state_of m height a.held) s0.left s1.left a.said b.said
   pub written : source.Told s0 → Told a → IsAtRest a.held → (m : Map) (height : ℕ) → Represents a.held m height
       → b.travel.written ≤ a.travel.written + session_cost (hmax_in a.held) (state_of m height a.held) (commands_of s0.left) + most_written (hmax_in a.held)
+  pub written_in_all : source.Told s0 → Told a → (m : Map) (height : ℕ) → Represents a.held m height
+      → b.travel.written ≤ a.travel.written + opening_cost (layout_in a.held) + session_cost (hmax_in a.held) (state_of m height a.held) (commands_of s0.left) + most_written (hmax_in a.held)
+  pub written_no_store : Told a → NoStore a.held → b.travel.written ≤ a.travel.written + opening_cost (layout_in a.held)
   pub settled : IsRest status → NothingPending b
   pub reply_settled : status ≡ REPLY_FAULT → NothingPending b
   pub refused : status ≡ REFUSED → IsRefused a b
