@@ -19,6 +19,7 @@ mod generated;
 mod quiet_station;
 mod refusals;
 mod rows;
+mod scripts;
 mod stops;
 mod updates;
 

@@ -13,7 +13,7 @@ use std::process::Abort;
 use std::test::Fail;
 
 // The most calls that a session of these tests makes.
-const CALLS: u32 = 120;
+pub(super) const CALLS: u32 = 120;
 
 // The keys from one number to another.
 type Keys = (u32, u32);
@@ -100,7 +100,7 @@ fn see_opened(
 }
 
 // The same, and where an opening writes, also once it was stopped at each of its calls: the map is the same then.
-fn see_opened_after_stops(
+pub(super) fn see_opened_after_stops(
     rt: &impl Abort,
     alloc: Global,
     file: &[u8],
