@@ -3,8 +3,8 @@
 # its tests, and its must-fail edits. Usage: tools/gate-times.sh [CRATE..], all of crates.txt being measured where none is
 # named. The last line has the sums in minutes. A part that failed has a `!`.
 #
-# It works on a copy of the checkout, in the order of crates.txt, so that the libraries below a crate are there. The
-# toolchain begins a check with what other copies on this machine kept; times from nothing come on a machine without them.
+# It works on a copy of the checkout, in the order of crates.txt, so that the libraries below a crate are there. Some kits
+# begin a check with what other copies on the machine kept; there times from nothing come on a machine without them.
 set -u
 cd "$(dirname "$0")/.."
 root=$PWD

@@ -1,11 +1,8 @@
 //! A user's script, cut at each call: what was said is a front of its replies, and what is left opens as the map after the
 //! commands whose replies were begun, or after one more.
 
-use super::stops::{CALLS, see_opened_after_stops};
-use super::{LONGEST, Plan, SMOOTH, created, session, words_to_run};
-use line_source::MemSource;
-use pma_engine::run_words;
-use station::{CrashStation, MemStation, Pick};
+use super::stops::{CALLS, PICKS, noted, see_opened_after_stops};
+use super::{Plan, SMOOTH, created, session};
 use std::alloc::Global;
 use std::test::Fail;
 
@@ -90,20 +87,14 @@ fn a_failed_call_of_a_script_leaves_a_front_of_it(rt: HostRuntime) -> Result<(),
 fn a_stop_within_a_script_leaves_a_front_of_it(rt: HostRuntime) -> Result<(), Fail> {
     let (_, empty) = created(rt.alloc(), "0", None)?;
     let (script, replies) = script(rt.alloc())?;
-    let bytes = empty.held();
-    let bytes = &bytes[..bytes.len().min(LONGEST)];
-    let inner = MemStation::new(rt.alloc(), bytes, LONGEST, 1024, &[], None)?;
-    let mut station = CrashStation::new(rt.alloc(), inner, CALLS, 1 << 20)?;
-    let mut source = MemSource::new(rt.alloc(), &script, 7, &[])?;
-    let words = words_to_run(rt.alloc())?;
-    let status = run_words(rt.alloc(), &words, &mut source, &mut station, SMOOTH.most);
+    let (status, station) = noted(rt.alloc(), empty.held(), &script)?;
     assert_eq!(rt; status, 0);
     assert!(rt; station.inner().said() == replies.as_slice());
     for calls in 0..CALLS {
         if calls as usize > station.noted() {
             return Ok(());
         }
-        for pick in [Pick::Settled, Pick::Held, Pick::Fill(0xA5)] {
+        for pick in PICKS {
             let image = station.crash_image(rt.alloc(), calls, pick)?;
             let maps = maps_after(station.said_after(calls));
             see_opened_after_stops(&rt, rt.alloc(), &image, maps, false)?;

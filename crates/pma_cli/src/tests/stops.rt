@@ -15,6 +15,9 @@ use std::test::Fail;
 // The most calls that a session of these tests makes.
 pub(super) const CALLS: u32 = 120;
 
+// What a crash may leave of each pending byte.
+pub(super) const PICKS: [Pick; 3] = [Pick::Settled, Pick::Held, Pick::Fill(0xA5)];
+
 // The keys from one number to another.
 type Keys = (u32, u32);
 
@@ -170,6 +173,17 @@ fn see_faults(
     Err("the session makes more calls".into())
 }
 
+// Answers a script on a file of these bytes, over a station that notes its calls.
+pub(super) fn noted(alloc: Global, file: &[u8], script: &[u8]) -> Result<(u8, CrashStation), Fail> {
+    let bytes = &file[..file.len().min(LONGEST)];
+    let inner = MemStation::new(alloc, bytes, LONGEST, 1024, &[], None)?;
+    let mut station = CrashStation::new(alloc, inner, CALLS, 1 << 20)?;
+    let mut source = MemSource::new(alloc, script, 7, &[])?;
+    let words = words_to_run(alloc)?;
+    let status = run_words(alloc, &words, &mut source, &mut station, SMOOTH.most);
+    Ok((status, station))
+}
+
 // Stops a session after each of its calls, with what is pending left in three ways.
 fn see_stops(
     rt: &impl Abort,
@@ -178,18 +192,13 @@ fn see_stops(
     line: &[u8],
     maps: (&[u8], &[u8]),
 ) -> Result<(), Fail> {
-    let bytes = &file[..file.len().min(LONGEST)];
-    let inner = MemStation::new(alloc, bytes, LONGEST, 64, &[], None)?;
-    let mut station = CrashStation::new(alloc, inner, CALLS, 1 << 20)?;
-    let mut source = MemSource::new(alloc, line, 7, &[])?;
-    let words = words_to_run(alloc)?;
-    let status = run_words(alloc, &words, &mut source, &mut station, SMOOTH.most);
+    let (status, station) = noted(alloc, file, line)?;
     assert_eq!(rt; status, 0);
     for calls in 0..CALLS {
         if calls as usize > station.noted() {
             return Ok(());
         }
-        for pick in [Pick::Settled, Pick::Held, Pick::Fill(0xA5)] {
+        for pick in PICKS {
             let image = station.crash_image(alloc, calls, pick)?;
             see_opened_after_stops(rt, alloc, &image, maps, station.said_after(calls) > 0)?;
         }
