@@ -1,5 +1,6 @@
 #!/usr/bin/env bash
-# The program on real descriptors, outside the gate: closed streams, full devices, early ends, files that can't be opened.
+# The program on real descriptors, outside the gate: closed streams, full devices, early ends, files that can't be opened, and
+# where `strace` is installed, the calls of a put in their order.
 # Usage: tools/descriptors.sh [PROGRAM], the program being ./pma where none is named.
 set -u
 program=$(realpath "${1:-./pma}")
@@ -8,14 +9,19 @@ trap 'rm -rf "$folder"' EXIT
 cd "$folder" || exit 1
 wrong=0
 
-# Wants a status: what was tried, the status that is wanted, the one that came.
-want() {
+# Wants something to be so: what was tried, what is wanted, what came.
+want_that() {
     if [ "$2" = "$3" ]; then
-        printf 'ok    %s: status %s\n' "$1" "$3"
+        printf 'ok    %s: %s\n' "$1" "$3"
     else
-        printf 'WRONG %s: status %s in place of %s\n' "$1" "$3" "$2"
+        printf 'WRONG %s: %s in place of %s\n' "$1" "$3" "$2"
         wrong=$((wrong + 1))
     fi
+}
+
+# Wants a status: what was tried, the status that is wanted, the one that came.
+want() {
+    want_that "$1" "status $2" "status $3"
 }
 
 # Wants two files to have the same bytes.
@@ -99,6 +105,16 @@ chmod 444 locked
 $as ./pma_copy run locked <script >said
 want 'no permission to write' 4 $?
 same 'no permission to write: the file stays' locked before
+
+# The order in which a put reaches the file: the opening's sync, then table and image of the journal, the gate, the segment and
+# the gate again, each synced before what follows, and last the reply.
+if command -v strace >/dev/null; then
+    cp before s
+    printf 'put b 2\n' | strace -f -o calls -e trace=fsync,fdatasync,pwrite64,write "$program" run s >said
+    want_that 'the calls of a put' \
+        'fsync pwrite64 pwrite64 fsync pwrite64 fsync pwrite64 fsync pwrite64 fsync write ' \
+        "$(sed -n 's/^[0-9 ]*\([a-z0-9]*\)(.*/\1/p' calls | tr '\n' ' ')"
+fi
 
 printf '%s wrong\n' "$wrong"
 [ "$wrong" = 0 ]
