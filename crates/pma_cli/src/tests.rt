@@ -9,9 +9,11 @@ use crate::file_station::FileStation;
 use crate::stdin_source::StdinSource;
 use line_source::{MemSource, Source};
 use pma_engine::{Job, read_words, run_words};
+use rows::{Part, answered};
 use station::MemStation;
 use std::alloc::Global;
 use std::fs;
+use std::process::Abort;
 use std::test::Fail;
 
 mod faults;
@@ -127,43 +129,65 @@ fn session(
     Ok((status, station))
 }
 
+// Sees that a script on a file of these bytes ends with a status, and what is said by then. Gives the station.
+fn see_session(
+    rt: &impl Abort,
+    alloc: Global,
+    bytes: &[u8],
+    script: &[u8],
+    plan: Plan<'_>,
+    want: (u8, &[u8]),
+) -> Result<MemStation, Fail> {
+    let (status, station) = session(alloc, bytes, script, plan)?;
+    assert_eq!(rt; (status, station.said()), want);
+    Ok(station)
+}
+
+// Sees the same where nothing fails, and that the file keeps its bytes.
+fn see_kept(
+    rt: &impl Abort,
+    alloc: Global,
+    bytes: &[u8],
+    script: &[u8],
+    want: (u8, &[u8]),
+) -> Result<(), Fail> {
+    let station = see_session(rt, alloc, bytes, script, SMOOTH, want)?;
+    assert!(rt; station.held() == bytes, "every byte is left");
+    Ok(())
+}
+
+// The status of a command line of these tests over a file of the operating system.
+fn status_over_a_file(rt: &HostRuntime, words: &[String], script: &[u8]) -> Result<u8, Fail> {
+    if !is_small(words) {
+        return Err("a file of these tests is longer".into());
+    }
+    let mut source = MemSource::new(rt.alloc(), script, 3, &[])?;
+    let mut station = FileStation::new(rt);
+    Ok(run_words(rt.alloc(), words, &mut source, &mut station, SMOOTH.most))
+}
+
 #[test]
 fn a_file_of_the_operating_system(rt: HostRuntime) -> Result<(), Fail> {
-    let most = SMOOTH.most;
     let _ = fs::remove_file(&rt, "f");
-    let mut nothing = MemSource::new(rt.alloc(), b"", 1, &[])?;
-    let mut puts = MemSource::new(rt.alloc(), b"put a 1\n", 3, &[])?;
-    let mut gets = MemSource::new(rt.alloc(), b"get a\n", 3, &[])?;
     let create = words_to_create(rt.alloc(), "2", None)?;
-    assert!(rt; is_small(&create));
     let run = words_to_run(rt.alloc())?;
-    let made = run_words(
-        rt.alloc(),
-        &create,
-        &mut nothing,
-        &mut FileStation::new(&rt),
-        most,
-    );
-    let put = run_words(
-        rt.alloc(),
-        &run,
-        &mut puts,
-        &mut FileStation::new(&rt),
-        most,
-    );
-    let got = run_words(
-        rt.alloc(),
-        &run,
-        &mut gets,
-        &mut FileStation::new(&rt),
-        most,
-    );
+    for (words, script) in [
+        (&create, b"".as_slice()),
+        (&run, b"put a 1\n"),
+        (&run, b"get a\n"),
+    ] {
+        assert_eq!(rt; status_over_a_file(&rt, words, script)?, 0);
+    }
     let _ = StdinSource::new(&rt).take(&mut [0; 1]);
     let file = fs::read(&rt, "f")?;
     fs::remove_file(&rt, "f")?;
-    assert_eq!(rt; (made, put, got), (0, 0, 0));
-    let (_, empty) = created(rt.alloc(), "2", None)?;
-    let (_, one) = session(rt.alloc(), empty.held(), b"put a 1\n", SMOOTH)?;
-    assert!(rt; file.as_slice() == one.held());
+    let one = answered(
+        &rt,
+        rt.alloc(),
+        "2",
+        None,
+        &[Part::Lines(b"put a 1\n", b"stored\n")],
+    )?;
+    assert!(rt; file.as_slice() == one.as_slice());
     Ok(())
 }

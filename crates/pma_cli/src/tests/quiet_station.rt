@@ -3,10 +3,12 @@
 ghost use Rattle.std.specs.Prelude.{◌≡◌, ◌+◌, ◌-◌, ◌^◌, ◌≤◌, min, IsErr};
 
 use super::rows::{Part, answered};
-use super::{SMOOTH, created, session, words_to_run};
+use super::{SMOOTH, words_to_run};
 use line_source::MemSource;
 use pma_engine::run_words;
 use station::{Failed, SayFailed, Station, Travel};
+use std::alloc::Global;
+use std::process::Abort;
 use std::test::Fail;
 
 // The longest file that it serves, in bytes.
@@ -105,52 +107,57 @@ impl Station for QuietStation {
     }
 }
 
+// Answers a script over a file that changes so.
+fn quiet_session(
+    alloc: Global,
+    file: &[u8],
+    change: (u64, usize, u8),
+    script: &[u8],
+) -> Result<(u8, QuietStation), Fail> {
+    let mut station = QuietStation {
+        file: Vec::from_slice(alloc, file)?,
+        said: Vec::new(alloc),
+        change,
+        attached: None,
+        calls: 0,
+        disk_faults: 0,
+        say_faults: 0,
+        travel: Travel::START,
+    };
+    let mut source = MemSource::new(alloc, script, 7, &[])?;
+    let words = words_to_run(alloc)?;
+    let status = run_words(alloc, &words, &mut source, &mut station, SMOOTH.most);
+    Ok((status, station))
+}
+
+// What changes of a file, the line that is asked then, the status, and what is said.
+type Change = ((u64, usize, u8), &'static [u8], u8, &'static [u8]);
+
 // The opening of a store of one segment makes five calls, an attach, a sync and three reads; the segment is the last
-// that it reads, and lies at 24576. That of a store of two makes one more, and segment 1 of region 1 lies at 45056.
-#[test]
-fn a_segment_that_turns_bad_is_refused(rt: HostRuntime) -> Result<(), Fail> {
-    let (_, empty) = created(rt.alloc(), "0", None)?;
-    let (_, one) = session(rt.alloc(), empty.held(), b"put a 1\n", SMOOTH)?;
-    let two = answered(&rt, rt.alloc(), "2", None, &[Part::Put(1, 65)])?;
-    for (file, change, script, want, said) in [
-        (
-            one.held(),
-            (5, 24576, 2),
-            b"get a\n".as_slice(),
-            3,
-            b"refused slot 0 0\n".as_slice(),
-        ),
-        (
-            one.held(),
-            (5, 24578, 33),
-            b"get a\n",
-            3,
-            b"refused slot 0 0\n",
-        ),
-        (one.held(), (5, 24576, 1), b"get a\n", 0, b"found 1\n"),
-        (
-            two.as_slice(),
-            (6, 45056, 2),
-            b"get k065\n",
-            3,
-            b"refused slot 1 0\n",
-        ),
-    ] {
-        let mut station = QuietStation {
-            file: Vec::from_slice(rt.alloc(), file)?,
-            said: Vec::new(rt.alloc()),
-            change,
-            attached: None,
-            calls: 0,
-            disk_faults: 0,
-            say_faults: 0,
-            travel: Travel::START,
-        };
-        let mut source = MemSource::new(rt.alloc(), script, 7, &[])?;
-        let words = words_to_run(rt.alloc())?;
-        let status = run_words(rt.alloc(), &words, &mut source, &mut station, SMOOTH.most);
-        assert_eq!(rt; station.said.as_slice(), said);
-        assert_eq!(rt; status, want);
+// that it reads, and lies at 24576.
+const ONE_SEGMENT: &[Change] = &[
+    ((5, 24576, 2), b"get a\n", 3, b"refused slot 0 0\n"),
+    ((5, 24578, 33), b"get a\n", 3, b"refused slot 0 0\n"),
+    ((5, 24576, 1), b"get a\n", 0, b"found 1\n"),
+];
+
+// That of a store of two makes one more, and segment 1 of region 1 lies at 45056.
+const TWO_SEGMENTS: &[Change] = &[((6, 45056, 2), b"get k065\n", 3, b"refused slot 1 0\n")];
+
+// Sees what comes of each change of a file.
+fn see_changes(rt: &impl Abort, alloc: Global, file: &[u8], rows: &[Change]) -> Result<(), Fail> {
+    for (change, line, want, said) in rows {
+        let (status, station) = quiet_session(alloc, file, *change, line)?;
+        assert_eq!(rt; (status, station.said.as_slice()), (*want, *said));
     }
     Ok(())
+}
+
+#[test]
+fn a_segment_that_turns_bad_is_refused(rt: HostRuntime) -> Result<(), Fail> {
+    let one = [Part::Lines(b"put a 1\n", b"stored\n")];
+    let file = answered(&rt, rt.alloc(), "0", None, &one)?;
+    see_changes(&rt, rt.alloc(), &file, ONE_SEGMENT)?;
+    let file = answered(&rt, rt.alloc(), "2", None, &[Part::Put(1, 65)])?;
+    see_changes(&rt, rt.alloc(), &file, TWO_SEGMENTS)
 }

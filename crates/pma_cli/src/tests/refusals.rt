@@ -3,13 +3,14 @@
 ghost use Rattle.std.specs.Prelude.{◌≡◌, None, map, string_bytes};
 ghost use Rattle.pma_engine.specs.Words.{job_of};
 
-use super::rows::{Part, answered};
+use super::rows::{Part, answered, words_of};
 use super::updates::with_bytes;
-use super::{SMOOTH, created, created_in, session};
+use super::{SMOOTH, created, created_in, see_kept};
 use line_source::MemSource;
 use pma_engine::{read_words, run_words};
 use station::MemStation;
 use std::alloc::Global;
+use std::process::Abort;
 use std::test::Fail;
 
 // The status of words that ask for nothing, over a station and a source whose first calls would fail.
@@ -21,62 +22,62 @@ fn status_of(alloc: Global, words: &[String]) -> Result<u8, Fail>
     Ok(run_words(alloc, words, &mut source, &mut station, SMOOTH.most))
 }
 
+// Command lines that ask for nothing.
+const USAGE: &[&[&str]] = &[
+    &[],
+    &["run"],
+    &["run", ""],
+    &["run", "f", "0"],
+    &["RUN", "f"],
+    &["create", "f"],
+    &["create", "", "0"],
+    &["create", "f", ""],
+    &["create", "f", "17"],
+    &["create", "f", "02"],
+    &["create", "f", "-1"],
+    &["create", "f", "2", "5"],
+    &["create", "f", "2", "3"],
+    &["create", "f", "3", "9"],
+    &["create", "f", "3", "8", "8"],
+    &["check", "f"],
+    &["gen", "1"],
+    &["gen", "1000001", "1"],
+    &["gen", "1", "4294967296"],
+    &["gen", "01", "1"],
+];
+
 #[test]
 fn other_words_are_usage(rt: HostRuntime) -> Result<(), Fail> {
-    let lines: [&[&str]; 20] = [
-        &[],
-        &["run"],
-        &["run", ""],
-        &["run", "f", "0"],
-        &["RUN", "f"],
-        &["create", "f"],
-        &["create", "", "0"],
-        &["create", "f", ""],
-        &["create", "f", "17"],
-        &["create", "f", "02"],
-        &["create", "f", "-1"],
-        &["create", "f", "2", "5"],
-        &["create", "f", "2", "3"],
-        &["create", "f", "3", "9"],
-        &["create", "f", "3", "8", "8"],
-        &["check", "f"],
-        &["gen", "1"],
-        &["gen", "1000001", "1"],
-        &["gen", "1", "4294967296"],
-        &["gen", "01", "1"],
-    ];
-    for line in lines {
-        let mut words = Vec::new(rt.alloc());
-        for word in line {
-            words.push(String::from_str(rt.alloc(), word)?)?;
-        }
+    for line in USAGE {
+        let words = words_of(rt.alloc(), line)?;
         assert!(rt; read_words(&words).is_none());
         assert_eq!(rt; status_of(rt.alloc(), &words)?, 2);
     }
     Ok(())
 }
 
+// The height limit and the journal of a new store, and its length.
+type Size = (&'static str, Option<&'static str>, usize);
+
+const SIZES: &[Size] = &[
+    ("0", None, 32768),
+    ("0", Some("4"), 32768),
+    ("2", None, 57344),
+    ("4", Some("4"), 155648),
+    ("4", Some("16"), 204800),
+    ("4", None, 204800),
+];
+
+/// An empty script leaves every byte.
 #[test]
 fn an_empty_file_becomes_a_store(rt: HostRuntime) -> Result<(), Fail> {
-    for (height, journal, length) in [
-        ("0", None, 32768),
-        ("0", Some("4"), 32768),
-        ("2", None, 57344),
-        ("4", Some("4"), 155648),
-        ("4", Some("16"), 204800),
-        ("4", None, 204800),
-    ] {
-        let (status, station) = created(rt.alloc(), height, journal)?;
-        assert_eq!(rt; status, 0);
-        assert_eq!(rt; station.said(), b"".as_slice());
-        assert_eq!(rt; station.held().len(), length);
-        let (status, again) = session(rt.alloc(), station.held(), b"", SMOOTH)?;
-        assert_eq!(rt; status, 0);
-        assert_eq!(rt; again.said(), b"".as_slice());
-        assert!(rt;
-            again.held() == station.held(),
-            "an empty script leaves every byte"
+    for (height, journal, length) in SIZES {
+        let (status, made) = created(rt.alloc(), height, *journal)?;
+        assert_eq!(rt;
+            (status, made.said(), made.held().len()),
+            (0, b"".as_slice(), *length)
         );
+        see_kept(&rt, rt.alloc(), made.held(), b"", (0, b""))?;
     }
     Ok(())
 }
@@ -138,38 +139,41 @@ fn what_is_wrong_with_a_file_is_said(rt: HostRuntime) -> Result<(), Fail> {
     for (height, parts, changes, line) in REFUSED {
         let file = answered(&rt, rt.alloc(), height, None, parts)?;
         let file = with_bytes(rt.alloc(), &file, changes)?;
-        let (status, station) = session(rt.alloc(), &file, b"put b 2\n", SMOOTH)?;
-        assert_eq!(rt; station.said(), *line);
-        assert_eq!(rt; status, 3);
-        assert!(rt; station.held() == file.as_slice());
+        see_kept(&rt, rt.alloc(), &file, b"put b 2\n", (3, line))?;
     }
+    Ok(())
+}
+
+// A number of zeros, and the lines of the refusals where they are run on and where a store is made of them.
+type Zeros = (usize, &'static [u8], &'static [u8]);
+
+const ZEROS: &[Zeros] = &[
+    (32768, b"refused identity 3072\n", b"refused length 32768\n"),
+    (4096, b"refused identity 3072\n", b"refused length 4096\n"),
+    (4095, b"refused length 4095\n", b"refused length 4095\n"),
+    (1, b"refused length 1\n", b"refused length 1\n"),
+];
+
+// Sees that no store is made of these bytes, which are left.
+fn see_not_made(rt: &impl Abort, alloc: Global, bytes: &[u8], line: &[u8]) -> Result<(), Fail> {
+    let (status, station) = created_in(alloc, bytes, "0", None)?;
+    assert_eq!(rt; (status, station.said()), (3, line));
+    assert!(rt; station.held() == bytes);
     Ok(())
 }
 
 #[test]
 fn zeros_are_no_store(rt: HostRuntime) -> Result<(), Fail> {
-    for (length, ran, made) in [
-        (
-            32768,
-            b"refused identity 3072\n".as_slice(),
-            b"refused length 32768\n".as_slice(),
-        ),
-        (4096, b"refused identity 3072\n", b"refused length 4096\n"),
-        (4095, b"refused length 4095\n", b"refused length 4095\n"),
-        (1, b"refused length 1\n", b"refused length 1\n"),
-    ] {
-        let zeros = vec![in rt.alloc(); 0; length]?;
-        let (status, station) = session(rt.alloc(), &zeros, b"put a 1\n", SMOOTH)?;
-        assert_eq!(rt; station.said(), ran);
-        assert_eq!(rt; status, 3);
-        assert!(rt; station.held() == zeros.as_slice());
-        let (status, station) = created_in(rt.alloc(), &zeros, "0", None)?;
-        assert_eq!(rt; station.said(), made);
-        assert_eq!(rt; status, 3);
-        assert!(rt; station.held() == zeros.as_slice());
+    for (length, ran, made) in ZEROS {
+        let zeros = vec![in rt.alloc(); 0; *length]?;
+        see_kept(&rt, rt.alloc(), &zeros, b"put a 1\n", (3, ran))?;
+        see_not_made(&rt, rt.alloc(), &zeros, made)?;
     }
-    let (status, station) = session(rt.alloc(), b"", b"put a 1\n", SMOOTH)?;
-    assert_eq!(rt; station.said(), b"refused length 0\n".as_slice());
-    assert_eq!(rt; status, 3);
-    Ok(())
+    see_kept(
+        &rt,
+        rt.alloc(),
+        b"",
+        b"put a 1\n",
+        (3, b"refused length 0\n"),
+    )
 }

@@ -1,7 +1,7 @@
 //! Worked sessions: scripts on new stores of several heights, with their replies, and how many records their segments
 //! hold then.
 
-use super::{SMOOTH, created, push_key, session};
+use super::{SMOOTH, created, push_key, see_session, session};
 use line_source::MemSource;
 use pma_engine::{Job, read_words, run_words};
 use station::{MemStation, Station};
@@ -23,7 +23,12 @@ pub(super) enum Part {
 use Part::{Lines, Put, Remove};
 
 // A line for each key from the first number to the last: a word, a space if there is one, and the key.
-fn push_lines(script: &mut Vec<u8>, word: &[u8], first: u32, last: u32) -> Result<(), Fail> {
+pub(super) fn push_lines(
+    script: &mut Vec<u8>,
+    word: &[u8],
+    first: u32,
+    last: u32,
+) -> Result<(), Fail> {
     for number in first..=last {
         script.extend_from_slice(word)?;
         push_key(script, number)?;
@@ -74,9 +79,7 @@ pub(super) fn answered(
     for part in parts {
         push_part(&mut script, &mut want, *part)?;
     }
-    let (status, station) = session(alloc, empty.held(), &script, SMOOTH)?;
-    assert_eq!(rt; station.said(), want.as_slice());
-    assert_eq!(rt; status, 0);
+    let station = see_session(rt, alloc, empty.held(), &script, SMOOTH, (0, &want))?;
     Ok(Vec::from_slice(alloc, station.held())?)
 }
 
@@ -264,7 +267,7 @@ fn sessions_are_answered(rt: HostRuntime) -> Result<(), Fail> {
 }
 
 // The records of the segment at a place, at a region's place and a number of segments on.
-pub(super) fn records_at(file: &[u8], place: usize) -> u32 {
+fn records_at(file: &[u8], place: usize) -> u32 {
     let mut count = 0u32;
     for slot in 0..64usize {
         if file.get(place.saturating_add(64 * slot)) == Some(&1) {
@@ -272,6 +275,15 @@ pub(super) fn records_at(file: &[u8], place: usize) -> u32 {
         }
     }
     count
+}
+
+// Sees that the segments from a place on hold so many records.
+pub(super) fn see_shares(rt: &impl Abort, file: &[u8], place: usize, shares: &[u32]) {
+    let mut place = place;
+    for share in shares {
+        assert_eq!(rt; records_at(file, place), *share);
+        place = place.saturating_add(4096);
+    }
 }
 
 // The regions of a store of height limit 2, and their size.
@@ -296,21 +308,11 @@ const SHARES: &[(u32, u32, &[u32])] = &[
 #[test]
 fn segments_hold_their_shares(rt: HostRuntime) -> Result<(), Fail> {
     for (put, removed, shares) in SHARES {
-        let file = answered(
-            &rt,
-            rt.alloc(),
-            "2",
-            None,
-            &[Part::Put(1, *put), Part::Remove(1, *removed)],
-        )?;
-        let live = if file.first() == Some(&1) {
-            REGION_0 + REGION_SIZE
-        } else {
-            REGION_0
-        };
-        for (number, share) in shares.iter().take(4).enumerate() {
-            assert_eq!(rt; records_at(&file, live + 4096 * number), *share);
-        }
+        let parts = [Put(1, *put), Remove(1, *removed)];
+        let file = answered(&rt, rt.alloc(), "2", None, &parts)?;
+        let is_second = file.first() == Some(&1);
+        let live = REGION_0 + if is_second { REGION_SIZE } else { 0 };
+        see_shares(&rt, &file, live, shares);
     }
     Ok(())
 }
@@ -328,12 +330,18 @@ fn a_range_reads_straight_on(rt: HostRuntime) -> Result<(), Fail> {
     Ok(())
 }
 
+// The words of a command line.
+pub(super) fn words_of(alloc: Global, line: &[&str]) -> Result<Vec<String>, Fail> {
+    let mut words = Vec::new(alloc);
+    for word in line {
+        words.push(String::from_str(alloc, word)?)?;
+    }
+    Ok(words)
+}
+
 // Says the summary of generated commands.
 pub(super) fn generated(alloc: Global, count: &str, seed: &str) -> Result<(u8, MemStation), Fail> {
-    let mut words = Vec::new(alloc);
-    words.push(String::from_str(alloc, "gen")?)?;
-    words.push(String::from_str(alloc, count)?)?;
-    words.push(String::from_str(alloc, seed)?)?;
+    let words = words_of(alloc, &["gen", count, seed])?;
     let Some(Job::Gen { .. }) = read_words(&words) else {
         return Err("these words generate nothing".into());
     };
@@ -343,39 +351,43 @@ pub(super) fn generated(alloc: Global, count: &str, seed: &str) -> Result<(u8, M
     Ok((status, station))
 }
 
+// How many commands are generated, by what seed, and their summary.
+type Summed = (&'static str, &'static str, &'static [u8]);
+
+const SUMMED: &[Summed] = &[
+    (
+        "0",
+        "7",
+        b"gen commands=0 stored=0 replaced=0 removed=0 absent=0 found=0 ranged=0 records=0 height=0\n",
+    ),
+    (
+        "1",
+        "0",
+        b"gen commands=1 stored=0 replaced=0 removed=0 absent=0 found=0 ranged=0 records=0 height=0\n",
+    ),
+    (
+        "1",
+        "1",
+        b"gen commands=1 stored=0 replaced=0 removed=0 absent=1 found=0 ranged=0 records=0 height=0\n",
+    ),
+    (
+        "1",
+        "2",
+        b"gen commands=1 stored=1 replaced=0 removed=0 absent=0 found=0 ranged=0 records=1 height=0\n",
+    ),
+    (
+        "100",
+        "5",
+        b"gen commands=100 stored=62 replaced=0 removed=0 absent=27 found=0 ranged=101 records=62 height=0\n",
+    ),
+];
+
 /// The numbers come from the definition, worked out apart from this program.
 #[test]
 fn generated_commands_are_summed(rt: HostRuntime) -> Result<(), Fail> {
-    for (count, seed, want) in [
-        (
-            "0",
-            "7",
-            b"gen commands=0 stored=0 replaced=0 removed=0 absent=0 found=0 ranged=0 records=0 height=0\n".as_slice(),
-        ),
-        (
-            "1",
-            "0",
-            b"gen commands=1 stored=0 replaced=0 removed=0 absent=0 found=0 ranged=0 records=0 height=0\n",
-        ),
-        (
-            "1",
-            "1",
-            b"gen commands=1 stored=0 replaced=0 removed=0 absent=1 found=0 ranged=0 records=0 height=0\n",
-        ),
-        (
-            "1",
-            "2",
-            b"gen commands=1 stored=1 replaced=0 removed=0 absent=0 found=0 ranged=0 records=1 height=0\n",
-        ),
-        (
-            "100",
-            "5",
-            b"gen commands=100 stored=62 replaced=0 removed=0 absent=27 found=0 ranged=101 records=62 height=0\n",
-        ),
-    ] {
+    for (count, seed, want) in SUMMED {
         let (status, station) = generated(rt.alloc(), count, seed)?;
-        assert_eq!(rt; station.said(), want);
-        assert_eq!(rt; status, 0);
+        assert_eq!(rt; (status, station.said()), (0, *want));
     }
     Ok(())
 }

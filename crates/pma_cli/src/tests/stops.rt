@@ -1,9 +1,9 @@
 //! Updates that grow, spread and shrink a store, and openings that repair one, stopped at each call: what is left opens
 //! as the records before the update or after it. Where a call failed, that opening is stopped at each of its calls too.
 
-use super::rows::{Part, REGION_0, answered, records_at};
+use super::rows::{Part, REGION_0, answered, see_shares};
 use super::updates::with_bytes;
-use super::{LONGEST, Plan, SMOOTH, created, push_key, session, words_to_run};
+use super::{LONGEST, Plan, SMOOTH, push_key, session, words_to_run};
 use Part::{Put, Remove};
 use line_source::MemSource;
 use pma_engine::run_words;
@@ -16,7 +16,7 @@ use std::test::Fail;
 pub(super) const CALLS: u32 = 120;
 
 // What a crash may leave of each pending byte.
-pub(super) const PICKS: [Pick; 3] = [Pick::Settled, Pick::Held, Pick::Fill(0xA5)];
+const PICKS: [Pick; 3] = [Pick::Settled, Pick::Held, Pick::Fill(0xA5)];
 
 // The keys from one number to another.
 type Keys = (u32, u32);
@@ -174,7 +174,7 @@ fn see_faults(
 }
 
 // Answers a script on a file of these bytes, over a station that notes its calls.
-pub(super) fn noted(alloc: Global, file: &[u8], script: &[u8]) -> Result<(u8, CrashStation), Fail> {
+fn crash_session(alloc: Global, file: &[u8], script: &[u8]) -> Result<(u8, CrashStation), Fail> {
     let bytes = &file[..file.len().min(LONGEST)];
     let inner = MemStation::new(alloc, bytes, LONGEST, 1024, &[], None)?;
     let mut station = CrashStation::new(alloc, inner, CALLS, 1 << 20)?;
@@ -184,7 +184,36 @@ pub(super) fn noted(alloc: Global, file: &[u8], script: &[u8]) -> Result<(u8, Cr
     Ok((status, station))
 }
 
-// Stops a session after each of its calls, with what is pending left in three ways.
+// The same, which ends well.
+pub(super) fn noted(
+    rt: &impl Abort,
+    alloc: Global,
+    file: &[u8],
+    script: &[u8],
+) -> Result<CrashStation, Fail> {
+    let (status, station) = crash_session(alloc, file, script)?;
+    assert_eq!(rt; status, 0);
+    Ok(station)
+}
+
+// Sees what a crash behind so many calls leaves, with what is pending left in three ways.
+pub(super) fn see_crash(
+    rt: &impl Abort,
+    alloc: Global,
+    station: &CrashStation,
+    calls: u32,
+    maps: (&[u8], &[u8]),
+    is_answered: bool,
+) -> Result<(), Fail> {
+    assert!(rt; calls as usize <= station.noted());
+    for pick in PICKS {
+        let image = station.crash_image(alloc, calls, pick)?;
+        see_opened_after_stops(rt, alloc, &image, maps, is_answered)?;
+    }
+    Ok(())
+}
+
+// Stops a session after each of its calls.
 fn see_stops(
     rt: &impl Abort,
     alloc: Global,
@@ -192,42 +221,43 @@ fn see_stops(
     line: &[u8],
     maps: (&[u8], &[u8]),
 ) -> Result<(), Fail> {
-    let (status, station) = noted(alloc, file, line)?;
-    assert_eq!(rt; status, 0);
+    let station = noted(rt, alloc, file, line)?;
     for calls in 0..CALLS {
         if calls as usize > station.noted() {
             return Ok(());
         }
-        for pick in PICKS {
-            let image = station.crash_image(alloc, calls, pick)?;
-            see_opened_after_stops(rt, alloc, &image, maps, station.said_after(calls) > 0)?;
-        }
+        let is_answered = station.said_after(calls) > 0;
+        see_crash(rt, alloc, &station, calls, maps, is_answered)?;
     }
     Err("the session makes more calls".into())
 }
 
+// Sees what a fault or a stop at each call of an update leaves.
+fn see_update(rt: &impl Abort, alloc: Global, update: &Update, fails: bool) -> Result<(), Fail> {
+    let (height, journal, parts, line, before, after) = *update;
+    let file = answered(rt, alloc, height, journal, parts)?;
+    let before = range_reply(alloc, before)?;
+    let after = range_reply(alloc, after)?;
+    let maps = (before.as_slice(), after.as_slice());
+    if fails {
+        see_faults(rt, alloc, &file, line, maps)
+    } else {
+        see_stops(rt, alloc, &file, line, maps)
+    }
+}
+
 #[test]
 fn a_failed_call_keeps_what_was_answered(rt: HostRuntime) -> Result<(), Fail> {
-    for (height, journal, parts, line, before, after) in &UPDATES {
-        let file = answered(&rt, rt.alloc(), height, *journal, parts)?;
-        let (before, after) = (
-            range_reply(rt.alloc(), *before)?,
-            range_reply(rt.alloc(), *after)?,
-        );
-        see_faults(&rt, rt.alloc(), &file, line, (&before, &after))?;
+    for update in &UPDATES {
+        see_update(&rt, rt.alloc(), update, true)?;
     }
     Ok(())
 }
 
 #[test]
 fn a_stop_at_any_call_keeps_what_was_answered(rt: HostRuntime) -> Result<(), Fail> {
-    for (height, journal, parts, line, before, after) in &UPDATES {
-        let file = answered(&rt, rt.alloc(), height, *journal, parts)?;
-        let (before, after) = (
-            range_reply(rt.alloc(), *before)?,
-            range_reply(rt.alloc(), *after)?,
-        );
-        see_stops(&rt, rt.alloc(), &file, line, (&before, &after))?;
+    for update in &UPDATES {
+        see_update(&rt, rt.alloc(), update, false)?;
     }
     Ok(())
 }
@@ -242,45 +272,39 @@ fn set_record(file: &mut [u8], place: usize, key: &[u8]) {
 }
 
 // A file of height limit 2 and height 2 whose segments hold these numbers of records, of ascending keys from `k001` on.
-fn with_counts(alloc: Global, counts: &[u32; 4]) -> Result<Vec<u8>, Fail> {
-    let (_, empty) = created(alloc, "2", None)?;
-    let mut file = with_bytes(alloc, empty.held(), &[(1024, 2)])?;
+fn with_counts(rt: &impl Abort, alloc: Global, counts: &[u32; 4]) -> Result<Vec<u8>, Fail> {
+    let empty = answered(rt, alloc, "2", None, &[])?;
+    let mut file = with_bytes(alloc, &empty, &[(1024, 2)])?;
+    let mut key = Vec::new(alloc);
     let mut number = 0u32;
     for (segment, count) in counts.iter().enumerate() {
         for slot in 0..*count {
             number = number.saturating_add(1);
-            let mut key = Vec::new(alloc);
+            key.clear();
             push_key(&mut key, number)?;
-            set_record(
-                &mut file,
-                REGION_0 + 4096 * segment + 64 * slot as usize,
-                &key,
-            );
+            let place = REGION_0 + 4096 * segment + 64 * slot as usize;
+            set_record(&mut file, place, &key);
         }
     }
     Ok(file)
 }
 
+// The counts of four segments, what an opening makes of them, and how many records that is.
+const REPAIRS: [([u32; 4], [u32; 4], u32); 4] = [
+    ([60, 2, 31, 33], [31, 31, 31, 33], 126),
+    ([64, 64, 31, 33], [48, 48, 48, 48], 192),
+    ([30, 30, 30, 3], [30, 30, 16, 17], 93),
+    ([4, 5, 6, 20], [8, 9, 9, 9], 35),
+];
+
 /// Windows outside their bounds are spread when the store is opened, with a journal of four segments.
 #[test]
 fn an_opening_repairs(rt: HostRuntime) -> Result<(), Fail> {
-    for (counts, repaired) in [
-        ([60, 2, 31, 33], [31, 31, 31, 33]),
-        ([64, 64, 31, 33], [48, 48, 48, 48]),
-        ([30, 30, 30, 3], [30, 30, 16, 17]),
-        ([4, 5, 6, 20], [8, 9, 9, 9]),
-    ] {
-        let file = with_counts(rt.alloc(), &counts)?;
-        let (status, opened) = session(rt.alloc(), &file, b"", SMOOTH)?;
-        assert_eq!(rt; status, 0);
-        for (segment, count) in repaired.iter().enumerate() {
-            assert_eq!(rt;
-                records_at(opened.held(), REGION_0 + 4096 * segment),
-                *count
-            );
-        }
-        let total = counts[0] + counts[1] + counts[2] + counts[3];
-        let map = range_reply(rt.alloc(), (1, total))?;
+    for (counts, repaired, total) in &REPAIRS {
+        let file = with_counts(&rt, rt.alloc(), counts)?;
+        let map = range_reply(rt.alloc(), (1, *total))?;
+        let opened = see_opened(&rt, rt.alloc(), &file, (&map, &map), true)?;
+        see_shares(&rt, opened.held(), REGION_0, repaired);
         see_opened_after_stops(&rt, rt.alloc(), &file, (&map, &map), true)?;
         see_stops(&rt, rt.alloc(), &file, b"", (&map, &map))?;
     }
