@@ -1,8 +1,9 @@
 //! Sessions of the program over a station in memory, and once over a file of the operating system.
 
-ghost use Rattle.std.specs.Prelude.{◌≡◌, ◌≤◌, ℕ, IfOk, IsTrue, Some, codes, map, string_bytes, [], ◌∷◌};
+ghost use Rattle.std.specs.Prelude.{◌≡◌, ◌≤◌, ℕ, None, IfOk, IsTrue, Some, codes, map, string_bytes, [], ◌∷◌};
+ghost use Rattle.station.specs.View.{NamedBy};
 ghost use Rattle.header_gate.specs.Places.{file_length};
-ghost use Rattle.pma_engine.specs.Words.{job_of, file_of, layout_of};
+ghost use Rattle.pma_engine.specs.Words.{IsOnFile, job_of, file_of, layout_of};
 ghost use Rattle.pma_engine.specs.declared.words.Job.TheVariants.{Create};
 
 use crate::file_station::FileStation;
@@ -10,7 +11,7 @@ use crate::stdin_source::StdinSource;
 use line_source::{MemSource, Source};
 use pma_engine::{Job, read_words, run_words};
 use rows::{Part, answered};
-use station::MemStation;
+use station::{MemStation, Station};
 use std::alloc::Global;
 use std::fs;
 use std::process::Abort;
@@ -82,6 +83,22 @@ fn is_small(words: &[String]) -> bool
     }
 }
 
+// The status of words over a station, with a script in pieces of seven bytes.
+fn status_over<S: Station>(
+    alloc: Global,
+    words: &[String],
+    script: &[u8],
+    plan: Plan<'_>,
+    station: &mut S,
+) -> Result<u8, Fail>
+    requires first { (S.view station.old).attached ≡ None }
+    requires named { IsOnFile (job_of (map string_bytes words.now)) → NamedBy (file_of (map string_bytes words.now)) (S.view station.old).fixed.name }
+    requires reach { (height journal : ℕ) → job_of (map string_bytes words.now) ≡ Some (Create height journal) → file_length (layout_of height journal) ≤ (S.view station.old).fixed.reach }
+{
+    let mut source = MemSource::new(alloc, script, 7, plan.broken)?;
+    Ok(run_words(alloc, words, &mut source, station, plan.most))
+}
+
 // Makes a store in a file of these bytes.
 fn created_in(
     alloc: Global,
@@ -91,12 +108,11 @@ fn created_in(
 ) -> Result<(u8, MemStation), Fail> {
     let bytes = &bytes[..bytes.len().min(LONGEST)];
     let mut station = MemStation::new(alloc, bytes, LONGEST, 64, &[], None)?;
-    let mut source = MemSource::new(alloc, b"", 1, &[])?;
     let words = words_to_create(alloc, height, journal)?;
     if !is_small(&words) {
         return Err("a file of these tests is longer".into());
     }
-    let status = run_words(alloc, &words, &mut source, &mut station, SMOOTH.most);
+    let status = status_over(alloc, &words, b"", SMOOTH, &mut station)?;
     Ok((status, station))
 }
 
@@ -105,12 +121,15 @@ fn created(alloc: Global, height: &str, journal: Option<&str>) -> Result<(u8, Me
     created_in(alloc, b"", height, journal)
 }
 
+// The last digit of a number.
+fn digit(number: u32) -> u8 {
+    b'0' + (number % 10) as u8
+}
+
 // Adds the key of this number: `k` and three digits.
 fn push_key(text: &mut Vec<u8>, number: u32) -> Result<(), Fail> {
-    text.push(b'k')?;
-    for digit in [number / 100, number / 10, number] {
-        text.push(b'0' + (digit % 10) as u8)?;
-    }
+    let key = [b'k', digit(number / 100), digit(number / 10), digit(number)];
+    text.extend_from_slice(&key)?;
     Ok(())
 }
 
@@ -123,9 +142,8 @@ fn session(
 ) -> Result<(u8, MemStation), Fail> {
     let bytes = &bytes[..bytes.len().min(LONGEST)];
     let mut station = MemStation::new(alloc, bytes, bytes.len(), plan.room, plan.fail, plan.stop)?;
-    let mut source = MemSource::new(alloc, script, 7, plan.broken)?;
     let words = words_to_run(alloc)?;
-    let status = run_words(alloc, &words, &mut source, &mut station, plan.most);
+    let status = status_over(alloc, &words, script, plan, &mut station)?;
     Ok((status, station))
 }
 
@@ -161,9 +179,7 @@ fn status_over_a_file(rt: &HostRuntime, words: &[String], script: &[u8]) -> Resu
     if !is_small(words) {
         return Err("a file of these tests is longer".into());
     }
-    let mut source = MemSource::new(rt.alloc(), script, 3, &[])?;
-    let mut station = FileStation::new(rt);
-    Ok(run_words(rt.alloc(), words, &mut source, &mut station, SMOOTH.most))
+    status_over(rt.alloc(), words, script, SMOOTH, &mut FileStation::new(rt))
 }
 
 #[test]
