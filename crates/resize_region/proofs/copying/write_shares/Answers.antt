@@ -30,3 +30,6 @@ returns-in-Err-clause-others g c told i lt =
     let a = g.S.Station.view c.args.station.now in
     let b = g.S.Station.view c.write_run.new.station in
     aside_kept c.args.place.now c.args.first c.args.count i a.held b.held (c.requires.live a.held (inl (told, refl))).size c.requires.some c.requires.inside lt (c.write_run.ensures.steps.held told)
+
+pub returns-in-Err-clause-written : goal.returns-in-Err-clause-written
+returns-in-Err-clause-written g c = tt

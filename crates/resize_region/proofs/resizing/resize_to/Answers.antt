@@ -1,4 +1,4 @@
-use Rattle.std.proofs.Common.{arith, ◌≡◌, inl, refl, ℕ, ◌+◌, ◌-◌, ◌*◌, ◌^◌, ◌≤◌, List, length, sum, slice_range, sym, ap, subst, ◌∙◌}
+use Rattle.std.proofs.Common.{arith, rules, ◌≡◌, inl, refl, ℕ, ◌+◌, ◌-◌, ◌*◌, ◌^◌, ◌≤◌, List, length, sum, slice_range, sym, ap, subst, ◌∙◌}
 use Rattle.std.proofs.Math.Nat.{pow-le-pow_right}
 use Rattle.station.specs.View.{Told, MayHold}
 use Rattle.station.proofs.Composition.{andthen, weaken, told_of, told_on, told_back, only_held, each_held}
@@ -139,3 +139,15 @@ returns-clause-fences_agree g c told i lt some =
     ∙ ap (λ (m : ℕ). key_at (segment_at (spread_over m (rows (array_of a.held))) i) 0) c.segments_at.ensures
     ∙ ap (λ (l : Array). key_at (segment_at l i) 0) (sym (array_new c.args.place.now h a.held b.held c.requires.region (settled g at told) (c.copy_over.ensures.steps.held told) (low g at) (most g at) (bounds g at told) (copied g at told) n.held
     (c.in_ok-make_live.ensures.flipped (told_on c.copy_over.ensures.steps.frame told))))
+
+pub returns-in_err-make_live-clause-place_kept : goal.returns-in_err-make_live-clause-place_kept
+returns-in_err-make_live-clause-place_kept g c = search rules
+
+pub returns-in_err-copy_over-clause-reads : goal.returns-in_err-copy_over-clause-reads
+returns-in_err-copy_over-clause-reads g c = search rules
+
+pub returns-clause-settled : goal.returns-clause-settled
+returns-clause-settled g c = c.in_ok-make_live.ensures.settled
+
+pub returns-clause-reads : goal.returns-clause-reads
+returns-clause-reads g c = search rules
