@@ -36,7 +36,7 @@ pub const TABLE: u64 = PAGE as u64;
 pub const SEGMENT: usize = 4096;
 
 /// What a file was made with: its height limit, 0 to 16, and its journal size in segments, 4 to max(4, 2^hmax).
-#[derive(Clone, Copy, Debug, PartialEq, Eq)]
+#[derive(Clone, Copy)]
 pub struct Layout {
     /// The greatest height that the store may have.
     pub hmax: u32,

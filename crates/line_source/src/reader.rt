@@ -12,7 +12,7 @@ use super::source::{ReadFailed, Source};
 use std::marker::Model;
 
 /// What a call of `next_line` came to.
-#[derive(Clone, Copy, Debug, PartialEq, Eq)]
+#[derive(Clone, Copy)]
 pub enum LineStep {
     /// A line, which `line` shows.
     Line,

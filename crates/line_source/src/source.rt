@@ -4,7 +4,7 @@ ghost use Rattle.std.specs.Prelude.{◌≡◌, ◌<◌, ◌≤◌, ◌++◌, [],
 ghost use Rattle.line_source.specs.SourceView.{SourceView, Told, Went, Rose};
 
 /// The source couldn't be read.
-#[derive(Clone, Copy, Debug, PartialEq, Eq)]
+#[derive(Clone, Copy)]
 pub struct ReadFailed;
 
 /// A script, from which bytes are taken from the front.

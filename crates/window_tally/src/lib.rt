@@ -38,7 +38,7 @@ pub struct Since {
 }
 
 /// An update of one segment.
-#[derive(Clone, Copy, Debug, PartialEq, Eq)]
+#[derive(Clone, Copy, PartialEq, Eq)]
 pub enum Change {
     /// One record more.
     Add,

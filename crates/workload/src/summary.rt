@@ -6,7 +6,7 @@ ghost use Rattle.workload.specs.Summaries.{summary_of, counted, Fits, summary_te
 use command_text::{Reply, ReplyText};
 
 /// How often commands were answered in each way, and the size of the store behind them.
-#[derive(Clone, Copy, Debug, PartialEq, Eq)]
+#[derive(Clone, Copy)]
 pub struct Summary {
     /// All commands.
     pub commands: u32,
