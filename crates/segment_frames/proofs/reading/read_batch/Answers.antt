@@ -1,4 +1,4 @@
-use Rattle.std.proofs.Common.{arith, ◌≡◌, ap, ◌∙◌}
+use Rattle.std.proofs.Common.{rules, arith, ◌≡◌, ap, ◌∙◌}
 use Rattle.std.proofs.lemmas.Result.{on_ok_weaker}
 use Rattle.redo_journal.specs.Frames.{Batch}
 use Rattle.segment_frames.proofs.ReadLaws.{read_kept}
@@ -13,3 +13,9 @@ returns-clause-low g c = on_ok_weaker c.read_run-2.result (λ other told.
     let before : one.journal ≡ c.args.frames.now.journal = ap (λ (b : Batch). b.journal) c.read_run.ensures.rest ∙ ap (λ (b : Batch). b.journal) c.start_batch.ensures.after in
     read_kept c.args.place.now a.held one.slots two.slots 0 c.args.runs.low c.args.runs.low_len (omega (arith, c.read_run-2.ensures.frames.frames, c.read_run.ensures.frames.frames, journal))
     (omega (arith, c.read_run.ensures.frames.frames, before, c.requires.room)) (λ p lt. c.read_run-2.ensures.front p (omega (arith, lt))) (c.in_ok-read_run.ensures.read told)) c.read_run-2.ensures.read
+
+pub returns-clause-reads : goal.returns-clause-reads
+returns-clause-reads g c = search rules
+
+pub returns-clause-part : goal.returns-clause-part
+returns-clause-part g c = search rules

@@ -1,4 +1,4 @@
-use Rattle.std.proofs.Common.{arith, inl, refl, ◌*◌, ℕ, subst, ◌∙◌}
+use Rattle.std.proofs.Common.{rules, arith, inl, refl, ◌*◌, ℕ, subst, ◌∙◌}
 use Rattle.std.proofs.lemmas.Result.{on_ok_weaker}
 use Rattle.station.specs.Bytes.{Filled}
 use Rattle.key_slot.specs.declared.sizes.TheConstants.{SEGMENT_SLOTS}
@@ -24,3 +24,6 @@ returns-clause-frames g c =
       ascends = is.ascends;
       small = is.small;
     }
+
+pub returns-clause-reads : goal.returns-clause-reads
+returns-clause-reads g c = search rules
