@@ -1,4 +1,4 @@
-use Rattle.std.proofs.Common.{◌≤◌, arith, subst, sym}
+use Rattle.std.proofs.Common.{rules, ◌≤◌, arith, subst, sym}
 use Rattle.window_tally.specs.Places.{IsTree}
 use Rattle.window_tally.proofs.KeptLaws.{kept_tree}
 use Rattle.window_tally.proofs.Tally.choice.Goals as goal
@@ -18,3 +18,6 @@ overflow_add-h c = let low = one_above c in omega arith
 
 pub window_of-requires : goal.window_of-requires
 window_of-requires c = let low = one_above c in omega arith
+
+pub returns-in-Some-2-clause-answer : goal.returns-in-Some-2-clause-answer
+returns-in-Some-2-clause-answer c = search rules
