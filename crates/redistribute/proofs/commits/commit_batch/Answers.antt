@@ -37,3 +37,6 @@ returns-in-Ok-clause-after g c told after redone =
     let t = takes g (goal.at.returns-in-Ok-clause-after g c).In-Ok told in
     array_after c.args.place.now c.args.frames.now c.requires.held c.requires.journal c.requires.some (g.S.Station.view c.args.station.now).held t.settled t.below after redone
     (g.S.Station.view c.commit.new.station).held (c.commit.ensures.steps.held told) (c.in-Ok.ensures.laid told)
+
+pub returns-in-Ok-clause-failed : goal.returns-in-Ok-clause-failed
+returns-in-Ok-clause-failed g c is = absurd cc

@@ -1,4 +1,4 @@
-use Rattle.std.proofs.Common.{arith, length, ap, ◌∙◌}
+use Rattle.std.proofs.Common.{rules, arith, length, ap, ◌∙◌}
 use Rattle.segment_frames.proofs.FrameLaws.{rows_in_at}
 use Rattle.segment_frames.proofs.ReadLaws.{all_held}
 use Rattle.redistribute.proofs.BatchLaws.{numbers_above}
@@ -21,3 +21,6 @@ pub returns-clause-counts : goal.returns-clause-counts
 returns-clause-counts g c f lt =
     let b = c.args.frames.now in
     ap length (rows_in_at (length b.numbers) b.slots f lt) ∙ c.loop-f.invariant.counts f (omega (arith, lt, ap length c.requires.numbers, c.count-f-end.ensures.count))
+
+pub loop-f-init : goal.loop-f-init
+loop-f-init g c = search rules

@@ -1,4 +1,4 @@
-use Rattle.std.proofs.Common.{arith, ◌≡◌, ◌+◌, ◌≤◌, ◌^◌, suc, ℕ, List, ◌∷◌, length, take, drop, sym, ap, subst, ◌∙◌}
+use Rattle.std.proofs.Common.{arith, rules, ◌≡◌, ◌+◌, ◌≤◌, ◌^◌, suc, ℕ, List, ◌∷◌, length, take, drop, sym, ap, subst, ◌∙◌}
 use Rattle.std.proofs.lemmas.List.{take_all}
 use Rattle.redo_journal.specs.Frames.{Batch}
 use Rattle.spread_plan.specs.declared.Move.{Move}
@@ -84,3 +84,12 @@ loop-i-preserved g c =
           c.make_step.ensures.after (after_moves (in_store first (take i plan.moves)) lists) (inv.after lists holds keeps) (keeps_next first i c.args.count plan.moves step next.moves lists is c.loop-i-test.true keeps)
           ∙ ap (shown (numbers_of c.args.runs)) (sym (after_next first i plan.moves step next.moves lists is) ∙ ap (λ (n : ℕ). after_moves (in_store first (take n plan.moves)) lists) more);
     }
+
+pub loop-i-init : goal.loop-i-init
+loop-i-init g c = search rules
+
+pub returns-clause-after : goal.returns-clause-after
+returns-clause-after g c = search rules
+
+pub returns-clause-plan : goal.returns-clause-plan
+returns-clause-plan g c = search rules
