@@ -1,5 +1,5 @@
 -- A record behind all slots before it is added, or refused where its key isn't above the last.
-use Rattle.std.proofs.Common.{◌≡◌, true, sym, subst, ◌∙◌, arith, ℕ, [], get_or, Some}
+use Rattle.std.proofs.Common.{rules, ◌≡◌, true, sym, subst, ◌∙◌, arith, ℕ, [], get_or, Some}
 use Rattle.key_slot.specs.Record.{key_cmp}
 use Rattle.key_slot.specs.Ordered.{all_below}
 use Rattle.key_slot.specs.Slot.{IsSlot, fields_of, slot_of}
@@ -41,3 +41,6 @@ pub returns-clause-last : goal.returns-clause-last
 returns-clause-last c some =
     let slot = get_or c.args.slots.now c.args.i [] in
     subst (λ (k : ℕ). IsSlot (Some (fields_of (get_or c.args.slots.now k []))) (get_or c.args.slots.now k [])) {x = c.args.i} (omega (arith, c.if-count-i.false)) (slot_by_reading (Some (fields_of slot)) slot (record_held slot c.in-Ok-true.field-0 c.in-Ok-true.ensures.read c.in-Ok-true.field-0-test))
+
+pub is_below-requires-clause-slot : goal.is_below-requires-clause-slot
+is_below-requires-clause-slot c = search rules
