@@ -1,5 +1,6 @@
 -- What the reading of a file that an opening brings back says of the file.
-use Rattle.std.proofs.Common.{◌≡◌, ◌⊎◌, ⊎_elim, ℕ, ◌^◌, ◌<◌, ◌≤◌, List, length, Option, Some, None, Bool, sym, ◌∙◌, ap, subst, arith}
+use Rattle.std.proofs.Common.{◌≡◌, ◌⊎◌, inl, inr, ⊎_elim, ℕ, ◌^◌, ◌<◌, ◌≤◌, List, length, Option, Some, None, Bool, Ok, Err, refl, sym, ◌∙◌, ap, subst, arith}
+use Rattle.std.specs.Prelude.{Result, IsOk, IfErr, IsErrOf}
 use Rattle.std.proofs.Math.Pow.{pow_mono}
 use Rattle.station.specs.Bytes.{byte, Touched}
 use Rattle.key_slot.specs.Record.{Bytes, Record}
@@ -27,11 +28,12 @@ use Rattle.range_scan.proofs.Pages.{page_whole}
 use Rattle.redo_journal.specs.declared.place.Place.{Place}
 use Rattle.redo_journal.specs.Commit.{IsAt, Replays, IsRegionPlace}
 use Rattle.veb_index.specs.View.{IndexView, fence_of}
-use Rattle.recovery.specs.Faults.{fault_of}
+use Rattle.recovery.specs.Faults.{fault_of, IsReadFault, IsNoDamage}
 use Rattle.recovery.specs.Loading.{first_key_of}
 use Rattle.recovery.specs.Parts.{HasHeader, HasFences}
 use Rattle.recovery.specs.Restores.{Restores}
-use Rattle.recovery.specs.declared.fault.OpenFault.TheVariants.{NotStore}
+use Rattle.recovery.specs.declared.fault.OpenFault.{OpenFault}
+use Rattle.recovery.specs.declared.fault.OpenFault.TheVariants.{Memory, Failed, NotStore, Damaged}
 use Rattle.recovery.proofs.SameArrays.{same_arrays, same_reason}
 
 -- nothing is changed
@@ -56,6 +58,21 @@ restores_replayed place height odd old new header is_odd replays =
       recovers = same;
       touched = inside;
     }
+
+-- what a reading finds is no damage
+pub no_damage : (fault : OpenFault) → IsReadFault fault → IsNoDamage fault
+no_damage Memory is = absurd is
+no_damage Failed is = tt
+no_damage (NotStore reason) is = tt
+no_damage (Damaged segment why) is = absurd is
+
+-- an opening with no reason against the file and no fault of the disk
+pub opened_or_memory : {T : Type 0} (result : Result T OpenFault) → IfErr result (λ e. (r : Reason) → e ≡ NotStore r → ⊥) → (result ≡ Err Failed → ⊥) → IfErr result IsNoDamage → IsOk result ⊎ IsErrOf result Memory
+opened_or_memory (Ok parts) no_reason no_fault unharmed = inl refl
+opened_or_memory (Err Memory) no_reason no_fault unharmed = inr refl
+opened_or_memory (Err Failed) no_reason no_fault unharmed = absurd (no_fault refl)
+opened_or_memory (Err (NotStore reason)) no_reason no_fault unharmed = absurd (no_reason reason refl)
+opened_or_memory (Err (Damaged segment why)) no_reason no_fault unharmed = absurd unharmed
 
 module _ (place : Place) (height : ℕ) (odd : Bool) (old : List ℕ) (header : HasHeader place height odd old) where
   pub at_entry : IsAt place old

@@ -12,6 +12,7 @@ use Rattle.recovery.specs.Faults.{IsNoDamage}
 use Rattle.recovery.specs.Restores.{IsAtRest}
 use Rattle.recovery.proofs.CostLaws.{both_within, replay_within}
 use Rattle.recovery.proofs.Repairing.{array_now}
+use Rattle.recovery.proofs.Opening.{no_damage}
 use Rattle.recovery.proofs.Bringing.{opens_restored, opens_repaired, leaves_on, balanced_as}
 use Rattle.recovery.proofs.open.bring_back.Goals as goal
 use Rattle.recovery.proofs.open.bring_back.Goals.{After-repair}
@@ -91,3 +92,6 @@ returns-in-Ok-clause-cost g c =
 
 pub returns-in-Err-clause-cost : goal.returns-in-Err-clause-cost
 returns-in-Err-clause-cost g c = omega (arith, c.read_back.ensures.cost, replay_within c.args.parts.now.place.layout)
+
+pub returns-in-Err-clause-damaged : goal.returns-in-Err-clause-damaged
+returns-in-Err-clause-damaged g c told = no_damage c.in-Err.fault c.in-Err.ensures.fault
