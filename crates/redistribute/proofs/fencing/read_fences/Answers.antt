@@ -61,3 +61,6 @@ loop-done-preserved g c =
 
 pub returns-in_err-read_part-clause-reads : goal.returns-in_err-read_part-clause-reads
 returns-in_err-read_part-clause-reads g c = omega (arith, c.loop-done.invariant.reads, c.read_part.ensures.reads, c.window_runs-runs.ensures.low_len, c.min-len.ensures, c.loop-done.invariant.within)
+
+pub returns-clause-agree : goal.returns-clause-agree
+returns-clause-agree g c told f lt some = c.loop-done.invariant.agree told f (omega (arith, lt, c.loop-done-test.false)) some

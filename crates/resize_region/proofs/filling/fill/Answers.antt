@@ -1,7 +1,7 @@
 use Rattle.std.proofs.Common.{arith, ◌≡◌, ◌≢◌, inl, refl, ℕ, suc, ◌+◌, ◌-◌, ◌<◌, ◌≤◌, List, ◌++◌, length, take, drop, get_or, sum, sym, ap, ap₂, subst, ◌∙◌}
 use Rattle.std.proofs.lemmas.List.{length-append, length-take-le, length-drop}
 use Rattle.station.specs.View.{Fixed}
-use Rattle.station.proofs.Composition.{each_on, same_on, told_on}
+use Rattle.station.proofs.Composition.{each_on, same_on, told_on, told_back}
 use Rattle.key_slot.specs.Record.{Record}
 use Rattle.map_model.specs.Array.{rows, segment_at}
 use Rattle.map_model.specs.Image.{array_of}
@@ -13,6 +13,12 @@ use Rattle.resize_region.specs.Source.{read_upto}
 use Rattle.resize_region.proofs.StreamLaws.{next_count, one_left, stream_begun, stream_moved}
 use Rattle.resize_region.proofs.SourceLaws.{as_many}
 use Rattle.resize_region.proofs.filling.fill.Goals as goal
+
+pub next_segment-requires-clause-held : goal.next_segment-requires-clause-held
+next_segment-requires-clause-held g c told i lt =
+    let inv = c.loop-have.invariant in
+    let before = told_back inv.steps.frame told in
+    inv.held before i lt ∙ ap (λ (file : List ℕ). segment_at (array_of file) (c.loop-have.source.next + i)) (sym (inv.steps.held before))
 
 pub loop-have-preserved-in-Continue-1 : goal.loop-have-preserved-in-Continue-1
 loop-have-preserved-in-Continue-1 g c =
