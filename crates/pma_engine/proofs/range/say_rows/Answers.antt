@@ -7,7 +7,7 @@ use Rattle.range_scan.specs.Sweeping.{scan_of}
 use Rattle.range_scan.proofs.Going.{walk_further}
 use Rattle.range_scan.proofs.Walks.{walk_none}
 use Rattle.pma_engine.specs.Ranging.{SaysRows}
-use Rattle.pma_engine.proofs.Ranging.{says_none, rows_on, stops_on, same_scan, all_rows, goes_on_refl, goes_on}
+use Rattle.pma_engine.proofs.Ranging.{within_rows, says_none, rows_on, stops_on, same_scan, all_rows, goes_on_refl, goes_on}
 use Rattle.pma_engine.proofs.range.say_rows.Goals as goal
 
 pub loop-init : goal.loop-init
@@ -20,6 +20,14 @@ loop-init g c = record {
   same = goes_on_refl c.args.sweep.now;
   walked = sym (walk_none c.args.sweep.now.reader.layout c.args.sweep.now.reader.region c.args.sweep.now.reader.next c.args.sweep.now.reader.next (g.S.Station.view c.args.station.now).travel refl);
 }
+
+pub say_piece-requires-clause-within : goal.say_piece-requires-clause-within
+say_piece-requires-clause-within g c on =
+    let here = c.loop.invariant in
+    let a = g.S.Station.view c.args.station.now in
+    let told : Told a = sym (ap (λ f. f.tells_held) here.says.whole.front.run.fixed) ∙ on in
+    let same : scan_of c.loop.sweep (g.S.Station.view c.loop.station).held ≡ scan_of c.args.sweep.now a.held = ap (scan_of c.loop.sweep) (here.says.whole.front.held told) ∙ same_scan here.same a.held in
+    omega (arith, within_rows c.args.sweep.now here.rows c.loop.sweep.given here.says told, ap length same)
 
 pub returns-in_err-say_piece-clause-stops : goal.returns-in_err-say_piece-clause-stops
 returns-in_err-say_piece-clause-stops g c =
