@@ -1,4 +1,5 @@
-use Rattle.std.proofs.Common.{inl, refl, ℕ, ◌%◌, ap}
+use Rattle.std.proofs.Common.{inl, refl, ℕ, ◌%◌, ap, is_ok}
+use mathlib.Core.Bool.{true≢false}
 use Rattle.station.specs.View.{Told}
 use Rattle.station.proofs.Composition.{weaken, each_held, told_back}
 use Rattle.segment_frames.specs.Standing.{IsSettledAt}
@@ -39,4 +40,4 @@ returns-in-Ok-clause-after g c told after redone =
     (g.S.Station.view c.commit.new.station).held (c.commit.ensures.steps.held told) (c.in-Ok.ensures.laid told)
 
 pub returns-in-Ok-clause-failed : goal.returns-in-Ok-clause-failed
-returns-in-Ok-clause-failed g c is = absurd cc
+returns-in-Ok-clause-failed g c is = absurd (true≢false (ap is_ok is))
