@@ -1,9 +1,10 @@
 # make: proves and builds ./pma.  make demo: makes a store that grows.  make check: the merge gate.
 # make install PREFIX=..: the program and its manual page.  make gate-times: how long the gate's parts take.
+# make dear-goals: which goals of the proofs cost most, after a check.
 # make bench: the processor time of commands beside that of their system calls.
 # make faults: each allocation of the program refused in turn.
 
-.PHONY: all demo check install gate-times bench faults
+.PHONY: all demo check install gate-times dear-goals bench faults
 
 PREFIX ?= /usr/local
 
@@ -33,6 +34,9 @@ install: pma
 
 gate-times:
 	tools/gate-times.sh
+
+dear-goals:
+	tools/dear-goals.py
 
 bench: pma
 	tools/bench.sh ./pma
