@@ -1,12 +1,15 @@
 # make: proves and builds ./pma.  make demo: makes a store that grows.  make check: the merge gate.
 # make install PREFIX=..: the program and its manual page.  make gate-times: how long the gate's parts take.
 # make dear-goals: which goals of the proofs cost most, after a check.
+# make said-twice: functions of a crate that say the same clauses.  make reading CLAUSE=..: what there is to read behind a
+# clause of run_words.
 # make bench: the processor time of commands beside that of their system calls.
 # make faults: each allocation of the program refused in turn.
 
-.PHONY: all demo check install gate-times dear-goals bench faults
+.PHONY: all demo check install gate-times dear-goals said-twice reading bench faults
 
 PREFIX ?= /usr/local
+CLAUSE ?= headline
 
 all: pma
 
@@ -37,6 +40,12 @@ gate-times:
 
 dear-goals:
 	tools/dear-goals.py
+
+said-twice:
+	tools/said-twice.py
+
+reading:
+	tools/reading.py . '$(CLAUSE)'
 
 bench: pma
 	tools/bench.sh ./pma
