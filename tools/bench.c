@@ -92,13 +92,13 @@ static void call_put(int file, int out, char *page)
     want(pread(file, page, PAGE, 8192) == PAGE, "pread");
     want(pwrite(file, page, 2, 1024) == 2, "pwrite");
     want(pwrite(file, page, PAGE, 4096) == PAGE, "pwrite");
-    want(fsync(file) == 0, "fsync");
+    want(fdatasync(file) == 0, "fdatasync");
     want(pwrite(file, page, 4, 512) == 4, "pwrite");
-    want(fsync(file) == 0, "fsync");
+    want(fdatasync(file) == 0, "fdatasync");
     want(pwrite(file, page, PAGE, 8192) == PAGE, "pwrite");
-    want(fsync(file) == 0, "fsync");
+    want(fdatasync(file) == 0, "fdatasync");
     want(pwrite(file, page, 4, 512) == 4, "pwrite");
-    want(fsync(file) == 0, "fsync");
+    want(fdatasync(file) == 0, "fdatasync");
     want(write(out, "replaced\n", 9) == 9, "write");
 }
 
