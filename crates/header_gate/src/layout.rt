@@ -1,24 +1,33 @@
 //! Where the parts of a store's file lie.
 
-ghost use Rattle.std.specs.Prelude.{◌≡◌, ◌^◌, ◌≤◌};
+ghost use Rattle.std.specs.Prelude.{◌≡◌, ◌^◌, ◌<◌, ◌≤◌};
 
 /// The greatest height limit that a file may have.
 pub const GREATEST_HEIGHT: u32 = 16;
 
-/// The fewest segments that a journal may hold.
+/// The greatest slot format, which is how many pages a segment of it has.
+pub const GREATEST_FORMAT: u32 = 1;
+
+/// The greatest version of a file that is read.
+pub const LATEST_VERSION: u32 = 1;
+
+/// The first version of a file whose header page has an intent.
+pub const INTENT_VERSION: u32 = 2;
+
+/// The version of a file whose index stands behind its regions, the greatest that a layout may have.
+pub const INDEXED: u32 = 3;
+
+/// The fewest pages that a journal may hold.
 pub(crate) const LEAST_JOURNAL: u32 = 4;
 
 /// The place of the selector, a byte whose low bit names the live copy and the live region.
 pub(crate) const SELECTOR: u64 = 0;
 
-/// The place of the journal's gate, a byte whose low bit says that the journal is to be laid over the live region.
-pub(crate) const GATE: u64 = 512;
-
 /// The place of header copy 0: a height and a slot format of 4 bytes each. Copy 1 lies 1024 bytes behind it.
 pub(crate) const COPIES: u64 = 1024;
 
 /// The place of the identity: the text `PMASTORE`, then version, height limit and journal size, of 4 bytes each.
-pub(crate) const IDENTITY: u64 = 3072;
+pub const IDENTITY: u64 = 3072;
 
 /// The text `PMAS` as a number of 32 bits, lowest byte first.
 pub(crate) const NAME_FRONT: u32 = 0x5341_4d50;
@@ -26,33 +35,79 @@ pub(crate) const NAME_FRONT: u32 = 0x5341_4d50;
 /// The text `TORE`, likewise.
 pub(crate) const NAME_BACK: u32 = 0x4552_4f54;
 
-/// The bytes of a page: the header is one, and the journal's table is so many.
-pub(crate) const PAGE: usize = 4096;
+/// The bytes of a page: the header is one, the journal's table is so many, and the journal and the regions count in them.
+pub const PAGE: usize = 4096;
 
 /// The place of the journal's table, behind the header page.
 pub const TABLE: u64 = PAGE as u64;
 
-/// The bytes of a segment.
-pub const SEGMENT: usize = 4096;
+/// The bytes that the index has for each page of a region: a node of 64 bytes and a count of 4.
+const AREA_SHARE: u64 = 68;
 
-/// What a file was made with: its height limit, 0 to 16, and its journal size in segments, 4 to max(4, 2^hmax).
+/// What a file was made with: its height limit, 0 to 16, its journal size in pages, 4 to max(4, 2^hmax), and its version,
+/// 1 to 3; and the slot format of its live region, 1, or 2 where the height limit is at least 1.
 #[derive(Clone, Copy)]
 pub struct Layout {
     /// The greatest height that the store may have.
     pub hmax: u32,
-    /// How many segments the journal holds.
+    /// How many pages the journal holds.
     pub journal: u32,
+    /// What else the file has: an intent from 2 on, and an index at 3.
+    pub version: u32,
+    /// The slot format: how many pages a segment has.
+    pub format: u32,
 }
 
 impl Layout {
-    ghost use Rattle.header_gate.specs.Places.{IsLayout, table_size, image_place, segment_place, file_length, segment_size};
+    ghost use Rattle.header_gate.specs.Places.{IsLayout, height_limit, pages_at, table_size, image_place, region_place, page_place, segment_place, area_place, area_size, file_length, segment_size};
 
     /// The length of the file in bytes.
     pub fn length(&self) -> u64
         requires { IsLayout self.now }
         ensures { result ≡ file_length self.now }
     {
-        self.segment_at(2, 0)
+        self.area_at() + self.area_bytes()
+    }
+
+    /// The place of the index, behind region 1. A file of version 1 or 2 ends there.
+    pub fn area_at(&self) -> u64
+        requires { IsLayout self.now }
+        ensures place { result ≡ area_place self.now }
+        ensures most { result < 2 ^ 40 }
+    {
+        self.region_at(2)
+    }
+
+    /// The bytes of the index, in whole pages: none in a file of version 1 or 2.
+    pub fn area_bytes(&self) -> u64
+        requires { IsLayout self.now }
+        ensures size { result ≡ area_size self.now }
+        ensures most { result < 2 ^ 24 }
+    {
+        if self.version == INDEXED {
+            (AREA_SHARE * self.pages() + (PAGE as u64 - 1)) / PAGE as u64 * PAGE as u64
+        } else {
+            0
+        }
+    }
+
+    /// The greatest height that a store in the file may have.
+    pub fn height_limit(&self) -> u32
+        requires { IsLayout self.now }
+        ensures limit { result ≡ height_limit self.now }
+        ensures most { result ≤ 16 }
+    {
+        self.hmax + 1 - self.format
+    }
+
+    /// The pages that a store of this height has in its region.
+    pub fn pages_at(&self, height: u32) -> u32
+        requires layout { IsLayout self.now }
+        requires height { height ≤ height_limit self.now }
+        ensures pages { result ≡ pages_at self.now height }
+        ensures most { result ≤ 2 ^ self.now.hmax }
+    {
+        self.format << height
     }
 
     /// The place of image `k` of the journal.
@@ -60,25 +115,42 @@ impl Layout {
         requires { IsLayout self.now }
         ensures { result ≡ image_place self.now k }
     {
-        TABLE + self.table_size() + SEGMENT as u64 * k as u64
+        TABLE + self.table_size() + PAGE as u64 * k as u64
     }
 
-    /// The place of a segment of region 0 or 1. Region 2 would begin at the end of the file.
+    /// The place of a page of region 0 or 1. Region 2 would begin at the end of the regions.
+    pub fn page_at(&self, region: u32, page: u32) -> u64
+        requires layout { IsLayout self.now }
+        requires region { region ≤ 2 }
+        ensures { result ≡ page_place self.now region page }
+    {
+        self.region_at(region) + PAGE as u64 * page as u64
+    }
+
+    /// The place of a segment of region 0 or 1.
     pub fn segment_at(&self, region: u32, segment: u32) -> u64
         requires layout { IsLayout self.now }
         requires region { region ≤ 2 }
         ensures { result ≡ segment_place self.now region segment }
     {
-        self.image_at(self.journal)
-            + SEGMENT as u64 * self.segments() * region as u64
-            + SEGMENT as u64 * segment as u64
+        self.region_at(region) + self.segment_bytes() as u64 * segment as u64
     }
 
     /// The bytes of a segment.
     pub fn segment_bytes(&self) -> usize
-        ensures { result ≡ segment_size }
+        ensures { result ≡ segment_size self.now }
     {
-        SEGMENT
+        PAGE * self.format as usize
+    }
+
+    // The place of region 0 or 1, and where they end.
+    fn region_at(&self, region: u32) -> u64
+        requires layout { IsLayout self.now }
+        requires region { region ≤ 2 }
+        ensures place { result ≡ region_place self.now region }
+        ensures small { result < 2 ^ 40 }
+    {
+        self.image_at(self.journal) + PAGE as u64 * self.pages() * region as u64
     }
 
     // The journal's table is a count and so many numbers, in whole pages.
@@ -89,8 +161,8 @@ impl Layout {
         (4 + 4 * self.journal as u64 + (PAGE as u64 - 1)) / PAGE as u64 * PAGE as u64
     }
 
-    // The segments of a region.
-    fn segments(&self) -> u64
+    // The pages of a region.
+    fn pages(&self) -> u64
         requires { IsLayout self.now }
         ensures count { result ≡ 2 ^ self.now.hmax }
         ensures most { result ≤ 65536 }

@@ -19,6 +19,8 @@ use std::test::Fail;
 const LAYOUT: Layout = Layout {
     hmax: 3,
     journal: 8,
+    version: 1,
+    format: 1,
 };
 
 const PLACE: Place = Place {

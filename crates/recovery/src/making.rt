@@ -1,7 +1,7 @@
 //! The memory of a store is taken.
 
 ghost use Rattle.std.specs.Prelude.{◌≡◌, ◌≤◌, ◌<◌, IfOk};
-ghost use Rattle.header_gate.specs.Places.{IsLayout};
+ghost use Rattle.header_gate.specs.Places.{IsLayout, height_limit};
 ghost use Rattle.recovery.specs.Parts.{AreParts};
 ghost use Rattle.window_tally.specs.View.{empty_tally};
 
@@ -18,13 +18,14 @@ use window_tally::Tally;
 pub(crate) fn make_parts(alloc: Global, header: &Header) -> Result<Parts, AllocError>
     requires layout { IsLayout header.now.layout }
     requires live { header.now.live < 2 }
-    requires height { header.now.height ≤ header.now.layout.hmax }
+    requires height { header.now.height ≤ height_limit header.now.layout }
     ensures parts { IfOk result (λ parts. AreParts parts.place parts.tally parts.index parts.frames.journal) }
     ensures place { IfOk result (λ parts. parts.place ≡ record { layout = header.now.layout; region = header.now.live }) }
-    ensures tally { IfOk result (λ parts. parts.tally ≡ empty_tally header.now.layout.hmax header.now.height) }
+    ensures tally { IfOk result (λ parts. parts.tally ≡ empty_tally (height_limit header.now.layout) header.now.height) }
 {
-    let mut tally = Tally::new(alloc, header.layout.hmax)?;
-    let mut index = Index::new(alloc, header.layout.hmax)?;
+    let limit = header.layout.height_limit();
+    let mut tally = Tally::new(alloc, limit)?;
+    let mut index = Index::new(alloc, limit)?;
     let frames = Frames::new(alloc, header.layout.journal)?;
     tally.clear(header.height);
     index.reset(header.height);

@@ -1,5 +1,5 @@
 -- Segments that are read into frames.
-use Rattle.std.proofs.Common.{◌≡◌, ℕ, ◌+◌, ◌-◌, ◌*◌, ◌^◌, ◌<◌, ◌≤◌, List, [], length, drop, get_or, get_or-take, get_or-drop, slice_range, refl, sym, ap, subst, ◌∙◌, arith}
+use Rattle.std.proofs.Common.{◌≡◌, inl, inr, ℕ, zero, suc, ◌+◌, ◌-◌, ◌*◌, ◌/◌, ◌^◌, ◌<◌, ◌≤◌, List, [], length, drop, get_or, get_or-take, get_or-drop, slice_range, refl, sym, ap, subst, ◌∙◌, arith}
 use Rattle.std.specs.List.{splice}
 use Rattle.std.proofs.lemmas.List.{ext_get_or, length-take-le, length-drop}
 use Rattle.std.proofs.lemmas.List.FromFn.{length-map-range_with_len, get_or-map-range_with_len}
@@ -9,11 +9,13 @@ use Rattle.station.proofs.Ranges.{byte-slice_range, length-slice_range}
 use Rattle.key_slot.specs.declared.sizes.TheConstants.{SEGMENT_SLOTS, SLOT_SIZE}
 use Rattle.key_slot.specs.Record.{Record}
 use Rattle.key_slot.specs.Segment.{IsSegment, segment_of}
-use Rattle.key_slot.proofs.SegmentLaws.{segment_rows}
+use Rattle.key_slot.specs.Format.{HasFormat, format_of}
+use Rattle.key_slot.proofs.SegmentLaws.{times_up, segment_rows}
 use Rattle.header_gate.specs.Header.{layout_in, live_copy}
-use Rattle.header_gate.specs.Places.{segment_size, segment_place}
-use Rattle.header_gate.proofs.RecoveredSegments.{segment_within}
-use Rattle.map_model.specs.Image.{array_in, live_segment, height_of}
+use Rattle.header_gate.specs.Places.{IsSlotFormat, IsFormat, segment_size, segment_place, height_limit}
+use Rattle.header_gate.specs.Paged.{pages_of_all}
+use Rattle.header_gate.proofs.PagedSegments.{segment_within, length-pages_of_all}
+use Rattle.map_model.specs.Image.{array_in, live_segment, slot_format, height_of}
 use Rattle.map_model.specs.Image.{array_of}
 use Rattle.map_model.proofs.Headers.{even_segment}
 use Rattle.raw_slots.specs.Slots.{bytes_of, slots_in}
@@ -21,87 +23,122 @@ use Rattle.raw_slots.proofs.SlotLists.{length-slots_in}
 use Rattle.raw_slots.proofs.Runs.{run_bytes, length-splice}
 use Rattle.redo_journal.specs.declared.place.Place.{Place}
 use Rattle.redo_journal.specs.Commit.{IsAt}
-use Rattle.redo_journal.specs.Frames.{Batch, frame, IsFrames}
+use Rattle.redo_journal.specs.Frames.{Batch, IsFrames}
 use Rattle.map_model.specs.Array.{segment_at}
-use Rattle.segment_frames.specs.Held.{HoldsRows}
+use Rattle.segment_frames.specs.Held.{grouped, HoldsRows}
 use Rattle.segment_frames.specs.Standing.{IsSettledAt}
-use Rattle.segment_frames.specs.Lists.{page_at, rows_at, IsHeld}
+use Rattle.segment_frames.specs.Lists.{frames_of, page_at, rows_at, segments_in, IsHeld}
 use Rattle.segment_frames.specs.Reading.{HasRead, segment_bytes_at}
 use Rattle.segment_frames.proofs.Slots.{splice_inside}
-use Rattle.segment_frames.proofs.FrameLaws.{frame_at, length-frame, length-rows_in, rows_in_at, holds_decoded}
+use Rattle.segment_frames.proofs.FrameLaws.{length-rows_in, rows_in_at, holds_decoded}
+use Rattle.segment_frames.proofs.Grouped.{all_within, length-grouped, length-frames_of, frames_at}
 
 -- Frames.
 
--- a frame of which no slot changed
-pub frame_kept : (f : ℕ) (old new : List (List ℕ)) → length new ≡ length old → SEGMENT_SLOTS * f + SEGMENT_SLOTS ≤ length old → ((p : ℕ) → p < SEGMENT_SLOTS * f + SEGMENT_SLOTS → get_or new p [] ≡ get_or old p []) → frame f new ≡ frame f old
-frame_kept f old new size room same =
-    let long : length (frame f new) ≡ SEGMENT_SLOTS = length-frame f new (omega (arith, room, size)) in
-    ext_get_or [] (frame f new) (frame f old) (long ∙ sym (length-frame f old room)) (λ j lt.
-    let small : j < SEGMENT_SLOTS = omega (arith, lt, long) in
-    frame_at f j new small ∙ same (SEGMENT_SLOTS * f + j) (omega (arith, small)) ∙ sym (frame_at f j old small))
+-- the frames of a segment of which no slot changed
+pub frame_kept : (format f : ℕ) (old new : List (List ℕ)) → length new ≡ length old → SEGMENT_SLOTS * format * f + SEGMENT_SLOTS * format ≤ length old
+    → ((p : ℕ) → p < SEGMENT_SLOTS * format * f + SEGMENT_SLOTS * format → get_or new p [] ≡ get_or old p []) → frames_of format f new ≡ frames_of format f old
+frame_kept format f old new size room same =
+    let long : length (frames_of format f new) ≡ SEGMENT_SLOTS * format = length-frames_of format f new (omega (arith, room, size)) in
+    ext_get_or [] (frames_of format f new) (frames_of format f old) (long ∙ sym (length-frames_of format f old room)) (λ j lt.
+    let small : j < SEGMENT_SLOTS * format = omega (arith, lt, long) in
+    frames_at format f j new small ∙ same (SEGMENT_SLOTS * format * f + j) (omega (arith, small)) ∙ sym (frames_at format f j old small))
 
 -- What is read.
 
-module _ (place : Place) (file : List ℕ) (s : List (List ℕ)) (f n count : ℕ) (w : List ℕ) (long : length w ≡ SEGMENT_SLOTS * count * SLOT_SIZE) (room : SEGMENT_SLOTS * f + SEGMENT_SLOTS * count ≤ length s) (filled : Filled (segment_place place.layout place.region n) file w)
-    (small : place.region < 2) (inside : n + count ≤ 2 ^ place.layout.hmax) (at : IsAt place file) where
-  abbrev put : List (List ℕ)
-  put = splice s (SEGMENT_SLOTS * f) (SEGMENT_SLOTS * f + SEGMENT_SLOTS * count) (slots_in (SEGMENT_SLOTS * count) w)
+module _ (place : Place) (file : List ℕ) (s : List (List ℕ)) (f n count : ℕ) (w : List ℕ) (known : IsFormat place.layout.hmax place.layout.format) (long : length w ≡ SEGMENT_SLOTS * place.layout.format * count * SLOT_SIZE) (room : SEGMENT_SLOTS * place.layout.format * f + SEGMENT_SLOTS * place.layout.format * count ≤ length s)
+    (filled : Filled (segment_place place.layout place.region n) file w) (small : place.region < 2) (inside : n + count ≤ 2 ^ height_limit place.layout) (at : IsAt place file) where
+  abbrev format : ℕ
+  format = place.layout.format
 
-  long_put : length (slots_in (SEGMENT_SLOTS * count) w) ≡ SEGMENT_SLOTS * count
-  long_put = length-slots_in (SEGMENT_SLOTS * count) w
+  -- the slots of a segment's frames
+  abbrev own : ℕ
+  own = SEGMENT_SLOTS * place.layout.format
+
+  abbrev put : List (List ℕ)
+  put = splice s (own * f) (own * f + own * count) (slots_in (own * count) w)
+
+  long_put : length (slots_in (own * count) w) ≡ own * count
+  long_put = length-slots_in (own * count) w
 
   size_put : length put ≡ length s
-  size_put = length-splice s (SEGMENT_SLOTS * f) (SEGMENT_SLOTS * count) (slots_in (SEGMENT_SLOTS * count) w) room long_put
+  size_put = length-splice s (own * f) (own * count) (slots_in (own * count) w) room long_put
 
-  -- a frame is a part of what was read
-  frame_put : (i : ℕ) → i < count → frame (f + i) put ≡ slice_range (slots_in (SEGMENT_SLOTS * count) w) (SEGMENT_SLOTS * i) (SEGMENT_SLOTS * i + SEGMENT_SLOTS)
+  before : (i : ℕ) → i < count → own * i + own ≤ own * count
+  before i lt = omega (arith, times_up own (suc i) count lt)
+
+  -- the frames of a segment are a part of what was read
+  frame_put : (i : ℕ) → i < count → frames_of format (f + i) put ≡ slice_range (slots_in (own * count) w) (own * i) (own * i + own)
   frame_put i lt =
-      let whole : length (frame (f + i) put) ≡ SEGMENT_SLOTS = length-frame (f + i) put (omega (arith, lt, room, size_put)) in
-      let part : length (slice_range (slots_in (SEGMENT_SLOTS * count) w) (SEGMENT_SLOTS * i) (SEGMENT_SLOTS * i + SEGMENT_SLOTS)) ≡ SEGMENT_SLOTS =
-      length-take-le (SEGMENT_SLOTS * i + SEGMENT_SLOTS - SEGMENT_SLOTS * i) (drop (SEGMENT_SLOTS * i) (slots_in (SEGMENT_SLOTS * count) w)) (omega (arith, lt, long_put, length-drop (SEGMENT_SLOTS * i) (slots_in (SEGMENT_SLOTS * count) w))) ∙ omega arith in
-      ext_get_or [] (frame (f + i) put) (slice_range (slots_in (SEGMENT_SLOTS * count) w) (SEGMENT_SLOTS * i) (SEGMENT_SLOTS * i + SEGMENT_SLOTS)) (whole ∙ sym part) (λ j below.
-      let j_small : j < SEGMENT_SLOTS = omega (arith, below, whole) in
-      let here : SEGMENT_SLOTS * (f + i) + j ≡ SEGMENT_SLOTS * f + (SEGMENT_SLOTS * i + j) = omega arith in
-      frame_at (f + i) j put j_small ∙ ap (λ (k : ℕ). get_or put k []) here
-      ∙ splice_inside s (SEGMENT_SLOTS * f) (SEGMENT_SLOTS * count) (slots_in (SEGMENT_SLOTS * count) w) [] room long_put (SEGMENT_SLOTS * i + j) (omega (arith, lt, j_small))
-      ∙ sym (get_or-take (SEGMENT_SLOTS * i + SEGMENT_SLOTS - SEGMENT_SLOTS * i) (drop (SEGMENT_SLOTS * i) (slots_in (SEGMENT_SLOTS * count) w)) j [] (omega (arith, j_small)) ∙ get_or-drop (SEGMENT_SLOTS * i) (slots_in (SEGMENT_SLOTS * count) w) j []))
+      let ends = before i lt in
+      let whole : length (frames_of format (f + i) put) ≡ own = length-frames_of format (f + i) put (omega (arith, ends, room, size_put)) in
+      let part : length (slice_range (slots_in (own * count) w) (own * i) (own * i + own)) ≡ own =
+      length-take-le (own * i + own - own * i) (drop (own * i) (slots_in (own * count) w)) (omega (arith, ends, long_put, length-drop (own * i) (slots_in (own * count) w))) ∙ omega arith in
+      ext_get_or [] (frames_of format (f + i) put) (slice_range (slots_in (own * count) w) (own * i) (own * i + own)) (whole ∙ sym part) (λ j below.
+      let j_small : j < own = omega (arith, below, whole) in
+      let here : own * (f + i) + j ≡ own * f + (own * i + j) = omega arith in
+      frames_at format (f + i) j put j_small ∙ ap (λ (k : ℕ). get_or put k []) here
+      ∙ splice_inside s (own * f) (own * count) (slots_in (own * count) w) [] room long_put (own * i + j) (omega (arith, ends, j_small))
+      ∙ sym (get_or-take (own * i + own - own * i) (drop (own * i) (slots_in (own * count) w)) j [] (omega (arith, j_small)) ∙ get_or-drop (own * i) (slots_in (own * count) w) j []))
 
   pub has_read : HasRead place file put f n count
   has_read i lt =
+      let ends = before i lt in
       let region = segment_place place.layout place.region n in
-      let from = SEGMENT_SLOTS * i * SLOT_SIZE in
+      let from = own * i * SLOT_SIZE in
+      let size_of = own * SLOT_SIZE in
       let start = segment_place place.layout place.region (n + i) in
       let here : region + from ≡ start = omega arith in
-      let within : start + segment_size ≤ length file = omega (arith, at.size, segment_within place.layout place.region (n + i) small (omega (arith, lt, inside))) in
-      let size : length (slice_range w from (from + SEGMENT_SLOTS * SLOT_SIZE)) ≡ segment_size = length-slice_range w from (from + SEGMENT_SLOTS * SLOT_SIZE) (omega arith) (omega (arith, long, lt)) ∙ omega arith in
+      let whole : segment_size place.layout ≡ size_of = omega arith in
+      let within : start + segment_size place.layout ≤ length file = omega (arith, at.size, segment_within place.layout place.region (n + i) known small (omega (arith, lt, inside))) in
+      let size : length (slice_range w from (from + size_of)) ≡ size_of = length-slice_range w from (from + size_of) (omega arith) (omega (arith, long, ends)) ∙ omega arith in
       ap bytes_of (frame_put i lt)
-      ∙ sym (run_bytes (SEGMENT_SLOTS * count) (SEGMENT_SLOTS * i) SEGMENT_SLOTS w (slots_in (SEGMENT_SLOTS * count) w) refl (sym long) (omega (arith, lt, long_put)))
-      ∙ ext_get_or 0 (slice_range w from (from + SEGMENT_SLOTS * SLOT_SIZE)) (segment_bytes_at place file (n + i)) (size ∙ sym (length-slice_range file start (start + segment_size) (omega arith) within ∙ omega arith)) (λ k below.
-      let k_small : k < segment_size = omega (arith, below, size) in
+      ∙ sym (run_bytes (own * count) (own * i) own w (slots_in (own * count) w) refl (sym long) (omega (arith, ends, long_put)))
+      ∙ ext_get_or 0 (slice_range w from (from + size_of)) (segment_bytes_at place file (n + i)) (size ∙ sym (length-slice_range file start (start + segment_size place.layout) (omega arith) within ∙ omega arith)) (λ k below.
+      let k_small : k < size_of = omega (arith, below, size) in
       let there : region + (from + k) ≡ start + k = omega (arith, here) in
-      byte-slice_range w from (from + SEGMENT_SLOTS * SLOT_SIZE) k (omega (arith, k_small)) ∙ filled (from + k) (omega (arith, k_small, lt, long)) ∙ ap (byte file) there
-      ∙ sym (byte-slice_range file start (start + segment_size) k (omega (arith, k_small))))
+      byte-slice_range w from (from + size_of) k (omega (arith, k_small)) ∙ filled (from + k) (omega (arith, k_small, ends, long)) ∙ ap (byte file) there
+      ∙ sym (byte-slice_range file start (start + segment_size place.layout) k (omega (arith, k_small, whole))))
 
 -- What stays read when frames behind it change.
-pub read_kept : (place : Place) (file : List ℕ) (old new : List (List ℕ)) (f n count : ℕ) → length new ≡ length old → SEGMENT_SLOTS * (f + count) ≤ length old → ((p : ℕ) → p < SEGMENT_SLOTS * (f + count) → get_or new p [] ≡ get_or old p []) → HasRead place file old f n count → HasRead place file new f n count
+pub read_kept : (place : Place) (file : List ℕ) (old new : List (List ℕ)) (f n count : ℕ) → length new ≡ length old → SEGMENT_SLOTS * place.layout.format * (f + count) ≤ length old
+    → ((p : ℕ) → p < SEGMENT_SLOTS * place.layout.format * (f + count) → get_or new p [] ≡ get_or old p []) → HasRead place file old f n count → HasRead place file new f n count
 read_kept place file old new f n count size room same read i lt =
-    ap bytes_of (frame_kept (f + i) old new size (omega (arith, room, lt)) (λ p below. same p (omega (arith, below, lt)))) ∙ read i lt
+    let own = SEGMENT_SLOTS * place.layout.format in
+    let ends : own * suc (f + i) ≤ own * (f + count) = times_up own (suc (f + i)) (f + count) (omega (arith, lt)) in
+    ap bytes_of (frame_kept place.layout.format (f + i) old new size (omega (arith, room, ends)) (λ p below. same p (omega (arith, below, ends)))) ∙ read i lt
 
 -- What was decoded.
-pub reads_as : (slots : List (List ℕ)) (f : ℕ) (rows : List Record) (bytes : List ℕ) → IsSegment rows bytes → bytes ≡ page_at slots f → rows_at slots f ≡ rows
-reads_as slots f rows bytes is same = ap segment_of (sym same) ∙ segment_rows rows bytes is
+pub reads_as : (format : ℕ) (slots : List (List ℕ)) (f : ℕ) (rows : List Record) (bytes : List ℕ) → IsSegment format rows bytes → bytes ≡ page_at format slots f → rows_at format slots f ≡ rows
+reads_as format slots f rows bytes is same = ap (segment_of format) (sym same) ∙ segment_rows format rows bytes is
 
-pub decoded : (slots : List (List ℕ)) (f : ℕ) (rows : List Record) (bytes : List ℕ) → IsSegment rows bytes → bytes ≡ page_at slots f → slots_in SEGMENT_SLOTS bytes ≡ frame f slots → HoldsRows (rows_at slots f) f slots
-decoded slots f rows bytes is same seen = subst (λ (r : List Record). HoldsRows r f slots) (sym (reads_as slots f rows bytes is same)) (holds_decoded rows f slots bytes is seen)
+pub decoded : (format : ℕ) (slots : List (List ℕ)) (f : ℕ) (rows : List Record) (bytes : List ℕ) → 1 ≤ format → SEGMENT_SLOTS * format * f + SEGMENT_SLOTS * format ≤ length slots → IsSegment format rows bytes → bytes ≡ page_at format slots f
+    → slots_in (SEGMENT_SLOTS * format) bytes ≡ frames_of format f slots → HoldsRows format (rows_at format slots f) f (grouped format slots)
+decoded format slots f rows bytes some room is same seen =
+    subst (λ (r : List Record). HoldsRows format r f (grouped format slots)) (sym (reads_as format slots f rows bytes is same)) (holds_decoded format rows f slots bytes some room is seen)
 
-pub all_held : (b : Batch) → IsFrames b → ((f : ℕ) → f < length b.numbers → HoldsRows (rows_at b.slots f) f b.slots) → IsHeld b
-all_held b is each = record {
+-- a segment's length tells its format
+pub format_is : (format : ℕ) (bytes : List ℕ) → IsSlotFormat format → length bytes ≡ SEGMENT_SLOTS * format * SLOT_SIZE → HasFormat bytes × (format_of bytes ≡ format)
+format_is zero bytes is long = absurd (omega (arith, is.least))
+format_is (suc zero) bytes is long = (inl (omega (arith, long)), ap (λ (n : ℕ). n / 4096) {x = length bytes} {y = 4096} (omega (arith, long)))
+format_is (suc (suc zero)) bytes is long = (inr (omega (arith, long)), ap (λ (n : ℕ). n / 4096) {x = length bytes} {y = 8192} (omega (arith, long)))
+format_is (suc (suc (suc n))) bytes is long = absurd (omega (arith, is.most))
+
+-- a batch of whole segments, each of which holds its records
+pub all_held : (format : ℕ) (b : Batch) → IsSlotFormat format → IsFrames b → b.numbers ≡ pages_of_all format (segments_in format b.numbers) → ((f : ℕ) → f < length (segments_in format b.numbers) → HoldsRows format (rows_at format b.slots f) f (grouped format b.slots)) → IsHeld format b
+all_held format b known is pages each = record {
+  known = known;
   frames = is;
+  pages = pages;
   lists = record {
-    room = omega (arith, is.frames, is.few, length-rows_in (length b.numbers) b.slots);
+    room =
+        let n = length (segments_in format b.numbers) in
+        let paged : length b.numbers ≡ format * n = ap length pages ∙ length-pages_of_all format (segments_in format b.numbers) in
+        let fits : format * (SEGMENT_SLOTS * n) ≤ length b.slots = omega (arith, is.frames, is.few, paged) in
+        omega (arith, length-grouped format b.slots, length-rows_in format n b.slots, all_within format (SEGMENT_SLOTS * n) (length b.slots) known.least fits);
     each = λ f lt.
-        let within : f < length b.numbers = omega (arith, lt, length-rows_in (length b.numbers) b.slots) in
-        subst (λ (r : List Record). HoldsRows r f b.slots) (sym (rows_in_at (length b.numbers) b.slots f within)) (each f within);
+        let within : f < length (segments_in format b.numbers) = omega (arith, lt, length-rows_in format (length (segments_in format b.numbers)) b.slots) in
+        subst (λ (r : List Record). HoldsRows format r f (grouped format b.slots)) (sym (rows_in_at format (length (segments_in format b.numbers)) b.slots f within)) (each f within);
   };
 }
 
@@ -111,16 +148,16 @@ module _ (place : Place) (image : List ℕ) (is : IsSettledAt place image) where
   -- the bytes at its place are the segment's
   pub settled_segment : (n : ℕ) → n < 2 ^ height_of image → segment_bytes_at place image n ≡ live_segment image n
   settled_segment n lt =
-      let inner : n < 2 ^ (layout_in image).hmax = omega (arith, lt, pow-le-pow_right {n = 2} (omega arith) is.represents.header.height) in
+      let inner : n < 2 ^ height_limit (layout_in image) = omega (arith, lt, pow-le-pow_right {n = 2} (omega arith) is.represents.header.height) in
       let layout : place.layout ≡ layout_in image = sym is.layout_is in
       let region : place.region ≡ live_copy image = sym is.region_is in
-      (λ t. slice_range image (segment_place (layout t) (region t) n) (segment_place (layout t) (region t) n + segment_size))
+      (λ t. slice_range image (segment_place (layout t) (region t) n) (segment_place (layout t) (region t) n + segment_size (layout t)))
       ∙ sym (even_segment image is.represents.header is.gate_even n inner)
 
   pub length-array_of : length (array_of image) ≡ 2 ^ height_of image
   unfolding array_in
-  length-array_of = length-map-range_with_len (λ i. segment_of (live_segment image i)) 0 (2 ^ height_of image)
+  length-array_of = length-map-range_with_len (λ i. segment_of (slot_format image) (live_segment image i)) 0 (2 ^ height_of image)
 
-  pub list_of_segment : (n : ℕ) → n < 2 ^ height_of image → segment_at (array_of image) n ≡ segment_of (live_segment image n)
+  pub list_of_segment : (n : ℕ) → n < 2 ^ height_of image → segment_at (array_of image) n ≡ segment_of (slot_format image) (live_segment image n)
   unfolding array_in
-  list_of_segment n lt = get_or-map-range_with_len (λ i. segment_of (live_segment image i)) 0 (2 ^ height_of image) n n [] lt (omega arith)
+  list_of_segment n lt = get_or-map-range_with_len (λ i. segment_of (slot_format image) (live_segment image i)) 0 (2 ^ height_of image) n n [] lt (omega arith)

@@ -16,7 +16,7 @@ use Rattle.command_text.specs.declared.reply.Reply.{Reply}
 use Rattle.command_text.specs.declared.reply.Reply.TheVariants.{Stored, Replaced, Full, Removed, Absent, Found, End}
 use Rattle.workload.specs.Generator.{draw, command_chosen, command_numbered, generated, key_numbered}
 use Rattle.workload.specs.Summaries.{is_stored, is_replaced, is_removed, is_absent, is_found, rows_ended, Fits}
-use Rattle.workload.specs.Generation.{gen_hmax, empty_state, gen_state, gen_counts, lines_to}
+use Rattle.workload.specs.Generation.{gen_layout, gen_hmax, empty_state, gen_state, gen_counts, lines_to}
 use Rattle.workload.proofs.Growing.{lines_more, rows_count_nothing}
 
 -- what a count adds for a line
@@ -45,7 +45,7 @@ module _ (f : Reply → ℕ) (few : IsFew f) where
   of_get (Some v) = few.found v
 
   abbrev AddsFew : ArrayState → Command → Type 0
-  AddsFew s c = sum_by f (answers gen_hmax s c) ≤ 10
+  AddsFew s c = sum_by f (answers gen_layout s c) ≤ 10
 
   either : (s : ArrayState) (a : Bool) (c d : Command) → AddsFew s c → AddsFew s d → AddsFew s (cond a c d)
   either s true c d first second = first
@@ -62,15 +62,15 @@ module _ (f : Reply → ℕ) (few : IsFew f) where
       let range : AddsFew s (command.Range (Some key) None 10) = omega (arith, rows_count_nothing f few.row rows (End (length rows)), few.end (length rows), length-take 10 (where_key key_cmp (is_within (Some key) None) (entries s.map))) in
       either s (nat_lt (r % 8) 5) _ _ put (either s (r % 8 == 5) _ _ remove (either s (r % 8 == 6) _ _ get range))
 
-  few_counted : (count seed : ℕ) → sum_by f (lines_to gen_hmax empty_state (generated count seed)) ≤ 10 * count
+  few_counted : (count seed : ℕ) → sum_by f (lines_to gen_layout empty_state (generated count seed)) ≤ 10 * count
   few_counted zero seed = omega arith
   few_counted (suc count) seed =
-      let lines = lines_to gen_hmax empty_state (generated count seed) in
-      let more = answers gen_hmax (gen_state count seed) (command_numbered seed (suc count)) in
+      let lines = lines_to gen_layout empty_state (generated count seed) in
+      let more = answers gen_layout (gen_state count seed) (command_numbered seed (suc count)) in
       omega (
         arith,
         few_counted count seed,
-        ap (sum_by f) (lines_more gen_hmax empty_state (generated count seed) (command_numbered seed (suc count))),
+        ap (sum_by f) (lines_more gen_layout empty_state (generated count seed) (command_numbered seed (suc count))),
         sum_by-append f lines more,
         chosen_few (gen_state count seed) (draw seed (suc count) / 2 ^ 33) (suc count),
       )
@@ -96,7 +96,7 @@ module _ (test : Reply → Bool) (row : (r : Record) → test (row_line r) ≡ f
     found = λ v. at_most_1 (test (Found v));
   }
 
-  few_passed : (count seed : ℕ) → count_by test (lines_to gen_hmax empty_state (generated count seed)) ≤ 10 * count
+  few_passed : (count seed : ℕ) → count_by test (lines_to gen_layout empty_state (generated count seed)) ≤ 10 * count
   few_passed = few_counted (λ x. cond (test x) 1 0) few_test
 
 few_ended : IsFew rows_ended

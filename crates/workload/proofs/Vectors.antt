@@ -14,7 +14,7 @@ use Rattle.command_text.specs.declared.reply.Reply.{Reply}
 use Rattle.command_text.specs.declared.reply.Reply.TheVariants.{Stored, Replaced, Full, Absent, End}
 use Rattle.workload.specs.Generator.{next_draw, key_numbered, command_chosen, generated}
 use Rattle.workload.specs.Summaries.{summary_of, summary_text}
-use Rattle.workload.specs.Generation.{gen_hmax, empty_state, lines_to, gen_state, gen_line}
+use Rattle.workload.specs.Generation.{gen_layout, empty_state, lines_to, gen_state, gen_line}
 use Rattle.workload.proofs.Beginning.{nothing, no_entries}
 
 generated_of_0 : generated 1 0 ≡ Range (Some (codes "k93975")) None 10 ∷ []
@@ -30,7 +30,7 @@ unfolding next_draw command_chosen key_numbered digits
 generated_of_2 = refl
 
 -- the line of commands with these replies, after which the store has this size
-line_by : (count seed n h : ℕ) (lines : List Reply) → lines_to gen_hmax empty_state (generated count seed) ≡ lines → len (gen_state count seed).map ≡ n → (gen_state count seed).height ≡ h
+line_by : (count seed n h : ℕ) (lines : List Reply) → lines_to gen_layout empty_state (generated count seed) ≡ lines → len (gen_state count seed).map ≡ n → (gen_state count seed).height ≡ h
     → gen_line count seed ≡ summary_text (record (summary_of count lines) { records = n; height = h })
 line_by count seed n h lines lines_are count_is height_is = λ i. summary_text (record (summary_of count (lines_are i)) { records = count_is i; height = height_is i })
 

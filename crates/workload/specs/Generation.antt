@@ -3,6 +3,8 @@ use Rattle.std.specs.Prelude.{◌≡◌, ℕ, List, [], ◌∷◌, ◌++◌}
 use Rattle.std.specs.FinMap.{empty}
 use Rattle.key_slot.specs.Record.{Bytes}
 use Rattle.density_rule.specs.Marks.{no_marks}
+use Rattle.header_gate.specs.declared.layout.Layout.{Layout}
+use Rattle.header_gate.specs.Places.{height_limit}
 use Rattle.map_model.specs.ArrayState.{ArrayState, plain}
 use Rattle.command_text.specs.declared.command.Command.{Command}
 use Rattle.command_text.specs.declared.reply.Reply.{Reply}
@@ -12,18 +14,22 @@ use Rattle.workload.specs.declared.summary.Summary.{Summary}
 use Rattle.workload.specs.Generator.{draw, generated}
 use Rattle.workload.specs.Summaries.{summary_of, sized, summary_text}
 
+-- the layout of the store's file: a greatest height of 11 segments of format 1, a journal as large as a region
+abbrev pub gen_layout : Layout
+gen_layout = record { hmax = 11; journal = 2048; version = 1; format = 1 }
+
 -- the greatest height of the store
 abbrev pub gen_hmax : ℕ
-gen_hmax = 11
+gen_hmax = height_limit gen_layout
 
 -- the empty store: one segment without a record, and no window rested
 abbrev pub empty_state : ArrayState
 empty_state = record { map = empty; height = 0; array = [] ∷ []; marks = no_marks 0 }
 
--- the lines of the replies to commands, from a state on, in a store with the greatest height hmax
-abbrev pub lines_to : ℕ → ArrayState → List Command → List Reply
-lines_to hmax s [] = []
-lines_to hmax s (c ∷ cs) = answers hmax s c ++ lines_to hmax (array_step hmax s c) cs
+-- the lines of the replies to commands, from a state on, in a store whose file has this layout
+abbrev pub lines_to : Layout → ArrayState → List Command → List Reply
+lines_to l s [] = []
+lines_to l s (c ∷ cs) = answers l s c ++ lines_to l (array_step (height_limit l) s c) cs
 
 -- the state after the first so many commands of a seed
 abbrev pub gen_state : ℕ → ℕ → ArrayState
@@ -31,7 +37,7 @@ gen_state count seed = array_state_after gen_hmax empty_state (generated count s
 
 -- their replies counted
 abbrev pub gen_counts : ℕ → ℕ → Summary
-gen_counts count seed = summary_of count (lines_to gen_hmax empty_state (generated count seed))
+gen_counts count seed = summary_of count (lines_to gen_layout empty_state (generated count seed))
 
 -- the same with the size of the store behind them
 abbrev pub gen_summary : ℕ → ℕ → Summary

@@ -1,6 +1,8 @@
 //! The generator of commands.
 
 ghost use Rattle.std.specs.Prelude.{◌≡◌, ◌<◌, decimal};
+ghost use Rattle.key_slot.specs.Format.{narrow};
+ghost use Rattle.command_text.specs.Command.{FitsFormat};
 ghost use Rattle.workload.specs.Generator.{next_draw, key_numbered, command_chosen, command_by, AsksForRecords};
 
 use command_text::Command;
@@ -21,11 +23,13 @@ const RANGE_LIMIT: u32 = 10;
 /// Steps the generator from the number `x` that it holds, and gives command number `i` of what it then holds.
 ///
 /// A seed is the number that the generator begins with, and the first command is number 1. The command is a put, a remove,
-/// a get or a range. The generator is a linear congruential one, with the constants that Knuth gives for MMIX.
+/// a get or a range, and a file of slot format 1 has room for what it binds and names. The generator is a linear congruential
+/// one, with the constants that Knuth gives for MMIX.
 pub fn next_command(x: &mut u64, i: u32) -> Command
     ensures drawn { x.new ≡ next_draw x.old }
     ensures command { result ≡ command_by (next_draw x.old) i }
     ensures asks { AsksForRecords result }
+    ensures fits { FitsFormat narrow result }
 {
     *x = x.wrapping_mul(MULTIPLIER).wrapping_add(INCREMENT);
     command((*x >> 33) as u32, i)

@@ -1,18 +1,20 @@
-use Rattle.std.proofs.Common.{◌≡◌, inl, inr, refl, ap}
+use Rattle.std.proofs.Common.{arith, ◌≡◌, ◌+◌, inl, inr, refl, ap}
 use Rattle.std.proofs.lemmas.Result.{on_ok_weaker, IfErr-weaker}
 use Rattle.station.specs.View.{Told}
 use Rattle.redo_journal.specs.Frames.{Batch}
-use Rattle.segment_frames.specs.Lists.{numbers_of}
+use Rattle.segment_frames.specs.Lists.{segments_in, numbers_of}
+use Rattle.segment_frames.proofs.PageNumbers.{pages_back, whole_pages, fits_journal}
+use Rattle.header_gate.proofs.PagedSegments.{known_format}
 use Rattle.segment_frames.proofs.LoadLaws.{shown_read, no_fault}
 use Rattle.redistribute.specs.Windows.{HasWindow}
 use Rattle.redistribute.specs.Batches.{kept_in}
 use Rattle.redistribute.proofs.LoadingLaws.{window_segments, window_count, shown_now, one_read, both_read}
 use Rattle.redistribute.proofs.loading.load.Goals as goal
-use Rattle.redistribute.proofs.loading.load.Goals.{In-Ok}
+use Rattle.redistribute.proofs.loading.load.Goals.{After-read_batch, In-Ok}
 
 -- the numbers of the batch
-named : (g : _) (c : In-Ok g) → c.read_batch.new.frames.numbers ≡ numbers_of c.args.runs
-named g c = ap (λ (b : Batch). b.numbers) c.read_batch.ensures.rest
+named : (g : _) (c : After-read_batch g) → segments_in c.args.place.now.layout.format c.read_batch.new.frames.numbers ≡ numbers_of c.args.runs
+named g c = pages_back c.args.place.now.layout.format c.read_batch.new.frames.numbers (numbers_of c.args.runs) c.requires.layout.format.least (ap (λ (b : Batch). b.numbers) c.read_batch.ensures.rest)
 
 -- the held bytes have the window
 window : (g : _) (c : In-Ok g) → Told (g.S.Station.view c.args.station.now) → HasWindow c.args.place.now c.args.first (g.P.Plan.plan c.args.plan.now).counts (g.S.Station.view c.args.station.now).held
@@ -24,7 +26,7 @@ returns-in-Ok-clause-shown g c = on_ok_weaker c.judge_frames.result (λ held tol
     let a = g.S.Station.view c.args.station.now in
     let b = c.read_batch.new.frames in
     shown_read c.args.place.now a.held c.args.runs c.requires.within.order (window_segments c.args.place.now c.args.first (g.P.Plan.plan c.args.plan.now).counts a.held (window g here told) c.args.runs c.requires.within) b.slots (c.in-Ok.ensures.low told) (c.in-Ok.ensures.high told)
-    b (named g here) refl) c.judge_frames.ensures.held
+    b (named g (goal.at.returns-in-Ok-clause-shown g c).After-read_batch) refl) c.judge_frames.ensures.held
 
 pub returns-in-Ok-clause-damaged : goal.returns-in-Ok-clause-damaged
 returns-in-Ok-clause-damaged g c = IfErr-weaker c.judge_frames.result _ _ (λ fault shows told.
@@ -34,10 +36,10 @@ returns-in-Ok-clause-damaged g c = IfErr-weaker c.judge_frames.result _ _ (λ fa
     let counts = (g.P.Plan.plan c.args.plan.now).counts in
     let has = window g here told in
     absurd (no_fault c.args.place.now a.held c.args.runs c.requires.within.order (window_segments c.args.place.now c.args.first counts a.held has c.args.runs c.requires.within) b.slots (c.in-Ok.ensures.low told) (c.in-Ok.ensures.high told)
-    b (kept_in c.args.first counts) fault (named g here) refl (λ f lt. window_count c.args.place.now c.args.first counts a.held has c.args.runs c.requires.within f lt) shows)) c.judge_frames.ensures.fault
+    b (kept_in c.args.first counts) fault (named g (goal.at.returns-in-Ok-clause-damaged g c).After-read_batch) refl (λ f lt. window_count c.args.place.now c.args.first counts a.held has c.args.runs c.requires.within f lt) shows)) c.judge_frames.ensures.fault
 
 pub returns-in-Ok-clause-cause : goal.returns-in-Ok-clause-cause
-returns-in-Ok-clause-cause g c = IfErr-weaker c.judge_frames.result _ _ (λ fault shows. shown_now c.read_batch.new.frames c.args.first (g.P.Plan.plan c.args.plan.now).counts fault shows) c.judge_frames.ensures.fault
+returns-in-Ok-clause-cause g c = IfErr-weaker c.judge_frames.result _ _ (λ fault shows. shown_now c.args.place.now.layout.format c.read_batch.new.frames c.args.first (g.P.Plan.plan c.args.plan.now).counts fault shows) c.judge_frames.ensures.fault
 
 pub returns-in-Ok-clause-reads : goal.returns-in-Ok-clause-reads
 returns-in-Ok-clause-reads g c = both_read c.args.place.now c.args.runs (g.S.Station.view c.args.station.now).travel (g.S.Station.view c.read_batch.new.station).travel c.in-Ok.ensures.reads
@@ -48,3 +50,21 @@ returns-in-Err-clause-reads g c =
     let before = (g.S.Station.view c.args.station.now).travel in
     let now = (g.S.Station.view c.read_batch.new.station).travel in
     elim c.in-Err.ensures.part [ inl one ↦ one_read place c.args.runs before now one | inr both ↦ both_read place c.args.runs before now both ]
+
+pub read_batch-requires-clause-room : goal.read_batch-requires-clause-room
+read_batch-requires-clause-room g c = omega (arith, fits_journal c.args.place.now.layout (c.args.runs.low_len + c.args.runs.high_len) c.requires.room, c.requires.journal)
+
+pub judge_frames-requires-clause-format : goal.judge_frames-requires-clause-format
+judge_frames-requires-clause-format g c = known_format c.args.place.now.layout.hmax c.args.place.now.layout.format c.requires.layout.format
+
+pub judge_frames-requires-clause-numbers : goal.judge_frames-requires-clause-numbers
+judge_frames-requires-clause-numbers g c = named g (goal.at.judge_frames-requires-clause-numbers g c).After-read_batch
+
+pub judge_frames-requires-clause-pages : goal.judge_frames-requires-clause-pages
+judge_frames-requires-clause-pages g c = whole_pages c.args.place.now.layout.format c.read_batch.new.frames.numbers (numbers_of c.args.runs) c.requires.layout.format.least (ap (λ (b : Batch). b.numbers) c.read_batch.ensures.rest)
+
+pub returns-in-Ok-clause-numbers : goal.returns-in-Ok-clause-numbers
+returns-in-Ok-clause-numbers g c = named g (goal.at.returns-in-Ok-clause-numbers g c).After-read_batch
+
+pub returns-in-Err-clause-numbers : goal.returns-in-Err-clause-numbers
+returns-in-Err-clause-numbers g c = named g (goal.at.returns-in-Err-clause-numbers g c).After-read_batch

@@ -1,6 +1,9 @@
-use Rattle.std.proofs.Common.{◌≡◌, ℕ, ◌+◌, ◌*◌, ◌/◌, ◌%◌, ◌^◌, ap, ◌∙◌}
+use Rattle.std.proofs.Common.{◌≡◌, ℕ, ◌+◌, ◌*◌, ◌/◌, ◌%◌, ◌^◌, sym, ap, subst, ◌∙◌, arith}
 use Rattle.std.proofs.Math.Nat.{mod-add-mod}
+use Rattle.key_slot.specs.Format.{narrow}
+use Rattle.command_text.specs.Command.{FitsFormat}
 use Rattle.workload.specs.Generator.{next_draw, command_chosen}
+use Rattle.workload.proofs.Narrow.{chosen_fits}
 use Rattle.workload.proofs.generator.next_command.Goals as goal
 
 -- the product may wrap before the sum does
@@ -13,3 +16,6 @@ returns-clause-drawn c = stepped c.args.x.now
 
 pub returns-clause-command : goal.returns-clause-command
 returns-clause-command c = c.command.ensures.command ∙ ap (λ (x : ℕ). command_chosen (x / 2 ^ 33) c.args.i) (stepped c.args.x.now)
+
+pub returns-clause-fits : goal.returns-clause-fits
+returns-clause-fits c = subst (FitsFormat narrow) (sym c.command.ensures.command) (chosen_fits _ c.args.i (omega arith))

@@ -1,0 +1,30 @@
+use Rattle.std.proofs.Common.{◌<◌, true, List, Option, length, sym, ap, ◌∙◌, arith}
+use Rattle.std.specs.Prelude.{drop}
+use Rattle.key_slot.specs.Record.{Bytes, Record}
+use Rattle.map_model.specs.Scan.{is_below}
+use Rattle.segment.specs.Rows.{key_at}
+use Rattle.range_scan.specs.Bounds.{begins_below}
+use Rattle.range_scan.specs.SweepView.{SweepView}
+use Rattle.range_scan.proofs.Inside.{begins_at, begins_anyway, hand_by}
+use Rattle.range_scan.proofs.sweep.Sweep.is_at_hand.Goals as goal
+use Rattle.range_scan.proofs.sweep.Sweep.is_at_hand.Goals.{Else-self-len}
+
+wanting : (c : Else-self-len) → c.args.self.now.given < c.args.self.now.limit
+wanting c = omega (arith, c.self.invariant.2.given_is, c.if-self.false, ap (λ (s : SweepView). s.given) c.self.view_is, ap (λ (s : SweepView). s.limit) c.self.view_is)
+
+pub returns-in-Some-clause-at_hand : goal.returns-in-Some-clause-at_hand
+returns-in-Some-clause-at_hand c =
+    let i = c.self.inside in
+    hand_by c.args.self.now c.lt.result (wanting (goal.at.returns-in-Some-clause-at_hand c).Else-self-len)
+    (c.lt.ensures
+    ∙ ap (λ (high : Option Bytes). is_below high c.key.result) (sym c.in-Some.is)
+    ∙ sym (begins_at i.high i.page.now.rows i.place c.key.result (ap (λ (rows : List Record). key_at rows i.place) (sym c.rows-rows.ensures) ∙ c.key.ensures))
+    ∙ ap (λ (s : SweepView). begins_below s.high s.kept) c.self.view_is)
+
+pub returns-in-None-clause-at_hand : goal.returns-in-None-clause-at_hand
+returns-in-None-clause-at_hand c =
+    let i = c.self.inside in
+    hand_by c.args.self.now true (wanting (goal.at.returns-in-None-clause-at_hand c).Else-self-len)
+    (sym (begins_anyway i.page.now.rows i.place (omega (arith, c.self.invariant.0, c.if-self-len.false, c.len.ensures.len, ap length c.rows-rows.ensures)))
+    ∙ ap (λ (high : Option Bytes). begins_below high (drop i.place i.page.now.rows)) (sym c.in-None.is)
+    ∙ ap (λ (s : SweepView). begins_below s.high s.kept) c.self.view_is)

@@ -1,0 +1,39 @@
+-- A sweep that reads on, as far as its next record needs it.
+use Rattle.std.specs.Prelude.{◌≡◌, ◌+◌, ◌-◌, ◌/◌, ◌<◌, ◌≤◌, true, T, length, Result, OnOk, is_err}
+use Rattle.std.specs.FinMap.{entries}
+use Rattle.station.specs.Bytes.{Same}
+use Rattle.station.specs.View.{View, Told, Rose}
+use Rattle.station.specs.Steps.{Steps}
+use Rattle.map_model.specs.Array.{cut}
+use Rattle.map_model.specs.Image.{map_of}
+use Rattle.segment.specs.declared.fault.StoreFault.{StoreFault}
+use Rattle.segment.specs.declared.fault.StoreFault.TheVariants.{Failed}
+use Rattle.range_scan.specs.Bounds.{are_before, is_void}
+use Rattle.range_scan.specs.Faults.{IsDamageAt}
+use Rattle.range_scan.specs.SweepView.{SweepView, IsSweep, GoesOn}
+use Rattle.range_scan.specs.Sweeping.{IsSweeping, BeginsThere, between}
+use Rattle.range_scan.specs.Walk.{after_walk}
+
+-- It read none or some of the next segments, and answered a record or none.
+pub record SweepsOn {A : Type 0} (result : Result A StoreFault) (s t : SweepView) (a b : View) : Type 0 where
+  -- it is the same scan, and goes on in the file
+  pub same : GoesOn s t
+  pub is_sweep : IsSweep t
+  pub sweeping : OnOk result (Told b → IsSweeping t b.held)
+  pub faulted : t.faulted ≡ is_err result
+  pub steps : Steps Same a b
+  pub reads : b.travel ≡ after_walk s.reader.layout s.reader.region s.reader.next t.reader.next a.travel
+  -- it reads another segment only where those before it have no record that isn't below the lower bound
+  pub needed : Told a → T (are_before s.low (between s.reader.next (t.reader.next - 1) (cut s.tally.counts (entries (map_of a.held)))))
+  -- where the scan begins in its first segment, it reads at most two besides one for each four records that it answered
+  pub few : Told a → BeginsThere s (entries (map_of a.held)) → t.reader.next - s.first ≤ t.given / 4 + 2
+  -- it reads none while records are kept, nor where the bounds leave no room
+  pub idle : 0 < length s.kept → t.reader ≡ s.reader
+  pub void : is_void s.low s.high ≡ true → t.reader ≡ s.reader
+
+-- Why it stopped: at the segment that it read last.
+pub record StopsSweep (fault : StoreFault) (s t : SweepView) (a b : View) : Type 0 where
+  -- where bytes are told only the disk stops it
+  pub damaged : Told a → fault ≡ Failed
+  pub causes : IsDamageAt (t.reader.next - 1) s.tally.counts fault
+  pub failed : fault ≡ Failed → Rose a.disk_faults b.disk_faults

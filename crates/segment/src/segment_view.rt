@@ -1,0 +1,250 @@
+//! The rows of a segment where they lie: bytes that were judged, neither copied nor zeroed.
+
+ghost use Rattle.std.specs.Prelude.{◌≡◌, ◌≢◌, ℕ, ◌-◌, ◌<◌, ◌≤◌, ◌↔◌, Some, None, length, slice_get, IfOk, IfErr, IfSome, IfNone, IsOk, IsNone, IsSome};
+ghost use Rattle.std.specs.Option.{option_map};
+ghost use Rattle.key_slot.specs.Format.{HasFormat, format_of};
+ghost use Rattle.key_slot.specs.Record.{Bytes, key_cmp, IsAscending};
+ghost use Rattle.key_slot.specs.Row.{record_of};
+ghost use Rattle.key_slot.specs.Segment.{IsSegment, first_bad_slot, segment_of};
+ghost use Rattle.segment.specs.Judged.{damage_of};
+ghost use Rattle.segment.specs.Rows.{key_at, value_at, value_of, IsGap, BeginsAt};
+
+use super::counted::count_rows;
+use super::fault::{BadSegment, Damage, StoreFault};
+use super::judging::judge_kept;
+use super::segment::Segment;
+use key_slot::{
+    Key, Row, SEGMENT_SIZE, SEGMENT_SLOTS, SLOT_SIZE, compare_key, key_bytes, key_of, row_of,
+    value_bytes,
+};
+use slot_wide::{
+    WIDE_SIZE, compare_wide_key, wide_key_bytes, wide_key_of, wide_row_of, wide_value_bytes,
+};
+use std::cmp::Ordering;
+use std::marker::Model;
+
+/// The bytes of a segment of either format, which were judged, with the number of its rows. A place counts rows from 0.
+#[derive(Drop)]
+pub struct SegmentView<'a> {
+    bytes: &'a [u8],
+    len: usize,
+}
+
+impl<'a> Model for SegmentView<'a> {
+    ghost use Rattle.std.specs.Prelude.{List};
+    ghost use Rattle.key_slot.specs.Format.{format_of};
+    ghost use Rattle.key_slot.specs.Record.{Record};
+    ghost use Rattle.key_slot.specs.Segment.{segment_of};
+    ghost use Rattle.segment.specs.Viewed.{IsJudged};
+
+    ghost Value = { List Record };
+
+    ghost view = { λ v. segment_of (format_of v.bytes.now) v.bytes.now };
+
+    ghost invariant = { λ v. IsJudged v.len v.bytes.now };
+}
+
+impl<'a> SegmentView<'a> {
+    /// The rows of 4096 bytes of format 1, or of 8192 of format 2. It fails where a slot is bad, and names the first
+    /// one: a slot that spells nothing, or a row behind an empty slot or behind a key that isn't below its own.
+    pub fn decode(bytes: &'a [u8]) -> Result<SegmentView<'a>, BadSegment>
+        requires { HasFormat bytes.now }
+        ensures ok { IfOk result (λ rows. IsSegment (format_of bytes.now) rows bytes.now) }
+        ensures bad { IfErr result (λ error. first_bad_slot (format_of bytes.now) bytes.now ≡ Some error.slot) }
+    {
+        match count_rows(bytes) {
+            Ok(count) => Ok(SegmentView::again(bytes, count)),
+            Err(bad) => Err(bad),
+        }
+    }
+
+    /// The rows of 4096 or 8192 bytes that a store has read as its segment of this number, for which it keeps `kept` rows.
+    ///
+    /// It fails where the bytes are no segment, and names the first bad slot; else where they have another number of
+    /// rows, and names both numbers.
+    pub fn judge(bytes: &'a [u8], segment: u32, kept: u32) -> Result<SegmentView<'a>, StoreFault>
+        requires { HasFormat bytes.now }
+        ensures rows { IfOk result (λ rows. IsSegment (format_of bytes.now) rows bytes.now) }
+        ensures count { IfOk result (λ rows. length rows ≡ kept) }
+        ensures damage { IfErr result (λ fault. (why : Damage) × (damage_of (format_of bytes.now) bytes.now kept ≡ Some why) × (fault ≡ StoreFault.Damaged segment why)) }
+        ensures other { (found other : ℕ) → result ≡ Err (StoreFault.Damaged segment (Damage.OtherCount found other)) → (other ≡ kept) × (found ≢ kept) }
+    {
+        match judge_kept(bytes, segment, kept) {
+            Ok(()) => Ok(SegmentView::again(bytes, kept)),
+            Err(fault) => Err(fault),
+        }
+    }
+
+    /// The rows of bytes that were judged before, with their number, for a caller that keeps both. Nothing is read.
+    #[inline(always)]
+    pub fn again(bytes: &'a [u8], count: u32) -> SegmentView<'a>
+        requires format { HasFormat bytes.now }
+        requires sound { IsSegment (format_of bytes.now) (segment_of (format_of bytes.now) bytes.now) bytes.now }
+        requires count { length (segment_of (format_of bytes.now) bytes.now) ≡ count }
+        ensures { result ≡ segment_of (format_of bytes.now) bytes.now }
+    {
+        SegmentView {
+            bytes,
+            len: count as usize,
+        }
+    }
+
+    /// Puts the rows in place of those of a segment, which may be edited then. They aren't judged again.
+    pub fn copy_into(&self, rows: &mut Segment)
+        ensures { rows.new ≡ self.now }
+    {
+        rows.take_over(self.bytes, self.len as u32);
+    }
+
+    /// The number of rows, at most 64.
+    #[inline(always)]
+    pub fn len(&self) -> u32
+        ensures len { result ≡ length self.now }
+        ensures most { length self.now ≤ SEGMENT_SLOTS }
+        ensures ascending { IsAscending self.now }
+    {
+        self.len as u32
+    }
+
+    /// The bytes of the key at place `i`, where they lie.
+    #[inline(always)]
+    pub fn key_bytes(&self, i: u32) -> &'a [u8]
+        requires { i < length self.now }
+        ensures { key_at self.now i ≡ Some result.now }
+    {
+        let bytes = self.bytes;
+        if bytes.len() == SEGMENT_SIZE {
+            let (slots, _) = bytes.as_chunks::<SLOT_SIZE>();
+            key_bytes(&slots[i as usize])
+        } else {
+            let (slots, _) = bytes.as_chunks::<WIDE_SIZE>();
+            wide_key_bytes(&slots[i as usize])
+        }
+    }
+
+    /// The bytes of the value at place `i`, where they lie.
+    #[inline(always)]
+    pub fn value_bytes(&self, i: u32) -> &'a [u8]
+        requires { i < length self.now }
+        ensures { value_at self.now i ≡ Some result.now }
+    {
+        let bytes = self.bytes;
+        if bytes.len() == SEGMENT_SIZE {
+            let (slots, _) = bytes.as_chunks::<SLOT_SIZE>();
+            value_bytes(&slots[i as usize])
+        } else {
+            let (slots, _) = bytes.as_chunks::<WIDE_SIZE>();
+            wide_value_bytes(&slots[i as usize])
+        }
+    }
+
+    /// The row at place `i`.
+    pub fn row(&self, i: u32) -> Row
+        requires { i < length self.now }
+        ensures { slice_get self.now i ≡ Some (record_of result) }
+    {
+        let bytes = self.bytes;
+        if bytes.len() == SEGMENT_SIZE {
+            let (slots, _) = bytes.as_chunks::<SLOT_SIZE>();
+            row_of(&slots[i as usize])
+        } else {
+            let (slots, _) = bytes.as_chunks::<WIDE_SIZE>();
+            wide_row_of(&slots[i as usize])
+        }
+    }
+
+    /// The key at place `i`.
+    pub fn key(&self, i: u32) -> Key
+        requires { i < length self.now }
+        ensures { key_at self.now i ≡ Some result }
+    {
+        let bytes = self.bytes;
+        if bytes.len() == SEGMENT_SIZE {
+            let (slots, _) = bytes.as_chunks::<SLOT_SIZE>();
+            key_of(&slots[i as usize])
+        } else {
+            let (slots, _) = bytes.as_chunks::<WIDE_SIZE>();
+            wide_key_of(&slots[i as usize])
+        }
+    }
+
+    /// The place of a key, or in `Err` the place where it would stand.
+    pub fn find(&self, key: &Key) -> Result<u32, u32>
+        ensures ok { IfOk result (λ place. key_at self.now place ≡ Some key.now) }
+        ensures err { IfErr result (λ place. IsGap self.now place key.now) }
+        ensures when { IsOk result ↔ IsSome (value_of key.now self.now) }
+    {
+        let mut low = 0;
+        let mut high = self.len as u32;
+        while low < high {
+            let middle = (low + high) / 2;
+            match self.compare(middle, key) {
+                Ordering::Less => low = middle + 1,
+                Ordering::Greater => high = middle,
+                Ordering::Equal => return Ok(middle),
+            }
+        }
+        Err(low)
+    }
+
+    /// The bytes of the value that is bound to a key, where they lie.
+    pub fn value(&self, key: &Key) -> Option<&'a [u8]>
+        ensures some { IfSome result (λ value. value_of key.now self.now ≡ Some value.now) }
+        ensures none { IfNone result (value_of key.now self.now ≡ None) }
+    {
+        let _ = &self.bytes;
+        match self.find(key) {
+            Ok(place) => Some(self.value_bytes(place)),
+            Err(_) => None,
+        }
+    }
+
+    /// The place where the rows from a bound on begin: the first whose key isn't below it, or behind all.
+    pub fn place_from(&self, low: &Key) -> u32
+        ensures { BeginsAt self.now result low.now }
+    {
+        let _ = &self.bytes;
+        match self.find(low) {
+            Ok(place) => place,
+            Err(place) => place,
+        }
+    }
+
+    /// The least key, or None where there is no row.
+    pub fn first_key(&self) -> Option<Key>
+        ensures key { result ≡ key_at self.now 0 }
+        ensures none { IsNone result ↔ (length self.now ≡ 0) }
+    {
+        if self.len == 0 {
+            return None;
+        }
+        Some(self.key(0))
+    }
+
+    /// The greatest key, or None where there is no row.
+    pub fn last_key(&self) -> Option<Key>
+        ensures key { result ≡ key_at self.now (length self.now - 1) }
+        ensures none { IsNone result ↔ (length self.now ≡ 0) }
+    {
+        if self.len == 0 {
+            return None;
+        }
+        Some(self.key(self.len as u32 - 1))
+    }
+
+    // How the key at a place compares with a key.
+    #[inline(always)]
+    fn compare(&self, place: u32, key: &Key) -> Ordering
+        requires { place < length self.now }
+        ensures { (there : Bytes) → key_at self.now place ≡ Some there → result ≡ key_cmp there key.now }
+    {
+        let bytes = self.bytes;
+        if bytes.len() == SEGMENT_SIZE {
+            let (slots, _) = bytes.as_chunks::<SLOT_SIZE>();
+            compare_key(&slots[place as usize], key)
+        } else {
+            let (slots, _) = bytes.as_chunks::<WIDE_SIZE>();
+            compare_wide_key(&slots[place as usize], key)
+        }
+    }
+}
