@@ -55,6 +55,7 @@ fn batch(alloc: Global, a: u32, b: u32, c: u32) -> Result<Frames, Fail>
 }
 
 // An empty store, on a station whose calls fail from `stop` on.
+#[tactic(auto, unfolding(header_gate::specs::Places::area_size))]
 fn store(alloc: Global, stop: Option<u32>) -> Result<MemStation, Fail>
     ensures reach { IfOk result (λ s. file_length LAYOUT ≤ (mem_view s).fixed.reach) }
     ensures at { IfOk result (λ s. EachHeld (IsAt PLACE) (mem_view s)) }
@@ -88,6 +89,7 @@ fn stopped(
 
 // Replays the journal of a file whose live region is region 0 and whose gate is odd, and gives the file; any other file
 // answers Failed. The station's calls fail from `stop` on.
+#[tactic(auto, unfolding(header_gate::specs::Places::area_size))]
 fn replayed(
     alloc: Global,
     bytes: &[u8],
