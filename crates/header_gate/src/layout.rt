@@ -6,7 +6,7 @@ ghost use Rattle.std.specs.Prelude.{◌≡◌, ◌^◌, ◌<◌, ◌≤◌};
 pub const GREATEST_HEIGHT: u32 = 16;
 
 /// The greatest slot format, which is how many pages a segment of it has.
-pub const GREATEST_FORMAT: u32 = 1;
+pub const GREATEST_FORMAT: u32 = 2;
 
 /// The greatest version of a file that is read.
 pub const LATEST_VERSION: u32 = 1;
@@ -18,7 +18,7 @@ pub const INTENT_VERSION: u32 = 2;
 pub const INDEXED: u32 = 3;
 
 /// The fewest pages that a journal may hold.
-pub(crate) const LEAST_JOURNAL: u32 = 4;
+pub const LEAST_JOURNAL: u32 = 4;
 
 /// The place of the selector, a byte whose low bit names the live copy and the live region.
 pub(crate) const SELECTOR: u64 = 0;

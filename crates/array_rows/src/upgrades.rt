@@ -1,0 +1,140 @@
+//! Stores go over to slot format 2, and are stopped at every call.
+
+use crate::files::{Counts, file_of, noting, see_records, see_stops};
+use header_gate::Layout;
+use recovery::{Parts, open_store};
+use resize_region::{Upgrade, upgrade};
+use station::CrashStation;
+use std::alloc::Global;
+use std::test::Fail;
+
+// Opens a store and upgrades it, and answers what came of it, with the region and the format that its place names then
+// and the number of calls that it made.
+fn upgrade_once(
+    alloc: Global,
+    station: &mut CrashStation,
+) -> Result<(Upgrade, u32, u32, usize), Fail> {
+    let Ok(
+        Parts {
+            mut place,
+            tally,
+            mut frames,
+            ..
+        },
+    ) = open_store(alloc, station)
+    else {
+        return Err("no store".into());
+    };
+    let before = station.noted();
+    let answer = upgrade(station, &mut place, &mut frames, &tally)?;
+    let calls = station.noted().saturating_sub(before);
+    Ok((answer, place.region, place.layout.format, calls))
+}
+
+/// Height limit, journal, the heights and the counts before and after, and the number of records.
+const UPGRADES: [(u32, u32, u32, Counts, u32, Counts, u32); 5] = [
+    (
+        2,
+        4,
+        1,
+        [33, 32, 0, 0, 0, 0, 0, 0],
+        1,
+        [32, 33, 0, 0, 0, 0, 0, 0],
+        65,
+    ),
+    (
+        2,
+        4,
+        2,
+        [1, 40, 0, 24, 0, 0, 0, 0],
+        1,
+        [32, 33, 0, 0, 0, 0, 0, 0],
+        65,
+    ),
+    (
+        1,
+        4,
+        1,
+        [64, 0, 0, 0, 0, 0, 0, 0],
+        0,
+        [64, 0, 0, 0, 0, 0, 0, 0],
+        64,
+    ),
+    (
+        3,
+        4,
+        3,
+        [20, 20, 20, 20, 20, 20, 20, 3],
+        2,
+        [35, 36, 36, 36, 0, 0, 0, 0],
+        143,
+    ),
+    (
+        3,
+        8,
+        0,
+        [0, 0, 0, 0, 0, 0, 0, 0],
+        0,
+        [0, 0, 0, 0, 0, 0, 0, 0],
+        0,
+    ),
+];
+
+/// Wherever it stops, the file has all records, at one of the formats.
+#[test]
+fn an_upgrade_is_stopped_at_every_call(rt: HostRuntime) -> Result<(), Fail> {
+    for (hmax, journal, from, before, to, after, records) in UPGRADES {
+        let layout = Layout {
+            hmax,
+            journal,
+            version: 1,
+            format: 1,
+        };
+        assert!(rt; from <= 3);
+        let file = file_of(&rt, rt.alloc(), layout, from, before)?;
+        let mut station = noting(&rt, rt.alloc(), &file)?;
+        let done = upgrade_once(rt.alloc(), &mut station)?;
+        assert_eq!(rt; (done.0, done.1, done.2), (Upgrade::Done, 1, 2));
+        let found = see_records(&rt, station.inner().held(), layout, 1, records)?;
+        assert_eq!(rt; found, (to, after));
+        see_stops(&rt, rt.alloc(), &station, layout, records)?;
+        let again = upgrade_once(rt.alloc(), &mut station)?;
+        assert_eq!(rt; again, (Upgrade::Already, 1, 2, 0));
+    }
+    Ok(())
+}
+
+/// Height limit, height, the counts, and why there is no upgrade.
+const REFUSALS: [(u32, u32, Counts, Upgrade); 3] = [
+    (0, 0, [64, 0, 0, 0, 0, 0, 0, 0], Upgrade::OneSegment),
+    (
+        1,
+        1,
+        [62, 64, 0, 0, 0, 0, 0, 0],
+        Upgrade::TooMany { records: 126 },
+    ),
+    (
+        1,
+        1,
+        [1, 64, 0, 0, 0, 0, 0, 0],
+        Upgrade::TooMany { records: 65 },
+    ),
+];
+
+/// A store that can't go over is left as it is, without a call.
+#[test]
+fn an_upgrade_is_refused(rt: HostRuntime) -> Result<(), Fail> {
+    for (hmax, height, counts, want) in REFUSALS {
+        let layout = Layout {
+            hmax,
+            journal: 4,
+            version: 1,
+            format: 1,
+        };
+        let file = file_of(&rt, rt.alloc(), layout, height, counts)?;
+        let mut station = noting(&rt, rt.alloc(), &file)?;
+        let answer = upgrade_once(rt.alloc(), &mut station)?;
+        assert_eq!(rt; answer, (want, 0, 1, 0));
+    }
+    Ok(())
+}

@@ -1,0 +1,383 @@
+-- What comes of an upgrade, from the map that its file represents at the entry.
+use Rattle.std.proofs.Common.{◌≡◌, ◌⊎◌, ◌↔◌, inl, inr, ℕ, ◌+◌, ◌≤◌, List, ◌++◌, false, take, Some, None, Result, Ok, Err, refl, sym, ◌∙◌, ap, subst, arith, sum}
+use Rattle.std.specs.Prelude.{OnOk, IfOk, IfErr, IsErrOf}
+use Rattle.std.specs.FinMap.{len}
+use Rattle.station.specs.View.{View, Told, SaidTold, Honest, NothingPending, EachHeld, Rose, Lawful, attached_by}
+use Rattle.station.specs.Steps.{Steps, Says, Run}
+use Rattle.station.specs.declared.travel.Travel.{Travel}
+use Rattle.station.proofs.Sayings.{run_of_steps, run_of_says, run_on}
+use Rattle.density_rule.specs.Spread.{resized_counts}
+use Rattle.header_gate.specs.Header.{layout_in}
+use Rattle.header_gate.specs.Recovered.{recovered}
+use Rattle.header_gate.specs.declared.reason.Reason.{Reason}
+use Rattle.header_gate.specs.declared.reason.Reason.TheVariants.{Format}
+use Rattle.key_slot.specs.Format.{narrow, wide}
+use Rattle.map_model.specs.Array.{resized}
+use Rattle.map_model.specs.ArrayState.{ArrayState}
+use Rattle.map_model.specs.Image.{Represents, array_of, height_of, map_of}
+use Rattle.map_model.specs.Standing.{StandsWith}
+use Rattle.map_model.specs.Store.{Map}
+use Rattle.map_model.proofs.Reasonings.{none_of_represents}
+use Rattle.map_model.proofs.Recovering.{determined}
+use Rattle.range_scan.proofs.Checks.{counted_all}
+use Rattle.redo_journal.specs.declared.place.Place.{Place}
+use Rattle.recovery.specs.Costs.{opening_cost}
+use Rattle.recovery.specs.Restores.{Opens}
+use Rattle.recovery.specs.declared.fault.OpenFault.{OpenFault}
+use Rattle.recovery.specs.declared.fault.OpenFault.TheVariants as opening
+use Rattle.resize_region.specs.Upgraded.{Upgrades, TooManyFor, widened, upgraded, upgraded_height}
+use Rattle.resize_region.specs.declared.outcome.Upgrade.{Upgrade}
+use Rattle.resize_region.specs.declared.outcome.Upgrade.TheVariants.{Done, Already, OneSegment, TooMany}
+use Rattle.segment.specs.declared.fault.StoreFault.{StoreFault}
+use Rattle.segment.specs.declared.fault.StoreFault.TheVariants.{Failed, Damaged}
+use Rattle.command_text.specs.Reply.{reply_text}
+use Rattle.command_text.specs.declared.reply.Reply.{Reply}
+use Rattle.command_text.specs.declared.reply.Reply.TheVariants as reply
+use Rattle.pma_store.specs.Store.{StoreView, IsOpenOn}
+use Rattle.pma_engine.specs.Opening.{IsOpened, IsUnopened}
+use Rattle.pma_engine.specs.Refusing.{IsRefusal, SaysLine, line_text, line_of_opening, status_of_opening}
+use Rattle.pma_engine.specs.Upgrading.{IsUpgradeStatus, AnswersUpgrade, IsUpgradeAnswer, IsUpgradeRefused, IsUpgraded, KeepsMap, UpgradesFile, UpgradesOpened, line_of_upgrade, status_of_upgrade, upgrade_cost}
+use Rattle.pma_engine.specs.declared.status.TheConstants.{DONE, REFUSED, DISK_FAULT, OUT_OF_MEMORY}
+use Rattle.pma_engine.proofs.OutcomeLaws.{live_opened, layout_opened}
+
+-- what opens a file keeps its map
+keeps_opened : {old new : List ℕ} → Opens old new → KeepsMap old new
+keeps_opened opens m has = (has.0, opens.map m has.0 has.1)
+
+keeps_on : {old middle new : List ℕ} → KeepsMap old middle → KeepsMap middle new → KeepsMap old new
+keeps_on first second m has = second m (first m has)
+
+-- so does what upgrades it
+keeps_upgraded : {place : Place} {height : ℕ} {old new : List ℕ} → Upgrades place height old new → KeepsMap old new
+keeps_upgraded {place} {height} upgrades m has = elim (upgrades.map_is m has.0 has.1) [ inl same ↦ (has.0, same) | inr next ↦ (height, next) ]
+
+-- a line said behind disk calls was said since before them
+said_since : (a b d : View) (line : Reply) → b.said ≡ a.said → a.say_faults ≡ b.say_faults → SaysLine line b.said b d → SaysLine line a.said a d
+said_since a b d line same calls says = record {
+  count = says.count;
+  within = says.within;
+  said = says.said ∙ ap (λ (l : List ℕ). l ++ take says.count (reply_text line)) same;
+  whole = λ calm. says.whole (λ rose. calm (omega (arith, rose, calls)));
+}
+
+-- disk calls that keep the map, from a view on where nothing is pending, and a saying behind them
+run_said : {a b d : View} {R : List ℕ → List ℕ → Type 0} {text : List ℕ} → NothingPending a → Steps R a b → ((old new : List ℕ) → R old new → KeepsMap old new) → Says text b d → Run (λ image said. KeepsMap a.held image) a d
+run_said {a} {b} {d} {R} nothing ab keeps says =
+    let P : List ℕ → List ℕ → Type 0 = λ image said. KeepsMap a.held image in
+    let from : Honest a → (start image : List ℕ) → a.may_leave start → R start image → KeepsMap a.held image = λ honest start image left step. subst (λ (x : List ℕ). KeepsMap x image) (nothing honest start left) (keeps start image step) in
+    run_on P (run_of_steps P ab from)
+    (run_of_says P says (λ honest image n left within.
+    let start = ab.images (ap (λ f. f.honest) (sym ab.frame.fixed) ∙ honest) image left in
+    from (ap (λ f. f.honest) (sym ab.frame.fixed) ∙ honest) start.0 image start.1 start.2))
+    (λ honest image said pair. pair) (λ honest image said pair. pair)
+
+-- The upgrade of an open store.
+
+-- what `upgrade` says of a store, where it answered r
+pub record Facts (r : Result Upgrade StoreFault) (s : StoreView) (place : Place) (a b : View) : Type 0 where
+  pub already : (r ≡ Ok Already) ↔ (s.place.layout.format ≡ wide)
+  pub one_segment : (r ≡ Ok OneSegment) ↔ ((s.place.layout.format ≡ narrow) × (s.place.layout.hmax ≡ 0))
+  pub too_many : (n : ℕ) → (r ≡ Ok (TooMany n)) ↔ TooManyFor s.place.layout (sum s.tally.counts) n
+  pub untouched : IfOk r (λ answer. (answer ≡ Done → ⊥) → (b.held ≡ a.held) × (b.travel ≡ a.travel))
+  pub steps : Steps (Upgrades s.place (upgraded_height s.place.layout s.tally.height)) a b
+  pub settled : OnOk r (NothingPending b)
+  pub array : r ≡ Ok Done → Told a → array_of b.held ≡ resized (array_of a.held) (upgraded_height s.place.layout s.tally.height)
+  pub stands : r ≡ Ok Done → EachHeld (StandsWith place.layout place.region (upgraded_height s.place.layout s.tally.height) (resized_counts s.tally.counts (upgraded_height s.place.layout s.tally.height))) b
+  pub place_is : r ≡ Ok Done → place ≡ upgraded s.place
+  pub cost : b.travel.written ≤ a.travel.written + upgrade_cost s.place.layout s.tally.height
+  pub damaged : IfErr r (λ fault. Told a → fault ≡ Failed)
+  pub failed : IsErrOf r Failed → Rose a.disk_faults b.disk_faults
+
+-- an answer for which nothing was asked of the station changes nothing
+pub seen : {A : Type 0} (view_of : A → View) (x y : A) (r : Result Upgrade StoreFault) → IfOk r (λ answer. (answer ≡ Done → ⊥) → x ≡ y) → IfOk r (λ answer. (answer ≡ Done → ⊥) → ((view_of x).held ≡ (view_of y).held) × ((view_of x).travel ≡ (view_of y).travel))
+seen view_of x y (Ok answer) same = λ other. (ap (λ z. (view_of z).held) (same other), ap (λ z. (view_of z).travel) (same other))
+seen view_of x y (Err fault) same = tt
+
+module _ (a : View) (s : StoreView) (opened : IsOpenOn s a) where
+  stands_told : Told a → StandsWith s.place.layout s.place.region s.tally.height s.tally.counts a.held
+  stands_told told = (opened.on.stands a.held (inl (told, refl))).balanced.stands
+
+  -- the answer that is due is the same by the file and by the store
+  answer_is : Told a → (line : Reply) → IsUpgradeAnswer a.held line ≡ AnswersUpgrade s.place.layout s.place.region (sum s.tally.counts) line
+  answer_is told line =
+      let stands = stands_told told in
+      let records : len (map_of a.held) ≡ sum s.tally.counts = counted_all s.place.layout s.place.region s.tally.height s.tally.counts a.held stands in
+      (λ i. AnswersUpgrade (stands.settled.layout_is i) (stands.settled.region_is i) (records i) line)
+
+  due_of : Told a → (line : Reply) → AnswersUpgrade s.place.layout s.place.region (sum s.tally.counts) line → IsUpgradeAnswer a.held line
+  due_of told line answers = subst (λ (x : Type 0). x) (sym (answer_is told line)) answers
+
+  module _ (place : Place) (b d : View) where
+    -- a refusal
+    refused_by : (r : Result Upgrade StoreFault) → Facts r s place a b → (line : Reply) → IsRefusal line → status_of_upgrade r ≡ REFUSED → {text : List ℕ} → Says text b d → (SaidTold b → SaysLine line b.said b d)
+        → (Told a → (b.held ≡ a.held) × (b.travel ≡ a.travel)) → (Told a → AnswersUpgrade s.place.layout s.place.region (sum s.tally.counts) line) → UpgradesOpened REFUSED s.place.layout s.tally.height a d
+    refused_by r facts line refuses is says whole same due = record {
+      status_is = inr (inl refl);
+      run = run_said opened.on.settled facts.steps (λ old new step. keeps_upgraded step) says;
+      held = λ told. subst (KeepsMap a.held) (sym says.held) (keeps_upgraded (facts.steps.held told));
+      due = λ e. absurd (omega (arith, e));
+      represents = λ e. absurd (omega (arith, e));
+      layout = λ e. absurd (omega (arith, e));
+      array = λ e. absurd (omega (arith, e));
+      settled = λ e. absurd (omega (arith, e));
+      silent = λ never. absurd (never refl);
+      line = λ e told. (line, refuses, from told);
+      why = λ e told. (line, due_of told line (due told), from);
+      kept = λ e told. (says.held ∙ (same told).0, ap (λ (t : Travel). t.written) (says.travel ∙ (same told).1));
+      written = omega (arith, facts.cost, ap (λ (t : Travel). t.written) says.travel);
+      disk = λ e. absurd (omega (arith, e));
+    }
+      where
+        from : SaidTold a → SaysLine line a.said a d
+        from told = said_since a b d line facts.steps.frame.said (sym facts.steps.frame.say_faults) (whole (ap (λ f. f.tells_said) facts.steps.frame.fixed ∙ told))
+
+    -- a fault of the disk
+    failed_by : Facts (Err Failed) s place a b → UpgradesOpened DISK_FAULT s.place.layout s.tally.height a b
+    failed_by facts = record {
+      status_is = inr (inr refl);
+      run = run_of_steps (λ image said. KeepsMap a.held image) facts.steps (λ honest start image left step. subst (λ (x : List ℕ). KeepsMap x image) (opened.on.settled honest start left) (keeps_upgraded step));
+      held = λ told. keeps_upgraded (facts.steps.held told);
+      due = λ e. absurd (omega (arith, e));
+      represents = λ e. absurd (omega (arith, e));
+      layout = λ e. absurd (omega (arith, e));
+      array = λ e. absurd (omega (arith, e));
+      settled = λ e. absurd (omega (arith, e));
+      silent = λ other. facts.steps.frame.said;
+      line = λ e. absurd (omega (arith, e));
+      why = λ e. absurd (omega (arith, e));
+      kept = λ e. absurd (omega (arith, e));
+      written = facts.cost;
+      disk = λ e. facts.failed refl;
+    }
+
+    -- an upgraded store
+    done_by : Facts (Ok Done) s place a b → UpgradesOpened DONE s.place.layout s.tally.height a b
+    done_by facts = record {
+      status_is = inl refl;
+      run = run_of_steps (λ image said. KeepsMap a.held image) facts.steps (λ honest start image left step. subst (λ (x : List ℕ). KeepsMap x image) (opened.on.settled honest start left) (keeps_upgraded step));
+      held = λ told. keeps_upgraded (facts.steps.held told);
+      due = λ e told line answers. not_due line (subst (λ (x : Type 0). x) (answer_is told line) answers);
+      represents = λ e told m here.
+          let new = stands_new told in
+          let is : m ≡ map_of b.held = elim ((facts.steps.held told).map_is m s.tally.height here) [ inl same ↦ (determined b.held m s.tally.height same).0 | inr other ↦ (determined b.held m next other).0 ] in
+          subst (λ (n : Map). Represents b.held n next) (sym is) (subst (Represents b.held (map_of b.held)) new.height_is new.settled.represents);
+      layout = λ e told. (stands_new told).settled.layout_is ∙ ap (λ (p : Place). p.layout) (facts.place_is refl) ∙ sym (ap widened (stands_told told).settled.layout_is);
+      array = λ e told. facts.array refl told;
+      settled = λ e. facts.settled;
+      silent = λ other. facts.steps.frame.said;
+      line = λ e. absurd (omega (arith, e));
+      why = λ e. absurd (omega (arith, e));
+      kept = λ e. absurd (omega (arith, e));
+      written = facts.cost;
+      disk = λ e. absurd (omega (arith, e));
+    }
+      where
+        next : ℕ
+        next = upgraded_height s.place.layout s.tally.height
+
+        stands_new : Told a → StandsWith place.layout place.region next (resized_counts s.tally.counts next) b.held
+        stands_new told = facts.stands refl b.held (inl (ap (λ f. f.tells_held) facts.steps.frame.fixed ∙ told, refl))
+
+        not_due : (line : Reply) → AnswersUpgrade s.place.layout s.place.region (sum s.tally.counts) line → ⊥
+        not_due line (inl already) = let e : Ok Done ≡ Ok Already = facts.already.1 already.0 in cc
+        not_due line (inr (inl one)) = let e : Ok Done ≡ Ok OneSegment = facts.one_segment.1 (one.0, one.1) in cc
+        not_due line (inr (inr many)) =
+            let e : Ok Done ≡ Ok (TooMany (sum s.tally.counts)) = (facts.too_many (sum s.tally.counts)).1 (record { narrow_is = many.0; some = many.1; above = many.2; number = refl }) in
+            cc
+
+    upgraded_of : (r : Result Upgrade StoreFault) → Facts r s place a b → Says (line_text (line_of_upgrade s.place.region r)) b d → (line_of_upgrade s.place.region r ≡ None → d ≡ b)
+        → ((line : Reply) → line_of_upgrade s.place.region r ≡ Some line → SaidTold b → SaysLine line b.said b d) → UpgradesOpened (status_of_upgrade r) s.place.layout s.tally.height a d
+    upgraded_of (Ok Done) facts says silent line = subst (UpgradesOpened DONE s.place.layout s.tally.height a) (sym (silent refl)) (done_by facts)
+    upgraded_of (Ok Already) facts says silent line =
+        refused_by (Ok Already) facts (reply.NotStore (Format s.place.region wide)) tt refl says (line (reply.NotStore (Format s.place.region wide)) refl)
+        (λ told. facts.untouched (λ e. cc)) (λ told. inl (facts.already.0 refl, refl))
+    upgraded_of (Ok OneSegment) facts says silent line =
+        let is = facts.one_segment.0 refl in
+        refused_by (Ok OneSegment) facts reply.OneSegment tt refl says (line reply.OneSegment refl)
+        (λ told. facts.untouched (λ e. cc)) (λ told. inr (inl (is.0, is.1, refl)))
+    upgraded_of (Ok (TooMany records)) facts says silent line =
+        let is = (facts.too_many records).0 refl in
+        refused_by (Ok (TooMany records)) facts (reply.TooMany records) tt refl says (line (reply.TooMany records) refl)
+        (λ told. facts.untouched (λ e. cc)) (λ told. inr (inr (is.narrow_is, is.some, is.above, ap reply.TooMany is.number)))
+    upgraded_of (Err Failed) facts says silent line = subst (UpgradesOpened DISK_FAULT s.place.layout s.tally.height a) (sym (silent refl)) (failed_by facts)
+    upgraded_of (Err (Damaged segment why)) facts says silent line =
+        refused_by (Err (Damaged segment why)) facts (reply.Damaged segment why) tt refl says (line (reply.Damaged segment why) refl)
+        (λ told. absurd (never told)) (λ told. absurd (never told))
+      where
+        never : Told a → ⊥
+        never told = let e : Damaged segment why ≡ Failed = facts.damaged told in cc
+
+    -- what was ended by its own copy
+    pub upgraded_from : (copy : ℕ) → copy ≡ s.place.region → (r : Result Upgrade StoreFault) → Facts r s place a b → Says (line_text (line_of_upgrade copy r)) b d → (line_of_upgrade copy r ≡ None → d ≡ b)
+        → ((line : Reply) → line_of_upgrade copy r ≡ Some line → SaidTold b → SaysLine line b.said b d) → UpgradesOpened (status_of_upgrade r) s.place.layout s.tally.height a d
+    upgraded_from copy is r facts =
+        subst (λ (n : ℕ). Says (line_text (line_of_upgrade n r)) b d → (line_of_upgrade n r ≡ None → d ≡ b) → ((line : Reply) → line_of_upgrade n r ≡ Some line → SaidTold b → SaysLine line b.said b d) → UpgradesOpened (status_of_upgrade r) s.place.layout s.tally.height a d)
+        (sym is) (upgraded_of r facts)
+
+-- What the whole job comes to.
+
+pub record Comes (status : ℕ) (a b : View) : Type 0 where
+  pub status_is : IsUpgradeStatus status
+  pub attached : b.attached ≡ Some false
+  pub upgraded : UpgradesFile status a b
+  pub disk : status ≡ DISK_FAULT → Rose a.disk_faults b.disk_faults
+
+module _ (a b : View) (law : Lawful a) (ab : Steps Opens (attached_by false a) b) where
+  -- of a file that was not opened: nothing was done but what an opening does
+  unopened_run : {d : View} {text : List ℕ} → NothingPending a → Says text b d → Run (λ image said. KeepsMap a.held image) (attached_by false a) d
+  unopened_run nothing says = run_said nothing ab (λ old new step. keeps_opened step) says
+
+  module _ (d : View) where
+    -- it isn't refused
+    quiet : (fault : OpenFault) → IsUnopened fault a b → (status : ℕ) → (status ≡ DISK_FAULT) ⊎ (status ≡ OUT_OF_MEMORY) → (status ≡ DISK_FAULT → fault ≡ opening.Failed) → (status ≡ OUT_OF_MEMORY → fault ≡ opening.Memory) → Comes status a b
+    quiet fault unopened status is failed memory = record {
+      status_is = inr (inr is);
+      attached = ab.frame.attached;
+      upgraded = record {
+        steps = λ nothing. run_of_steps (λ image said. KeepsMap a.held image) ab (λ honest start image left step. subst (λ (x : List ℕ). KeepsMap x image) (nothing honest start left) (keeps_opened step));
+        held = λ told. keeps_opened (ab.held told);
+        done = λ e. absurd (other DONE ((λ x. omega (arith, x)), (λ x. omega (arith, x))) e);
+        settled = λ e. absurd (other DONE ((λ x. omega (arith, x)), (λ x. omega (arith, x))) e);
+        silent = λ e. ab.frame.said;
+        refused = λ e. absurd (other REFUSED ((λ x. omega (arith, x)), (λ x. omega (arith, x))) e);
+        memory = λ e. unopened.memory (memory e);
+        complete = λ told m height here calm. elim is [ inl e ↦ absurd (calm (unopened.failed (failed e))) | inr e ↦ inr (inl e) ];
+        written = λ told. omega (arith, unopened.cost told);
+      };
+      disk = λ e. unopened.failed (failed e);
+    }
+      where
+        other : (n : ℕ) → (n ≡ 4 → ⊥) × (n ≡ 7 → ⊥) → status ≡ n → ⊥
+        other n none e = elim is [ inl x ↦ none.0 (sym e ∙ x) | inr x ↦ none.1 (sym e ∙ x) ]
+
+    -- it is refused, and represents no map
+    refused_file : (line : Reply) → IsRefusal line → IsUpgradeRefused a d → {text : List ℕ} → Says text b d → (Told a → b.travel.written ≤ a.travel.written + opening_cost (layout_in a.held)) → (Told a → (m : Map) (height : ℕ) → Represents a.held m height → ⊥) → Comes REFUSED a d
+    refused_file line refuses refused says cost never = record {
+      status_is = inr (inl refl);
+      attached = says.attached ∙ ab.frame.attached;
+      upgraded = record {
+        steps = λ nothing. unopened_run nothing says;
+        held = λ told. subst (KeepsMap a.held) (sym says.held) (keeps_opened (ab.held told));
+        done = λ e. absurd (omega (arith, e));
+        settled = λ e. absurd (omega (arith, e));
+        silent = λ other. absurd (other refl);
+        refused = λ e. refused;
+        memory = λ e. absurd (omega (arith, e));
+        complete = λ told m height here. absurd (never told m height here);
+        written = λ told. omega (arith, cost told, ap (λ (t : Travel). t.written) says.travel);
+      };
+      disk = λ e. absurd (omega (arith, e));
+    }
+
+    pub comes_unopened : (fault : OpenFault) → IsUnopened fault a b → (line_of_opening fault ≡ None → d ≡ b) → Says (line_text (line_of_opening fault)) b d → ((line : Reply) → line_of_opening fault ≡ Some line → SaidTold b → SaysLine line b.said b d)
+        → Comes (status_of_opening fault) a d
+    comes_unopened opening.Memory unopened silent says line = subst (Comes OUT_OF_MEMORY a) (sym (silent refl)) (quiet opening.Memory unopened OUT_OF_MEMORY (inr refl) (λ e. absurd (omega (arith, e))) (λ e. refl))
+    comes_unopened opening.Failed unopened silent says line = subst (Comes DISK_FAULT a) (sym (silent refl)) (quiet opening.Failed unopened DISK_FAULT (inl refl) (λ e. refl) (λ e. absurd (omega (arith, e))))
+    comes_unopened (opening.NotStore reason) unopened silent says line =
+        refused_file (reply.NotStore reason) tt (record {
+          line = λ told. (reply.NotStore reason, tt, from told);
+          why = λ told. (reply.NotStore reason, inl (reason, unopened.refused reason refl told, refl), from);
+          recovers = λ told r is. ap (recovered (layout_in a.held)) says.held ∙ unopened.recovers reason refl told;
+          kept = λ told rest. (says.held ∙ unopened.even reason refl told rest.gate_even, ap (λ (t : Travel). t.written) says.travel ∙ unopened.unwritten told rest);
+        }) says unopened.cost (λ told m height here. none_some (sym (none_of_represents a.held m height here) ∙ unopened.refused reason refl told))
+      where
+        none_some : {r : Reason} → None ≡ Some r → ⊥
+        none_some is = cc
+
+        from : SaidTold a → SaysLine (reply.NotStore reason) a.said a d
+        from told = said_since a b d (reply.NotStore reason) ab.frame.said (sym ab.frame.say_faults) (line (reply.NotStore reason) refl (ap (λ f. f.tells_said) ab.frame.fixed ∙ told))
+    comes_unopened (opening.Damaged segment why) unopened silent says line =
+        refused_file (reply.Damaged segment why) tt (record {
+          line = λ told. (reply.Damaged segment why, tt, from told);
+          why = λ told. absurd (unopened.undamaged told);
+          recovers = λ told. absurd (unopened.undamaged told);
+          kept = λ told. absurd (unopened.undamaged told);
+        }) says unopened.cost (λ told. absurd (unopened.undamaged told))
+      where
+        from : SaidTold a → SaysLine (reply.Damaged segment why) a.said a d
+        from told = said_since a b d (reply.Damaged segment why) ab.frame.said (sym ab.frame.say_faults) (line (reply.Damaged segment why) refl (ap (λ f. f.tells_said) ab.frame.fixed ∙ told))
+
+  -- of a file that was opened
+  module _ (v : StoreView) (opened : IsOpened v a b) where
+    on : Told a → Told b
+    on told = ap (λ f. f.tells_held) ab.frame.fixed ∙ told
+
+    stands_opened : Told a → StandsWith v.place.layout v.place.region v.tally.height v.tally.counts b.held
+    stands_opened told = (opened.store.on.stands b.held (inl (on told, refl))).balanced.stands
+
+    same_layout : Told a → v.place.layout ≡ layout_in a.held
+    same_layout told = sym (stands_opened told).settled.layout_is ∙ layout_opened a.held b.held (ab.held told)
+
+    same_map : Told a → map_of b.held ≡ map_of a.held
+    same_map told = ap (λ (s : ArrayState). s.map) (opened.state told)
+
+    -- the height at which the store was opened
+    same_height : Told a → v.tally.height ≡ height_of a.held
+    same_height told = sym (stands_opened told).height_is ∙ ap (λ (s : ArrayState). s.height) (opened.state told)
+
+    same_answer : Told a → (line : Reply) → IsUpgradeAnswer b.held line ≡ IsUpgradeAnswer a.held line
+    same_answer told line = (λ i. AnswersUpgrade (layout_opened a.held b.held (ab.held told) i) (live_opened a.held b.held (ab.held told) i) (len (same_map told i)) line)
+
+    same_next : Told a → upgraded_height v.place.layout v.tally.height ≡ upgraded_height (layout_in a.held) (height_of a.held)
+    same_next told = (λ i. upgraded_height (same_layout told i) (same_height told i))
+
+    answer_before : Told a → (line : Reply) → IsUpgradeAnswer b.held line → IsUpgradeAnswer a.held line
+    answer_before told line = subst (λ (x : Type 0). x) (same_answer told line)
+
+    module _ (status : ℕ) (d : View) (upgrades : UpgradesOpened status v.place.layout v.tally.height b d) where
+      was_upgraded : status ≡ DONE → Told a → IsUpgraded a.held d.held
+      was_upgraded e told = record {
+        sound = opened.sound told;
+        due = λ line answers. upgrades.due e (on told) line (subst (λ (x : Type 0). x) (sym (same_answer told line)) answers);
+        represents = λ m height here.
+            let is : height ≡ height_of a.held = (determined a.held m height here).1 in
+            let opened_too : Represents b.held m v.tally.height = subst (Represents b.held m) (is ∙ sym (same_height told)) ((ab.held told).map m height here) in
+            subst (λ (h : ℕ). Represents d.held m h) (same_next told ∙ ap (upgraded_height (layout_in a.held)) (sym is)) (upgrades.represents e (on told) m opened_too);
+        layout = upgrades.layout e (on told) ∙ ap widened (layout_opened a.held b.held (ab.held told));
+        array = upgrades.array e (on told) ∙ (λ i. resized (opened.state told i).array (same_next told i));
+      }
+
+      was_refused : status ≡ REFUSED → IsUpgradeRefused a d
+      was_refused e = record {
+        line = λ told. let last = upgrades.line e (ap (λ f. f.tells_said) ab.frame.fixed ∙ told) in (last.0, last.1, said_since a b d last.0 ab.frame.said (sym ab.frame.say_faults) last.2);
+        why = λ told.
+            let last = upgrades.why e (on told) in
+            (last.0, inr (opened.sound told, answer_before told last.0 last.1), (λ said. said_since a b d last.0 ab.frame.said (sym ab.frame.say_faults) (last.2 (ap (λ f. f.tells_said) ab.frame.fixed ∙ said))));
+        recovers = λ told r is. absurd (none_some (sym (opened.sound told) ∙ is));
+        kept = λ told rest. let kept = upgrades.kept e (on told) in (kept.0 ∙ opened.kept told rest, kept.1 ∙ opened.unwritten told rest);
+      }
+        where
+          none_some : {r : Reason} → None ≡ Some r → ⊥
+          none_some is = cc
+
+      pub comes_opened : Comes status a d
+      comes_opened = record {
+        status_is = elim upgrades.status_is [ inl e ↦ inl e | inr (inl e) ↦ inr (inl e) | inr (inr e) ↦ inr (inr (inl e)) ];
+        attached = upgrades.run.attached ∙ ab.frame.attached;
+        upgraded = record {
+          steps = λ nothing.
+              let P : List ℕ → List ℕ → Type 0 = λ image said. KeepsMap a.held image in
+              run_on P (run_of_steps P ab (λ honest start image left step. subst (λ (x : List ℕ). KeepsMap x image) (nothing honest start left) (keeps_opened step))) upgrades.run
+              (λ honest image said keeps. keeps)
+              (λ honest image said keeps. keeps_on (keeps_opened (ab.held (law.tells honest).0)) keeps);
+          held = λ told. keeps_on (keeps_opened (ab.held told)) (upgrades.held (on told));
+          done = was_upgraded;
+          settled = upgrades.settled;
+          silent = λ other. upgrades.silent other ∙ ab.frame.said;
+          refused = was_refused;
+          memory = λ e. absurd (elim upgrades.status_is [ inl x ↦ omega (arith, e, x) | inr (inl x) ↦ omega (arith, e, x) | inr (inr x) ↦ omega (arith, e, x) ]);
+          complete = λ told m height here calm. elim upgrades.status_is [
+            | inl e ↦ inl e
+            | inr (inl e) ↦ let last = upgrades.why e (on told) in inr (inr (e, (last.0, answer_before told last.0 last.1)))
+            | inr (inr e) ↦ absurd (calm (disk_from e))
+          ];
+          written = λ told. omega (arith, opened.cost told, upgrades.written, same_cost told);
+        };
+        disk = disk_from;
+      }
+        where
+          disk_from : status ≡ DISK_FAULT → Rose a.disk_faults d.disk_faults
+          disk_from e = omega (arith, upgrades.disk e, ab.frame.disk_faults)
+
+          same_cost : Told a → upgrade_cost v.place.layout v.tally.height ≡ upgrade_cost (layout_in a.held) (height_of a.held)
+          same_cost told = (λ i. upgrade_cost (same_layout told i) (same_height told i))

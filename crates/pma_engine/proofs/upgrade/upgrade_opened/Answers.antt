@@ -1,0 +1,34 @@
+-- What `upgrade` came to, by the parts of the store, and how it was ended.
+use Rattle.std.proofs.Common.{◌≡◌, ap, refl, subst, sym}
+use Rattle.pma_engine.specs.Upgrading.{UpgradesOpened}
+use Rattle.pma_engine.proofs.Upgrading.{seen, upgraded_from}
+use Rattle.pma_engine.proofs.upgrade.upgrade_opened.Goals as goal
+use Rattle.pma_store.specs.Store.{StoreView, IsOpenOn}
+
+pub returns : goal.returns
+returns g c =
+    let a = g.S.Station.view c.args.station.now in
+    let b = g.S.Station.view c.upgrade-upgraded.new.station in
+    let d = g.S.Station.view c.end_upgraded.new.station in
+    let parts = c.into_parts-parts.result in
+    let is = c.into_parts-parts.ensures in
+    let does = c.upgrade-upgraded.ensures in
+    let s : StoreView = record { place = parts.place; tally = parts.tally; index = parts.index; journal = parts.frames.journal; closed = c.args.store.closed } in
+    let same : s ≡ c.args.store = (λ t. record { place = is.place t; tally = is.tally t; index = is.index t; journal = is.journal t; closed = c.args.store.closed }) in
+    subst (λ (x : StoreView). UpgradesOpened c.end_upgraded.result x.place.layout x.tally.height a d) same
+    (subst (λ n. UpgradesOpened n s.place.layout s.tally.height a d) (sym c.end_upgraded.ensures.status)
+    (upgraded_from a s (subst (λ (x : StoreView). IsOpenOn x a) (sym same) c.requires.open) c.upgrade-upgraded.new.place b d s.place.region refl c.upgrade-upgraded.result (record {
+      already = does.already;
+      one_segment = does.one_segment;
+      too_many = does.too_many;
+      untouched = seen g.S.Station.view c.upgrade-upgraded.new.station c.args.station.now c.upgrade-upgraded.result does.untouched;
+      steps = does.steps;
+      settled = does.settled;
+      array = does.array;
+      stands = does.stands;
+      place_is = does.place;
+      cost = does.cost;
+      damaged = does.damaged;
+      failed = does.failed;
+    }) c.end_upgraded.ensures.says
+    (λ none. ap g.S.Station.view (c.end_upgraded.ensures.silent none)) c.end_upgraded.ensures.line))

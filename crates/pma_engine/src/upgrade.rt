@@ -1,0 +1,69 @@
+//! The job of bringing a store over to slot format 2.
+
+ghost use Rattle.std.specs.Prelude.{◌≡◌, None, Some, false};
+ghost use Rattle.station.specs.Steps.{Says};
+ghost use Rattle.station.specs.View.{SaidTold, NamedBy, Rose};
+ghost use Rattle.pma_store.specs.Store.{IsOpenOn};
+ghost use Rattle.pma_engine.specs.Refusing.{SaysLine, line_text};
+ghost use Rattle.pma_engine.specs.Upgrading.{UpgradesFile, UpgradesOpened, IsUpgradeStatus, line_of_upgrade, status_of_upgrade};
+
+use crate::attaching::{end_unopened, open_file};
+use crate::refusing::say_refusal;
+use crate::status::{DISK_FAULT, DONE, REFUSED};
+use command_text::Reply;
+use header_gate::Reason;
+use pma_store::Store;
+use resize_region::{Upgrade, upgrade};
+use segment::StoreFault;
+use station::Station;
+use std::alloc::Global;
+
+// The slot format that an upgrade makes.
+const WIDE: u32 = 2;
+
+/// Opens the store of that name, and spreads its records in slots of format 2 over the other region.
+///
+/// A store that isn't upgraded is told in one line, and so is a file that is refused. Else nothing is said.
+pub(crate) fn upgrade_file<S: Station>(alloc: Global, station: &mut S, name: &str) -> u8
+    requires first { (S.view station.old).attached ≡ None }
+    requires named { NamedBy name.now (S.view station.old).fixed.name }
+    ensures status { IsUpgradeStatus result }
+    ensures attached { (S.view station.new).attached ≡ Some false }
+    ensures upgraded { UpgradesFile result (S.view station.old) (S.view station.new) }
+    ensures disk { result ≡ DISK_FAULT → Rose (S.view station.old).disk_faults (S.view station.new).disk_faults }
+{
+    match open_file(alloc, station, name) {
+        Ok(store) => upgrade_opened(station, store),
+        Err(fault) => end_unopened(station, fault),
+    }
+}
+
+// Upgrades an open store, and says the line where it isn't upgraded.
+fn upgrade_opened<S: Station>(station: &mut S, store: Store) -> u8
+    requires open { IsOpenOn store (S.view station.old) }
+    ensures { UpgradesOpened result store.place.layout store.tally.height (S.view station.old) (S.view station.new) }
+{
+    let mut parts = store.into_parts();
+    let copy = parts.place.region;
+    let upgraded = upgrade(station, &mut parts.place, &mut parts.frames, &parts.tally);
+    end_upgraded(station, copy, upgraded)
+}
+
+// Ends the upgrade of a store with this live copy, and says the line where it isn't upgraded.
+fn end_upgraded<S: Station>(station: &mut S, copy: u32, upgraded: Result<Upgrade, StoreFault>) -> u8
+    ensures status { result ≡ status_of_upgrade upgraded }
+    ensures says { Says (line_text (line_of_upgrade copy upgraded)) (S.view station.old) (S.view station.new) }
+    ensures silent { line_of_upgrade copy upgraded ≡ None → station.new ≡ station.old }
+    ensures line { (line : Reply) → line_of_upgrade copy upgraded ≡ Some line → SaidTold (S.view station.old) → SaysLine line (S.view station.old).said (S.view station.old) (S.view station.new) }
+{
+    let line = match upgraded {
+        Ok(Upgrade::Done) => return DONE,
+        Ok(Upgrade::Already) => Reply::NotStore(Reason::Format { copy, found: WIDE }),
+        Ok(Upgrade::OneSegment) => Reply::OneSegment,
+        Ok(Upgrade::TooMany { records }) => Reply::TooMany(records),
+        Err(StoreFault::Failed) => return DISK_FAULT,
+        Err(StoreFault::Damaged { segment, why }) => Reply::Damaged { segment, why },
+    };
+    say_refusal(station, &line);
+    REFUSED
+}
