@@ -1,0 +1,10 @@
+pub mod Buffers
+pub mod ItemsRead
+pub mod Kept
+pub mod Judged
+pub mod Gates
+pub mod Meanings
+pub mod Accepted
+pub mod Sound
+pub mod OpeningReasons
+pub mod Vectors

@@ -1,0 +1,84 @@
+-- What a file means: the map that it represents, with the items of its intent made where its gate is odd.
+use Rattle.std.specs.Prelude.{◌≡◌, ℕ, ◌+◌, if◌then◌else◌, Bool, true, List, [], take, Option, Some, None}
+use Rattle.station.specs.Bytes.{byte, InRange}
+use Rattle.batch_intent.specs.declared.places.TheConstants.{INTENT, INTENT_SIZE}
+use Rattle.header_gate.specs.declared.layout.Layout.{Layout}
+use Rattle.header_gate.specs.declared.reason.Reason.{Reason}
+use Rattle.header_gate.specs.declared.reason.Reason.TheVariants.{Intent}
+use Rattle.header_gate.specs.Header.{intent_gate, layout_in}
+use Rattle.header_gate.specs.Places.{height_limit}
+use Rattle.header_gate.specs.Reasons.{or_else}
+use Rattle.map_model.specs.Store.{Map, Update}
+use Rattle.map_model.specs.Items.{map_after_items, first_full, AreAdmitted}
+use Rattle.map_model.specs.Image.{Represents, RepresentsMap, slot_format, map_of}
+use Rattle.map_model.specs.ArrayState.{ArrayState, opened_state, next_states}
+use Rattle.map_model.specs.Reasons.{reason_of}
+use Rattle.batch_intent.specs.Spelling.{Spells, items_in, place_from}
+use Rattle.batch_intent.specs.Gate.{IsIntentPlace, has_intent, intent_area, form_reason}
+
+-- whether the items of the intent are to be applied
+abbrev pub has_pending : List ℕ → Bool
+has_pending image = has_intent (layout_in image) image
+
+-- these items
+unfoldable pub pending : List ℕ → List Update
+pending image = if has_pending image then items_in (intent_area image) else []
+
+-- the image means this map at this height: it represents a map, the intent that is to be applied is one of the file's slot
+-- format, none of its items meets a full store, and this is the map after them
+pub record Means (image : List ℕ) (m : Map) (height : ℕ) : Type 0 where
+  pub base : Map
+  pub represents : Represents image base height
+  pub form : has_pending image ≡ true → Spells (slot_format image) (pending image) (intent_area image)
+  pub admitted : AreAdmitted (height_limit (layout_in image)) base (pending image)
+  pub map_is : map_after_items (height_limit (layout_in image)) base (pending image) ≡ m
+
+-- the image means this map, at the height that it names
+abbrev pub MeansMap : List ℕ → Map → Type 0
+MeansMap image m = (height : ℕ) × Means image m height
+
+-- the map that an image means, where it means one
+abbrev pub meant_map : List ℕ → Map
+meant_map image = map_after_items (height_limit (layout_in image)) (map_of image) (pending image)
+
+-- what opening makes of a file: its array is repaired, no window is rested, and then the items are made
+abbrev pub opened_items_state : List ℕ → ArrayState
+opened_items_state image = next_states (height_limit (layout_in image)) (opened_state image) (pending image)
+
+-- the reason of the first item that meets a full store, by its number
+abbrev pub full_reason : List ℕ → Option ℕ → Option Reason
+full_reason area None = None
+full_reason area (Some i) = Some (Intent (INTENT + place_from area i 1))
+
+-- an item that is to be applied, and meets a full store
+abbrev pub fullness_reason : List ℕ → Option Reason
+fullness_reason image = full_reason (intent_area image) (first_full (height_limit (layout_in image)) (map_of image) (pending image))
+
+-- the first thing that is wrong with a file that is to be opened: what says that it represents no map, then the form of its
+-- intent, and then an item that meets a full store
+unfoldable pub opening_reason : List ℕ → Option Reason
+opening_reason image = or_else (reason_of image) (or_else (form_reason (layout_in image) image) (fullness_reason image))
+
+-- two images have one intent: the same layout, with its slot format, an intent of the same bytes, and gates that are both odd
+-- or both even
+pub record KeepsIntent (old new : List ℕ) : Type 0 where
+  pub layout_is : layout_in new ≡ layout_in old
+  pub gate_is : intent_gate new ≡ intent_gate old
+  pub same : (k : ℕ) → InRange INTENT INTENT_SIZE k → byte new k ≡ byte old k
+
+-- a place at which nothing stands that says which items are to be applied, but for the slot format: none of identity, intent
+-- and its gate. All that an update of one key may touch is such.
+pub record IsApart (k : ℕ) : Type 0 where
+  pub identity : InRange 3072 20 k → ⊥
+  pub intent : IsIntentPlace k → ⊥
+
+-- k of the items were made: the image represents the map after them, and the intent of all of them is to be applied
+pub record InBatch (layout : Layout) (base : Map) (items : List Update) (k : ℕ) (image : List ℕ) : Type 0 where
+  pub some : has_pending image ≡ true
+  pub layout_is : layout_in image ≡ layout
+  pub spells : Spells (slot_format image) items (intent_area image)
+  pub represents : RepresentsMap image (map_after_items (height_limit layout) base (take k items))
+
+-- the map after all items
+abbrev pub map_after_all : Layout → Map → List Update → Map
+map_after_all layout base items = map_after_items (height_limit layout) base items

@@ -1,0 +1,53 @@
+//! The intent in the file, and its gate: the byte whose low bit says that the items are to be applied.
+
+ghost use Rattle.std.specs.Prelude.{◌≡◌, ◌+◌, ◌≤◌, length, OnOk, OnErr};
+ghost use Rattle.station.specs.Bytes.{byte, Touched};
+ghost use Rattle.station.specs.View.{Told, NothingPending, Rose};
+ghost use Rattle.station.specs.Steps.{Steps};
+ghost use Rattle.batch_intent.specs.declared.places.TheConstants.{INTENT_SIZE};
+ghost use Rattle.header_gate.specs.Header.{HasPage};
+ghost use Rattle.header_gate.specs.Places.{page_size};
+ghost use Rattle.batch_intent.specs.Spelling.{IsIntent};
+ghost use Rattle.batch_intent.specs.Gate.{IsIntentGatePlace, HoldsItems, Intends};
+
+use crate::intent::Intent;
+use crate::places::INTENT;
+use header_gate::{Gate, set_gate};
+use station::{Failed, Station, write_synced};
+
+/// Writes the intent, syncs, opens its gate, and syncs: from here on the file means the map after the items.
+///
+/// The gate is even before. After `Failed` intent and gate may be anything but a gate that is odd over another intent; no
+/// other byte changes.
+pub fn write_intent<S: Station>(station: &mut S, intent: &Intent) -> Result<(), Failed>
+    requires some { 1 ≤ length intent.now }
+    requires reach { page_size ≤ (S.view station.old).fixed.reach }
+    requires page { HasPage (S.view station.old) }
+    ensures steps { Steps (Intends intent.now) (S.view station.old) (S.view station.new) }
+    ensures intent { IsIntent intent.now }
+    ensures settled { OnOk result (NothingPending (S.view station.new)) }
+    ensures opened { OnOk result (Told (S.view station.old) → byte (S.view station.new).held 640 ≡ 1) }
+    ensures holds { OnOk result (Told (S.view station.old) → HoldsItems intent.now (S.view station.new).held) }
+    ensures cost { (S.view station.new).travel.written ≤ (S.view station.old).travel.written + (INTENT_SIZE + 1) }
+    ensures no_reads { (S.view station.new).travel.read ≡ (S.view station.old).travel.read }
+    ensures cause { OnErr result (Rose (S.view station.old).disk_faults (S.view station.new).disk_faults) }
+{
+    write_synced(station, INTENT, intent.spelling())?;
+    set_gate(station, Gate::Intent, true)
+}
+
+/// Closes the intent's gate, and syncs: from here on the intent means nothing.
+///
+/// After `Failed` the gate byte may be anything; no other byte changes.
+pub fn close_intent<S: Station>(station: &mut S) -> Result<(), Failed>
+    requires reach { page_size ≤ (S.view station.old).fixed.reach }
+    requires page { HasPage (S.view station.old) }
+    ensures steps { Steps (Touched IsIntentGatePlace) (S.view station.old) (S.view station.new) }
+    ensures settled { OnOk result (NothingPending (S.view station.new)) }
+    ensures closed { OnOk result (Told (S.view station.old) → byte (S.view station.new).held 640 ≡ 0) }
+    ensures cost { (S.view station.new).travel.written ≤ (S.view station.old).travel.written + 1 }
+    ensures no_reads { (S.view station.new).travel.read ≡ (S.view station.old).travel.read }
+    ensures cause { OnErr result (Rose (S.view station.old).disk_faults (S.view station.new).disk_faults) }
+{
+    set_gate(station, Gate::Intent, false)
+}

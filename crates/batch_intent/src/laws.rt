@@ -1,0 +1,52 @@
+//! Laws of files with an intent: what they mean through every moment of a batch.
+
+ghost use Rattle.std.specs.Prelude.{◌≡◌, ◌⊎◌, ℕ, ◌≤◌, true, List, T, take, length, None};
+ghost use Rattle.std.specs.List.{list_all};
+ghost use Rattle.station.specs.Bytes.{Touched};
+ghost use Rattle.header_gate.specs.declared.layout.Layout.{Layout};
+ghost use Rattle.header_gate.specs.declared.layout.TheConstants.{INTENT_VERSION};
+ghost use Rattle.header_gate.specs.Header.{layout_in, intent_gate};
+ghost use Rattle.header_gate.specs.Places.{height_limit};
+ghost use Rattle.map_model.specs.Store.{Map, Update};
+ghost use Rattle.map_model.specs.Items.{map_after_items, AreAdmitted};
+ghost use Rattle.map_model.specs.Image.{Represents, RepresentsMap, height_of, slot_format};
+ghost use Rattle.batch_intent.specs.Spelling.{IsIntent, fits_item};
+ghost use Rattle.batch_intent.specs.Gate.{IsIntentGatePlace, Intends};
+ghost use Rattle.batch_intent.specs.Means.{has_pending, pending, Means, MeansMap, meant_map, KeepsIntent, IsApart, InBatch, map_after_all, opening_reason};
+
+/// A law: a file means at most one map, at the height that it names.
+pub fn files_mean_one_map()
+    ensures { (image : List ℕ) (m : Map) (height : ℕ) → Means image m height → (m ≡ meant_map image) × (height ≡ height_of image) }
+{}
+
+/// A law: what the writing of an intent leaves of a file without one that is to be applied means the map of before, or is at
+/// the beginning of the batch.
+pub fn batches_begin_at_once()
+    ensures { (old new : List ℕ) (base : Map) (height : ℕ) (items : List Update) → Represents old base height → intent_gate old ≡ 0 → INTENT_VERSION ≤ (layout_in old).version →
+        1 ≤ length items → IsIntent items → T (list_all (fits_item (slot_format old)) items) → Intends items old new →
+        Means new base height ⊎ InBatch (layout_in old) base items 0 new }
+{}
+
+/// A law: in the middle of a batch of items that meet no full store a file means the map after all of them. It stays in the
+/// middle through each update, and means that map behind the last one, while the gate is closed too. A file with an intent
+/// that is to be applied is at the beginning of its batch.
+pub fn batches_go_on()
+    ensures means { (layout : Layout) (base : Map) (items : List Update) → AreAdmitted (height_limit layout) base items → (k : ℕ) (image : List ℕ) → InBatch layout base items k image → MeansMap image (map_after_all layout base items) }
+    ensures next { (layout : Layout) (base : Map) (items : List Update) (start image : List ℕ) (k j : ℕ) → InBatch layout base items k start → KeepsIntent start image →
+        RepresentsMap image (map_after_items (height_limit layout) base (take j items)) → InBatch layout base items j image }
+    ensures closed { (layout : Layout) (base : Map) (items : List Update) → AreAdmitted (height_limit layout) base items → (start image : List ℕ) (k : ℕ) → InBatch layout base items k start →
+        map_after_items (height_limit layout) base (take k items) ≡ map_after_all layout base items → Touched IsIntentGatePlace start image → MeansMap image (map_after_all layout base items) }
+    ensures begun { (image : List ℕ) (m : Map) (height : ℕ) (means : Means image m height) → has_pending image ≡ true → InBatch (layout_in image) means.base (pending image) 0 image }
+{}
+
+/// A law: an image that differs at no byte of identity, intent and its gate, and has the same slot format, has the same
+/// intent. So an update of one key leaves the intent as it is.
+pub fn updates_keep_intents()
+    ensures { (old new : List ℕ) → slot_format new ≡ slot_format old → Touched IsApart old new → KeepsIntent old new }
+{}
+
+/// A law: there is no reason against a file that is to be opened exactly where it means a map.
+pub fn opening_reasons_are_exact()
+    ensures no_reason { (image : List ℕ) → opening_reason image ≡ None → Means image (meant_map image) (height_of image) }
+    ensures accepted { (image : List ℕ) (m : Map) (height : ℕ) → Means image m height → opening_reason image ≡ None }
+{}

@@ -1,0 +1,7 @@
+//! Where the intent lies in the header page of a file.
+
+/// The place of the intent: its number of items, then the items.
+pub const INTENT: u64 = 3584;
+
+/// The bytes of the intent, which ends with the header page.
+pub const INTENT_SIZE: usize = 512;

@@ -1,0 +1,59 @@
+//! Reading an intent that is to be applied.
+
+ghost use Rattle.std.specs.Prelude.{◌≡◌, ◌↔◌, ◌+◌, ◌≤◌, false, List, OnOk, IfOk, IfErr, IsErrOf, Some, None};
+ghost use Rattle.station.specs.Bytes.{Same};
+ghost use Rattle.station.specs.View.{Told, Rose};
+ghost use Rattle.station.specs.Steps.{Steps};
+ghost use Rattle.batch_intent.specs.declared.places.TheConstants.{INTENT_SIZE};
+ghost use Rattle.header_gate.specs.Places.{IsSlotFormat, page_size};
+ghost use Rattle.map_model.specs.Store as model;
+ghost use Rattle.batch_intent.specs.Spelling.{items_in};
+ghost use Rattle.batch_intent.specs.Gate.{has_intent, intent_area, form_reason};
+
+use crate::intent::Intent;
+use crate::judging::judge_intent;
+use crate::places::{INTENT, INTENT_SIZE};
+use header_gate::{Gate, HeaderFault, INTENT_VERSION, Layout, Reason};
+use station::Station;
+
+/// The intent of a file of the layout, where its version has intents and its gate is odd: its items are to be applied, and fit
+/// the slot format.
+///
+/// `NotStore` names the place of the number of items, or of the first item, that is wrong; no byte is changed. Whether an
+/// item meets a full store isn't judged.
+pub fn read_intent<S: Station>(
+    station: &mut S,
+    layout: Layout,
+) -> Result<Option<Intent>, HeaderFault>
+    requires format { IsSlotFormat layout.format }
+    requires reach { page_size ≤ (S.view station.old).fixed.reach }
+    ensures even { IfOk result (λ intent. Told (S.view station.old) → (intent ≡ None) ↔ (has_intent layout (S.view station.old).held ≡ false)) }
+    ensures items { IfOk result (λ intent. Told (S.view station.old) → (items : List model.Update) → intent ≡ Some items → items ≡ items_in (intent_area (S.view station.old).held)) }
+    ensures sound { OnOk result (Told (S.view station.old) → form_reason layout (S.view station.old).held ≡ None) }
+    ensures refused { IfErr result (λ e. Told (S.view station.old) → (r : Reason) → e ≡ HeaderFault.NotStore r → form_reason layout (S.view station.old).held ≡ Some r) }
+    ensures steps { Steps Same (S.view station.old) (S.view station.new) }
+    ensures written { (S.view station.new).travel.written ≡ (S.view station.old).travel.written }
+    ensures reads { (S.view station.new).travel.read ≤ (S.view station.old).travel.read + (1 + INTENT_SIZE) }
+    ensures cause { IsErrOf result HeaderFault.Failed → Rose (S.view station.old).disk_faults (S.view station.new).disk_faults }
+{
+    if layout.version < INTENT_VERSION {
+        return Ok(None);
+    }
+    let mut gate = [0];
+    let Ok(()) = station.read_at(Gate::Intent.place(), &mut gate) else {
+        return Err(HeaderFault::Failed);
+    };
+    if gate[0] % 2 == 0 {
+        return Ok(None);
+    }
+    let mut bytes = [0; INTENT_SIZE];
+    let Ok(()) = station.read_at(INTENT, &mut bytes) else {
+        return Err(HeaderFault::Failed);
+    };
+    match judge_intent(&bytes, layout.format) {
+        Ok(intent) => Ok(Some(intent)),
+        Err(place) => Err(HeaderFault::NotStore(Reason::Intent {
+            place: INTENT as u32 + place,
+        })),
+    }
+}
