@@ -18,10 +18,10 @@ impl Store {
         ensures store { IsStore self }
     {
         Parts {
-            place: self.place,
-            tally: self.tally,
-            index: self.index,
-            frames: self.frames,
+            place: self.array.place,
+            tally: self.array.tally,
+            index: self.array.index,
+            frames: self.array.frames,
         }
     }
 }
