@@ -1,0 +1,189 @@
+"""The program and its peers: how each is built, made, run and measured."""
+import os
+import pathlib
+import re
+import shutil
+import subprocess
+
+HERE = pathlib.Path(__file__).resolve().parent
+OUT = HERE / "out"
+CACHE_FROM = 100000  # records from which the data is larger than what a peer keeps in memory as shipped
+
+
+class Missing(Exception):
+    pass
+
+
+def compiled(name, libraries=(), shared=True):
+    """Builds a C file of this folder; False where its header or library isn't there."""
+    compiler = os.environ.get("CC", "cc")
+    if not shutil.which(compiler):
+        raise Missing(f"no C compiler: {compiler} isn't there (Debian: gcc libc6-dev)")
+    OUT.mkdir(exist_ok=True)
+    sources = [HERE / f"{name}.c"] + ([HERE / "script.c"] if shared else [])
+    words = [compiler, "-O3", "-o", OUT / name, *sources, *("-l" + library for library in libraries)]
+    return subprocess.run(words, stderr=subprocess.DEVNULL).returncode == 0
+
+
+def build():
+    """Builds the drivers; the names of those that could be built, without the one that keeps nothing."""
+    for tool in ("timed", "pauses"):
+        if not compiled(tool, shared=False):
+            raise Missing(f"{tool}.c can't be built (Debian: gcc libc6-dev)")
+    if not compiled("nothing"):
+        raise Missing("nothing.c can't be built (Debian: gcc libc6-dev)")
+    there = []
+    for name, package in (("sqlite", "libsqlite3-dev"), ("lmdb", "liblmdb-dev"), ("leveldb", "libleveldb-dev")):
+        if compiled(name, ["sqlite3" if name == "sqlite" else name]):
+            there.append(name)
+        else:
+            print(f"left out: {name} isn't there (Debian: {package})")
+    if not there:
+        raise Missing("no peer is there (Debian: libsqlite3-dev liblmdb-dev libleveldb-dev)")
+    return there
+
+
+class Contestant:
+    def __init__(self, name, command, file, settings, height=None, journal=None):
+        self.name, self.words, self.file, self.settings = name, command, pathlib.Path(file), settings
+        self.height, self.journal = height, journal
+
+    def command(self, file=None):
+        file = str(file or self.file)
+        if self.height is not None:
+            return [self.words[0], "run", file]
+        return [self.words[0], file, *self.words[1:]]
+
+    def make(self, file=None):
+        file = pathlib.Path(file or self.file)
+        self.clear(file)
+        if self.height is not None:
+            journal = [] if self.journal is None else [str(self.journal)]
+            subprocess.run([self.words[0], "create", str(file), str(self.height), *journal], check=True)
+
+    def files(self, file=None):
+        file = pathlib.Path(file or self.file)
+        beside = [file.with_name(file.name + end) for end in ("", "-journal", "-wal", "-shm", "-lock")]
+        return [f for f in beside if f.is_file()] + (sorted(f for f in file.iterdir()) if file.is_dir() else [])
+
+    def clear(self, file=None):
+        file = pathlib.Path(file or self.file)
+        for one in self.files(file):
+            one.unlink()
+        if file.is_dir():
+            file.rmdir()
+
+    def copied(self, folder):
+        """The store, copied to this folder and synced."""
+        to = pathlib.Path(folder) / self.file.name
+        self.clear(to)
+        for one in self.files():
+            place = pathlib.Path(folder) / one.relative_to(self.file.parent)
+            place.parent.mkdir(exist_ok=True)
+            shutil.copyfile(one, place)
+        os.sync()
+        return to
+
+    def sizes(self):
+        """(Length, bytes taken) of all its files."""
+        status = [f.stat() for f in self.files()]
+        return sum(s.st_size for s in status), sum(s.st_blocks * 512 for s in status)
+
+
+def height_for(records):
+    for height in range(17):
+        if 2**height * (64 - height) >= records:
+            return height
+    raise Missing(f"no store holds {records} records")
+
+
+def contestants(there, program, workloads, folder):
+    records, most = workloads.records, workloads.most_records()
+    height, cache = height_for(most), max(16, most * 160 >> 20)
+    large = records >= CACHE_FROM
+    found = []
+
+    def add(name, words, settings, height=None, journal=None):
+        found.append(Contestant(name, words, folder / name, settings, height, journal))
+
+    add("pma", [program], f"HEIGHT {height}, default JOURNAL", height)
+    if 2**height > 1024:
+        add("pma-1024", [program], f"HEIGHT {height}, JOURNAL 1024", height, 1024)
+    if "sqlite" in there:
+        driver, table = str(OUT / "sqlite"), "prepared statements, `WITHOUT ROWID`, `synchronous=FULL`, journal mode "
+        add("sqlite-delete", [driver, "delete"], table + "`delete`")
+        add("sqlite-wal", [driver, "wal"], table + "`wal`")
+        if large:
+            add("sqlite-wal-cache", [driver, f"wal,{cache}"], table + f"`wal`, cache of {cache} MiB")
+    if "lmdb" in there:
+        add("lmdb", [str(OUT / "lmdb")], "map of 4 GiB, read transaction and cursor renewed, no flags that weaken a commit")
+    if "leveldb" in there:
+        driver, table = str(OUT / "leveldb"), "`sync`, bloom filter of 10 bits, a get before each put, for its reply"
+        add("leveldb", [driver], table)
+        if large:
+            add("leveldb-cache", [driver, str(cache)], table + f", cache of {cache} MiB")
+    add("nothing", [str(OUT / "nothing"), str(records)], "reads the script and says lines as long")
+    return found
+
+
+def version(contestant, program):
+    if contestant.height is not None:
+        done = subprocess.run(["git", "-C", str(HERE), "describe", "--always", "--dirty"], capture_output=True, text=True)
+        return "pma " + (done.stdout.strip() or "of this folder")
+    done = subprocess.run([contestant.words[0]], capture_output=True, text=True, check=True)
+    return re.sub(r":.*", "", done.stdout.strip())
+
+
+class Bench:
+    """Runs contestants on scripts, with scripts, replies and reports in this folder."""
+
+    def __init__(self, folder):
+        self.script, self.report = folder / "script", folder / "report"
+
+    def write(self, lines):
+        with open(self.script, "wb") as file:
+            file.writelines(lines)
+
+    def run(self, command, to=os.devnull, tool="timed"):
+        """The numbers of the report of a run on the script that was written last."""
+        with open(self.script, "rb") as script, open(to, "wb") as replies:
+            done = subprocess.run([str(OUT / tool), str(self.report), *command], stdin=script, stdout=replies)
+        if done.returncode:
+            raise Missing(f"{' '.join(command)} ended with {done.returncode}")
+        return [float(n) for n in self.report.read_text().split()]
+
+    def traced(self, command, file):
+        """(Bytes written, syncs) of a command, by strace, from the first reply to the last."""
+        log = self.report.with_name("trace")
+        calls = "openat,write,pwrite64,writev,pwritev,fsync,fdatasync,msync"
+        with open(self.script, "rb") as script:
+            words = ["strace", "-f", "-qq", "-y", "-s", "0", "-e", f"trace={calls}", "-o", str(log), *command]
+            subprocess.run(words, stdin=script, stdout=subprocess.DEVNULL, check=True)
+        written = syncs = 0
+        synced, at_replies = set(), []
+        for name, descriptor, path, answer, line in returned(log):
+            if name == "openat":
+                (synced.add if "O_DSYNC" in line else synced.discard)(answer)
+            elif name in ("fsync", "fdatasync", "msync"):
+                syncs += 1
+            elif path and path.startswith(str(file)):
+                written += int(answer)
+                syncs += descriptor in synced  # such a write is a sync too
+            elif descriptor == "1":
+                at_replies.append((written, syncs))
+        return [(last - first) / (len(at_replies) - 1) for first, last in zip(at_replies[0], at_replies[-1])]
+
+
+def returned(log):
+    """The calls of a trace in the order of their returns: name, descriptor, its path, answer, line."""
+    begun = {}
+    for line in log.read_text(errors="replace").splitlines():
+        process, _, line = line.partition(" ")
+        if line.rstrip().endswith("<unfinished ...>"):
+            begun[process] = line.rstrip().removesuffix("<unfinished ...>")
+            continue
+        if "resumed>" in line:
+            line = begun.pop(process, "") + line.split("resumed>", 1)[1]
+        call = re.match(r"\s*(\w+)\((\d+|AT_FDCWD)(?:<([^>]*)>)?.*= (-?\d+)(?:<[^>]*>)?\s*$", line)
+        if call:
+            yield *call.groups(), line

@@ -1,0 +1,274 @@
+#!/usr/bin/env -S python3 -B
+"""The program beside SQLite, LMDB and LevelDB, all behind its script language; a fourth driver keeps nothing.
+
+Usage: peers.py [--records N[,N..]] [--program PROGRAM] [--csv FOLDER] [--memory FOLDER] [--disk FOLDER] [--rounds N]
+
+For each number of records the stores are filled in memory, one command sent at a time, and what each reply took is kept.
+Then the replies to every script are compared byte by byte, and only then is anything timed: contestants take turns, in each
+round another one first. At the greatest number the stores are copied to the disk and timed by the clock, and the blocks of a
+search are counted. Ends with 1 where replies differ, or where a compiler or every peer is missing.
+"""
+import argparse
+import csv
+import datetime
+import filecmp
+import os
+import pathlib
+import shutil
+import statistics
+import subprocess
+import sys
+import tempfile
+
+from contestants import HERE, OUT, Bench, Missing, build, contestants, version
+from workloads import Workloads, odd_lines
+
+TRACED = 400  # commands of which the system calls are counted
+
+
+def spread(values):
+    return [f"{statistics.median(values):.4g}", f"{min(values):.4g}", f"{max(values):.4g}"]
+
+
+def turned(all_of, turn):
+    first = turn % len(all_of)
+    return all_of[first:] + all_of[:first]
+
+
+class Run:
+    def __init__(self, folder, there, program, records, rounds):
+        self.work, self.records, self.rounds = Workloads(records, rounds), records, rounds
+        self.folder = folder / str(records)
+        self.folder.mkdir()
+        self.bench = Bench(self.folder)
+        self.all = contestants(there, program, self.work, self.folder)
+        self.stores = [c for c in self.all if c.name != "nothing"]
+
+    def filled(self):
+        """Fills the stores: rows of the pauses, and of sizes and memory."""
+        pauses, sizes = [], []
+        self.bench.write(self.work.fill())
+        for one in self.all:
+            one.make()
+            _, median, most, greatest, _, seconds, memory = self.bench.run(one.command(), tool="pauses")
+            pauses.append([self.records, one.name, f"{median:.1f}", f"{most:.1f}", f"{greatest:.1f}"])
+            if one.name != "nothing":
+                length, taken = one.sizes()
+                sizes.append([self.records, one.name, length, taken, int(memory), f"{seconds:.2f}"])
+            print(f"{self.records:>8} {one.name:16} filled in {seconds:.2f} s of processor time", flush=True)
+        return pauses, sizes
+
+    def same(self, name, lines, make=False):
+        """Runs each store on these lines; the replies must be the same."""
+        self.bench.write(lines)
+        first = None
+        for one in self.stores:
+            file = self.folder / f"odd-{one.name}" if make else one.file
+            replies = self.folder / f"replies-{one.name}"
+            if make:
+                one.make(file)
+            self.bench.run(one.command(file), to=replies)
+            if make:
+                one.clear(file)
+            if first and not filecmp.cmp(first, replies, shallow=False):
+                raise Missing(f"REPLIES DIFFER: {name}: {first.name}, {replies.name}")
+            first = first or replies
+        for one in self.stores:
+            (self.folder / f"replies-{one.name}").unlink()
+
+    def compared(self):
+        self.same("odd lines", odd_lines(60 if self.work.small else 5000), make=True)
+        self.same("fill", [b"range * *\n"])
+        for name, lines in self.work.turn(0):
+            self.same(name or "restored", lines)
+
+    def timed(self):
+        """Rows of processor time: microseconds a command, the opening subtracted; of an opening, milliseconds."""
+        took = {}
+        for turn in range(1, self.rounds + 1):
+            opening = {}
+            self.bench.write([b"get %s\n" % self.work.keys[0]])
+            for one in turned(self.all, turn):
+                runs = [self.bench.run(one.command()) for _ in range(3 if self.records > 100000 else 10)]
+                took.setdefault(("open, one get", one.name, "ms"), []).append(statistics.median(r[0] for r in runs) * 1e3)
+                took.setdefault(("memory of open, one get", one.name, "MiB"), []).append(runs[0][2] / 1024)
+            self.bench.write([])
+            for one in turned(self.all, turn):
+                opening[one.name] = statistics.median(self.bench.run(one.command())[0] for _ in range(3))
+            for name, lines in self.work.turn(turn):
+                self.bench.write(lines)
+                for one in turned(self.all, turn):
+                    seconds = self.bench.run(one.command())[0] - opening[one.name]
+                    if name:
+                        took.setdefault((name, one.name, "us"), []).append(seconds / len(lines) * 1e6)
+        self.same("the store after all rounds", [b"range * *\n"])
+        order = [one.name for one in self.all]
+        rows = [[self.records, *what, *spread(values)] for what, values in took.items()]
+        works = list(dict.fromkeys(row[1] for row in rows))
+        return sorted(rows, key=lambda row: (works.index(row[1]), order.index(row[2])))
+
+    def traced(self):
+        """(Contestant, workload) -> bytes written and syncs of a put, the median of three runs."""
+        found, turn = {}, self.rounds + 1
+        scripts = {"overwrite": self.work.overwrite, "fillrandom": self.work.fillrandom}
+        for one in self.stores:
+            for again in range(3):
+                for name, script in scripts.items():
+                    self.bench.write(script(turn + (1000 * again if name == "overwrite" else 0))[:TRACED])
+                    found.setdefault((one.name, name), []).append(self.bench.traced(one.command(), one.file))
+                if not self.work.small:
+                    self.bench.write(self.work.deleterandom(turn, TRACED))
+                    self.bench.run(one.command())
+        return {what: [f"{statistics.median(column):.4g}" for column in zip(*runs)] for what, runs in found.items()}
+
+    def on_disk(self, disk, commands, traced):
+        """Rows of durable commands a second by the clock, with bytes and syncs; so many commands over all rounds, each sent
+        when the reply before it is there, so that an opening isn't in the time."""
+        each, took, rows = max(2, commands // self.rounds), {}, []
+        files = {one.name: one.copied(disk) for one in self.stores}
+        for turn in range(self.rounds + 2, 2 * self.rounds + 2):
+            scripts = [("overwrite", self.work.overwrite(turn)[:each]), ("fillrandom", self.work.fillrandom(turn)[:each])]
+            scripts += [] if self.work.small else [("deleterandom", self.work.deleterandom(turn, each))]
+            for name, lines in scripts:
+                self.bench.write(lines)
+                for one in turned(self.stores, turn):
+                    microseconds = self.bench.run(one.command(files[one.name]), tool="pauses")[4]
+                    took.setdefault((name, one.name), []).append(len(lines) / microseconds * 1e6)
+        for one in self.stores:
+            one.clear(files[one.name])
+        for name in dict.fromkeys(name for name, _ in took):
+            for one in self.stores:
+                rates, cost = spread(took[name, one.name]), traced.get((one.name, name), ["", ""])
+                rows.append([self.records, name, one.name, *rates, *cost])
+        return rows
+
+    def blocks(self):
+        """Rows of the blocks that a search touches, by size of block, beside a binary search over as many fences."""
+        rows, pma = [], self.all[0]
+        keys = self.work.keys[:1000]
+        for power in range(13):
+            size = 2**power
+            self.bench.write([b"probe %s %d\n" % (k, size) for k in keys])
+            replies = self.folder / "probes"
+            self.bench.run(pma.command(), to=replies)
+            found = [[int(w.split("=")[1]) for w in line.split()[1:]] for line in replies.read_text().splitlines()]
+            nodes = found[0][1]
+            searched = [binary_blocks(segment, 2**nodes, size) for segment, *_ in found]
+            touched = [blocks for _, _, blocks, _ in found]
+            rows.append([self.records, nodes, size, max(touched), f"{statistics.mean(touched):.2f}", found[0][3],
+                         max(searched), f"{statistics.mean(searched):.2f}"])
+        return rows
+
+    def cleared(self):
+        for one in self.all:
+            one.clear()
+
+
+def binary_blocks(segment, count, size):
+    """How many blocks of so many fences a binary search for this segment touches, over a sorted array of fences."""
+    low, high, blocks = 0, count, set()
+    while high - low > 1:
+        middle = (low + high) // 2
+        blocks.add((middle - 1) // size)
+        low, high = (middle, high) if segment >= middle else (low, middle)
+    return len(blocks)
+
+
+def mounted(folder):
+    done = subprocess.run(["df", "--output=source,fstype", str(folder)], capture_output=True, text=True)
+    return " ".join(done.stdout.split("\n")[1].split()) if done.returncode == 0 else str(folder)
+
+
+def setup(arguments, disk, sizes):
+    model = [line.split(":", 1)[1].strip() for line in open("/proc/cpuinfo") if line.startswith("model name")]
+    memory = os.sysconf("SC_PAGE_SIZE") * os.sysconf("SC_PHYS_PAGES") / 2**30
+    return [
+        ["machine", f"{model[0] if model else 'unknown'}, {os.cpu_count()} processors, {memory:.0f} GiB"],
+        ["system", f"{os.uname().sysname} {os.uname().release}"],
+        ["load at the end", f"{os.getloadavg()[0]:.1f}"],
+        ["date", datetime.date.today().isoformat()],
+        ["files in memory", mounted(arguments.memory).split()[-1]],
+        ["disk", mounted(disk)],
+        ["rounds", arguments.rounds],
+        ["commands", "`make bench-peers CSV=docs/bench" + (f" RECORDS={sizes}" if sizes else "") + "`, `make bench-plots`"],
+    ]
+
+
+HEADS = {
+    "times": "records,workload,contestant,unit,median,least,greatest",
+    "pauses": "records,contestant,median_us,of_99_in_100_us,greatest_us",
+    "sizes": "records,contestant,length_bytes,taken_bytes,memory_kib,fill_s",
+    "puts": "records,workload,contestant,a_second,least,greatest,bytes_a_put,syncs_a_put",
+    "blocks": "records,nodes,block_nodes,most,mean,bound,binary_most,binary_mean",
+    "contestants": "contestant,version,settings",
+    "setup": "what,value",
+}
+
+
+def write_csv(folder, tables):
+    folder.mkdir(parents=True, exist_ok=True)
+    for name, rows in tables.items():
+        with open(folder / f"{name}.csv", "w", newline="") as file:
+            writer = csv.writer(file, lineterminator="\n")
+            writer.writerow(HEADS[name].split(","))
+            writer.writerows(rows)
+
+
+def measured(arguments, there, folder, disk):
+    tables = {name: [] for name in HEADS}
+    sizes = sorted(int(n) for n in arguments.records.split(","))
+    can_trace = shutil.which("strace") is not None
+    if not can_trace:
+        print("left out: bytes and syncs, since strace isn't there (Debian: strace)")
+    for records in sizes:
+        run = Run(folder, there, arguments.program, records, arguments.rounds)
+        pauses, taken = run.filled()
+        run.compared()
+        print(f"{records:>8} the replies are the same", flush=True)
+        tables["pauses"] += pauses
+        tables["sizes"] += taken
+        tables["times"] += run.timed()
+        traced = run.traced() if can_trace else {}
+        if records == sizes[-1]:
+            tables["puts"] = run.on_disk(disk, 2000 if records > 100000 else 100, traced)
+            tables["blocks"] = run.blocks()
+            tables["contestants"] = [[one.name, version(one, arguments.program), one.settings] for one in run.all]
+        run.cleared()
+    tables["setup"] = setup(arguments, disk, "" if arguments.records == EVERY else arguments.records)
+    return tables
+
+
+EVERY = "60,10000,1000000"
+
+
+def main():
+    parser = argparse.ArgumentParser(description=__doc__.split("\n")[0])
+    parser.add_argument("--records", default=EVERY)
+    parser.add_argument("--program", default=str(HERE.parent / "pma"), type=os.path.realpath)
+    parser.add_argument("--csv", default=OUT / "csv", type=pathlib.Path)
+    parser.add_argument("--memory", default="/dev/shm" if os.access("/dev/shm", os.W_OK) else "/tmp")
+    parser.add_argument("--disk", default=HERE)
+    parser.add_argument("--rounds", default=5, type=int)
+    arguments = parser.parse_args()
+    arguments.records = arguments.records or EVERY
+    try:
+        there = build()
+        if not os.access(arguments.program, os.X_OK):
+            raise Missing(f"no program: {arguments.program} isn't there")
+        if not os.path.isdir(arguments.disk):
+            raise Missing(f"no folder on a disk: {arguments.disk} isn't there")
+        folder = tempfile.TemporaryDirectory
+        with folder(dir=arguments.memory) as memory, folder(dir=arguments.disk) as disk:
+            tables = measured(arguments, there, pathlib.Path(memory), disk)
+    except Missing as missing:
+        print(missing)
+        return 1
+    write_csv(arguments.csv, tables)
+    for row in tables["times"]:
+        print("{:>8} {:24} {:16} {:>10} {} ({} to {})".format(row[0], row[1], row[2], row[4], row[3], row[5], row[6]))
+    print(f"the numbers are in {arguments.csv}")
+    return 0
+
+
+if __name__ == "__main__":
+    sys.exit(main())
