@@ -5,11 +5,17 @@
 # clause of run_words.
 # make bench: the processor time of commands beside that of their system calls.
 # make faults: each allocation of the program refused in turn.
+# make bench-peers RECORDS=.. CSV=.. DISK=..: the program beside SQLite, LMDB and LevelDB, at 60, 10^4 and 10^6 records where
+# RECORDS isn't given; numbers into the folder CSV, durable commands in the folder DISK.
+# make bench-plots: pictures and tables of docs/BENCHMARKS.md from docs/bench.  make examples: the worked uses of docs/USES.md.
 
-.PHONY: all demo check install gate-times dear-goals said-twice reading bench faults
+.PHONY: all demo check install gate-times dear-goals said-twice reading bench faults bench-peers bench-plots examples
 
 PREFIX ?= /usr/local
 CLAUSE ?= headline
+RECORDS ?=
+CSV ?= bench/out/csv
+DISK ?= bench/out
 
 all: pma
 
@@ -52,3 +58,12 @@ bench: pma
 
 faults: pma
 	tools/faults.sh ./pma
+
+bench-peers: pma
+	bench/peers.py --program ./pma --records '$(RECORDS)' --csv '$(CSV)' --disk '$(DISK)'
+
+bench-plots:
+	bench/plots.py docs/bench docs/BENCHMARKS.md
+
+examples: pma
+	examples/run.sh ./pma
