@@ -42,7 +42,7 @@ const NO_SCRIPT: Plan<'static> = Plan {
 };
 
 // Sees that the upgrade of a file ends with a status, and what is said. Gives the file that it leaves.
-fn see_upgraded(
+pub(super) fn see_upgraded(
     rt: &impl Abort,
     alloc: Global,
     file: &[u8],
