@@ -14,9 +14,9 @@ refuse() {
     local n status
     for n in $(seq 1 64); do
         status=0
-        printf 'put a 1\nget a\n' | rt try --fail-alloc "$n" -- "$@" >out/faults.log 2>&1 || status=$?
+        printf 'put a 1\nget a\nbatch put b ; remove a\ncost\n' | rt try --fail-alloc "$n" -- "$@" >out/faults.log 2>&1 || status=$?
         case $status in
-            7) ! grep -qE '^(stored|found|gen )' out/faults.log || { echo "$*: allocation $n: a reply"; return 1; } ;;
+            7) ! grep -qE '^(stored|found|batch|cost|gen )' out/faults.log || { echo "$*: allocation $n: a reply"; return 1; } ;;
             0) echo "$*: $((n - 1)) allocations, each refused with status 7"; return ;;
             *) echo "$*: allocation $n refused: status $status"; tail -5 out/faults.log; return 1 ;;
         esac

@@ -17,7 +17,7 @@ use std::marker::Model;
 pub const MOST_ITEMS: u32 = 16;
 
 /// The items of a batch, no two of them with one key. They are kept as the file has them.
-#[derive(Clone, Copy)]
+#[derive(Clone, Copy, PartialEq, Eq)]
 pub struct Intent {
     // The number of items and their spelling, with zeros behind it.
     bytes: [u8; INTENT_SIZE],

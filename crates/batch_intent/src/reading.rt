@@ -1,13 +1,15 @@
 //! Reading an intent that is to be applied.
 
-ghost use Rattle.std.specs.Prelude.{◌≡◌, ◌↔◌, ◌+◌, ◌≤◌, false, List, OnOk, IfOk, IfErr, IsErrOf, Some, None};
+ghost use Rattle.std.specs.Prelude.{◌≡◌, ◌↔◌, ℕ, ◌+◌, ◌<◌, ◌≤◌, false, List, T, length, OnOk, IfOk, IfErr, IsErrOf, Some, None};
+ghost use Rattle.std.specs.List.{list_all};
 ghost use Rattle.station.specs.Bytes.{Same};
 ghost use Rattle.station.specs.View.{Told, Rose};
 ghost use Rattle.station.specs.Steps.{Steps};
 ghost use Rattle.batch_intent.specs.declared.places.TheConstants.{INTENT_SIZE};
+ghost use Rattle.header_gate.specs.declared.layout.TheConstants.{INTENT_VERSION};
 ghost use Rattle.header_gate.specs.Places.{IsSlotFormat, page_size};
 ghost use Rattle.map_model.specs.Store as model;
-ghost use Rattle.batch_intent.specs.Spelling.{items_in};
+ghost use Rattle.batch_intent.specs.Spelling.{items_in, fits_item};
 ghost use Rattle.batch_intent.specs.Gate.{has_intent, intent_area, form_reason};
 
 use crate::intent::Intent;
@@ -20,7 +22,8 @@ use station::Station;
 /// the slot format.
 ///
 /// `NotStore` names the place of the number of items, or of the first item, that is wrong; no byte is changed. Whether an
-/// item meets a full store isn't judged.
+/// item meets a full store isn't judged. Nothing is read where the version has no intents, and where the gate is even its byte
+/// alone.
 pub fn read_intent<S: Station>(
     station: &mut S,
     layout: Layout,
@@ -29,11 +32,15 @@ pub fn read_intent<S: Station>(
     requires reach { page_size ≤ (S.view station.old).fixed.reach }
     ensures even { IfOk result (λ intent. Told (S.view station.old) → (intent ≡ None) ↔ (has_intent layout (S.view station.old).held ≡ false)) }
     ensures items { IfOk result (λ intent. Told (S.view station.old) → (items : List model.Update) → intent ≡ Some items → items ≡ items_in (intent_area (S.view station.old).held)) }
+    ensures fits { IfOk result (λ intent. (items : List model.Update) → intent ≡ Some items → (1 ≤ length items) × T (list_all (fits_item layout.format) items)) }
     ensures sound { OnOk result (Told (S.view station.old) → form_reason layout (S.view station.old).held ≡ None) }
     ensures refused { IfErr result (λ e. Told (S.view station.old) → (r : Reason) → e ≡ HeaderFault.NotStore r → form_reason layout (S.view station.old).held ≡ Some r) }
+    ensures reason { IfErr result (λ e. (r : Reason) → e ≡ HeaderFault.NotStore r → (place : ℕ) × (r ≡ Reason.Intent place)) }
     ensures steps { Steps Same (S.view station.old) (S.view station.new) }
     ensures written { (S.view station.new).travel.written ≡ (S.view station.old).travel.written }
     ensures reads { (S.view station.new).travel.read ≤ (S.view station.old).travel.read + (1 + INTENT_SIZE) }
+    ensures unread { layout.version < INTENT_VERSION → (S.view station.new).travel.read ≡ (S.view station.old).travel.read }
+    ensures gate_alone { Told (S.view station.old) → has_intent layout (S.view station.old).held ≡ false → (S.view station.new).travel.read ≤ (S.view station.old).travel.read + 1 }
     ensures cause { IsErrOf result HeaderFault.Failed → Rose (S.view station.old).disk_faults (S.view station.new).disk_faults }
 {
     if layout.version < INTENT_VERSION {

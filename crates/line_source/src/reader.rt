@@ -109,6 +109,7 @@ impl LineReader {
         ensures ahead { length self.new.held ≤ most_held }
         ensures falls { is_last result ≡ false
             → self.new.room + length self.new.held < self.old.room + length self.old.held }
+        ensures given { self.new.room + length self.new.held + length self.new.line ≤ self.old.room + length self.old.held }
         ensures room { self.new.room ≤ self.old.room }
         ensures went { Went (I.view source.old) (I.view source.new) }
 

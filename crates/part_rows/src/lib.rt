@@ -11,6 +11,8 @@ mod commands;
 #[cfg(test)]
 mod indexes;
 #[cfg(test)]
+mod intents;
+#[cfg(test)]
 mod journals;
 #[cfg(test)]
 mod lines;

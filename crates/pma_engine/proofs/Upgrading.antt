@@ -1,31 +1,36 @@
 -- What comes of an upgrade, from the map that its file represents at the entry.
-use Rattle.std.proofs.Common.{◌≡◌, ◌⊎◌, ◌↔◌, inl, inr, ℕ, ◌+◌, ◌≤◌, List, ◌++◌, false, take, Some, None, Result, Ok, Err, refl, sym, ◌∙◌, ap, subst, arith, sum}
-use Rattle.std.specs.Prelude.{OnOk, IfOk, IfErr, IsErrOf}
+use Rattle.std.proofs.Common.{◌≡◌, ◌⊎◌, ◌↔◌, inl, inr, ℕ, ◌+◌, ◌-◌, ◌≤◌, List, ◌++◌, false, take, Some, None, Result, Ok, Err, refl, sym, ◌∙◌, ap, subst, arith, sum}
+use Rattle.std.specs.Prelude.{◌%◌, ◌&&◌, ◌==◌, nat_le, OnOk, IfOk, IfErr, IsErrOf}
 use Rattle.std.specs.FinMap.{len}
 use Rattle.station.specs.View.{View, Told, SaidTold, Honest, NothingPending, EachHeld, Rose, Lawful, attached_by}
 use Rattle.station.specs.Steps.{Steps, Says, Run}
 use Rattle.station.specs.declared.travel.Travel.{Travel}
 use Rattle.station.proofs.Sayings.{run_of_steps, run_of_says, run_on}
 use Rattle.density_rule.specs.Spread.{resized_counts}
-use Rattle.header_gate.specs.Header.{layout_in}
+use Rattle.header_gate.specs.Header.{layout_in, live_copy}
+use Rattle.header_gate.specs.Places.{height_limit}
+use Rattle.header_gate.specs.declared.layout.Layout.{Layout}
+use Rattle.header_gate.specs.declared.layout.TheConstants.{INTENT_VERSION}
 use Rattle.header_gate.specs.Recovered.{recovered}
 use Rattle.header_gate.specs.declared.reason.Reason.{Reason}
 use Rattle.header_gate.specs.declared.reason.Reason.TheVariants.{Format}
 use Rattle.key_slot.specs.Format.{narrow, wide}
 use Rattle.map_model.specs.Array.{resized}
 use Rattle.map_model.specs.ArrayState.{ArrayState}
-use Rattle.map_model.specs.Image.{Represents, array_of, height_of, map_of}
+use Rattle.map_model.specs.Image.{Represents, array_of, map_of}
+use Rattle.map_model.specs.Items.{map_after_items}
+use Rattle.map_model.specs.Regions.{IsSparePlace}
 use Rattle.map_model.specs.Standing.{StandsWith}
 use Rattle.map_model.specs.Store.{Map}
-use Rattle.map_model.proofs.Reasonings.{none_of_represents}
 use Rattle.map_model.proofs.Recovering.{determined}
+use Rattle.batch_intent.specs.Means.{Means, MeansMap, has_pending, meant_map}
+use Rattle.batch_intent.proofs.Meanings.{meant_one, means_idle, none_pending}
+use Rattle.batch_intent.proofs.OpeningReasons.{none_of_means}
 use Rattle.range_scan.proofs.Checks.{counted_all}
 use Rattle.redo_journal.specs.declared.place.Place.{Place}
-use Rattle.recovery.specs.Costs.{opening_cost}
-use Rattle.recovery.specs.Restores.{Opens}
 use Rattle.recovery.specs.declared.fault.OpenFault.{OpenFault}
 use Rattle.recovery.specs.declared.fault.OpenFault.TheVariants as opening
-use Rattle.resize_region.specs.Upgraded.{Upgrades, TooManyFor, widened, upgraded, upgraded_height}
+use Rattle.resize_region.specs.Upgraded.{MayWiden, Upgrades, TooManyFor, widened, upgraded, upgraded_height}
 use Rattle.resize_region.specs.declared.outcome.Upgrade.{Upgrade}
 use Rattle.resize_region.specs.declared.outcome.Upgrade.TheVariants.{Done, Already, OneSegment, TooMany}
 use Rattle.segment.specs.declared.fault.StoreFault.{StoreFault}
@@ -34,22 +39,46 @@ use Rattle.command_text.specs.Reply.{reply_text}
 use Rattle.command_text.specs.declared.reply.Reply.{Reply}
 use Rattle.command_text.specs.declared.reply.Reply.TheVariants as reply
 use Rattle.pma_store.specs.Store.{StoreView, IsOpenOn}
-use Rattle.pma_engine.specs.Opening.{IsOpened, IsUnopened}
+use Rattle.pma_engine.specs.Opening.{IsOpened, IsUnopened, Reopens, reopening_cost}
 use Rattle.pma_engine.specs.Refusing.{IsRefusal, SaysLine, line_text, line_of_opening, status_of_opening}
-use Rattle.pma_engine.specs.Upgrading.{IsUpgradeStatus, AnswersUpgrade, IsUpgradeAnswer, IsUpgradeRefused, IsUpgraded, KeepsMap, UpgradesFile, UpgradesOpened, line_of_upgrade, status_of_upgrade, upgrade_cost}
+use Rattle.pma_engine.specs.Upgrading.{IsUpgradeStatus, AnswersUpgrade, IsUpgradeRefused, IsUpgraded, KeepsMeaning, next_height, opened_height, UpgradesFile, UpgradesOpened, line_of_upgrade, status_of_upgrade, upgrade_cost}
 use Rattle.pma_engine.specs.declared.status.TheConstants.{DONE, REFUSED, DISK_FAULT, OUT_OF_MEMORY}
-use Rattle.pma_engine.proofs.OutcomeLaws.{live_opened, layout_opened}
+use Rattle.pma_engine.proofs.Meant.{opened_map}
 
--- what opens a file keeps its map
-keeps_opened : {old new : List ℕ} → Opens old new → KeepsMap old new
-keeps_opened opens m has = (has.0, opens.map m has.0 has.1)
+-- what opens a file keeps its meaning
+keeps_opened : {old new : List ℕ} → Reopens old new → KeepsMeaning old new
+keeps_opened opens m has = opens.means m has
 
-keeps_on : {old middle new : List ℕ} → KeepsMap old middle → KeepsMap middle new → KeepsMap old new
+keeps_on : {old middle new : List ℕ} → KeepsMeaning old middle → KeepsMeaning middle new → KeepsMeaning old new
 keeps_on first second m has = second m (first m has)
 
--- so does what upgrades it
-keeps_upgraded : {place : Place} {height : ℕ} {old new : List ℕ} → Upgrades place height old new → KeepsMap old new
-keeps_upgraded {place} {height} upgrades m has = elim (upgrades.map_is m has.0 has.1) [ inl same ↦ (has.0, same) | inr next ↦ (height, next) ]
+-- a file without an intent that is to be applied represents what it means
+unpending : (image : List ℕ) (m : Map) (height : ℕ) → Means image m height → has_pending image ≡ false → Represents image m height
+unpending image m height means none =
+    subst (λ (n : Map). Represents image n height) (sym (ap (map_after_items (height_limit (layout_in image)) means.base) (none_pending image none)) ∙ means.map_is) means.represents
+
+-- an upgrade leaves the version and the intent's gate
+widened_version : {l m : Layout} → MayWiden l m → m.version ≡ l.version
+widened_version (inl same) = ap (λ (x : Layout). x.version) same
+widened_version (inr wider) = ap (λ (x : Layout). x.version) wider
+
+not_spare : (l : Layout) (spare : ℕ) → IsSparePlace l spare 640 → ⊥
+not_spare l spare (inl is) = omega (arith, is)
+not_spare l spare (inr (inl is)) = omega (arith, is.0, is.1)
+not_spare l spare (inr (inr is)) = omega (arith, is.0)
+
+still_none : {place : Place} {height : ℕ} (old new : List ℕ) → Upgrades place height old new → has_pending old ≡ false → has_pending new ≡ false
+still_none {place} old new upgrades none =
+    (λ i. nat_le INTENT_VERSION (widened_version upgrades.layout_is i) && (upgrades.touched.rest 640 (not_spare place.layout (1 - place.region)) i % 2 == 1)) ∙ none
+
+-- so what upgrades a file without one keeps its meaning too
+keeps_upgraded : {place : Place} {height : ℕ} {old new : List ℕ} → has_pending old ≡ false → Upgrades place height old new → KeepsMeaning old new
+keeps_upgraded {place} {height} {old} {new} none upgrades m has =
+    let next_none = still_none old new upgrades none in
+    elim (upgrades.map_is m has.0 (unpending old m has.0 has.1 none)) [
+      | inl same ↦ (has.0, means_idle new m has.0 same next_none)
+      | inr next ↦ (height, means_idle new m height next next_none)
+    ]
 
 -- a line said behind disk calls was said since before them
 said_since : (a b d : View) (line : Reply) → b.said ≡ a.said → a.say_faults ≡ b.say_faults → SaysLine line b.said b d → SaysLine line a.said a d
@@ -61,10 +90,10 @@ said_since a b d line same calls says = record {
 }
 
 -- disk calls that keep the map, from a view on where nothing is pending, and a saying behind them
-run_said : {a b d : View} {R : List ℕ → List ℕ → Type 0} {text : List ℕ} → NothingPending a → Steps R a b → ((old new : List ℕ) → R old new → KeepsMap old new) → Says text b d → Run (λ image said. KeepsMap a.held image) a d
+run_said : {a b d : View} {R : List ℕ → List ℕ → Type 0} {text : List ℕ} → NothingPending a → Steps R a b → ((old new : List ℕ) → Honest a → a.may_leave old → R old new → KeepsMeaning old new) → Says text b d → Run (λ image said. KeepsMeaning a.held image) a d
 run_said {a} {b} {d} {R} nothing ab keeps says =
-    let P : List ℕ → List ℕ → Type 0 = λ image said. KeepsMap a.held image in
-    let from : Honest a → (start image : List ℕ) → a.may_leave start → R start image → KeepsMap a.held image = λ honest start image left step. subst (λ (x : List ℕ). KeepsMap x image) (nothing honest start left) (keeps start image step) in
+    let P : List ℕ → List ℕ → Type 0 = λ image said. KeepsMeaning a.held image in
+    let from : Honest a → (start image : List ℕ) → a.may_leave start → R start image → KeepsMeaning a.held image = λ honest start image left step. subst (λ (x : List ℕ). KeepsMeaning x image) (nothing honest start left) (keeps start image honest left step) in
     run_on P (run_of_steps P ab from)
     (run_of_says P says (λ honest image n left within.
     let start = ab.images (ap (λ f. f.honest) (sym ab.frame.fixed) ∙ honest) image left in
@@ -98,14 +127,24 @@ module _ (a : View) (s : StoreView) (opened : IsOpenOn s a) where
   stands_told told = (opened.on.stands a.held (inl (told, refl))).balanced.stands
 
   -- the answer that is due is the same by the file and by the store
-  answer_is : Told a → (line : Reply) → IsUpgradeAnswer a.held line ≡ AnswersUpgrade s.place.layout s.place.region (sum s.tally.counts) line
-  answer_is told line =
+  answer_is : Told a → (copy : ℕ) (line : Reply) → AnswersUpgrade (layout_in a.held) copy (len (map_of a.held)) line ≡ AnswersUpgrade s.place.layout copy (sum s.tally.counts) line
+  answer_is told copy line =
       let stands = stands_told told in
       let records : len (map_of a.held) ≡ sum s.tally.counts = counted_all s.place.layout s.place.region s.tally.height s.tally.counts a.held stands in
-      (λ i. AnswersUpgrade (stands.settled.layout_is i) (stands.settled.region_is i) (records i) line)
+      (λ i. AnswersUpgrade (stands.settled.layout_is i) copy (records i) line)
 
-  due_of : Told a → (line : Reply) → AnswersUpgrade s.place.layout s.place.region (sum s.tally.counts) line → IsUpgradeAnswer a.held line
-  due_of told line answers = subst (λ (x : Type 0). x) (sym (answer_is told line)) answers
+  -- with the copy that is live
+  due_of : Told a → (held : List ℕ) → held ≡ a.held → (line : Reply) → AnswersUpgrade s.place.layout s.place.region (sum s.tally.counts) line → AnswersUpgrade (layout_in a.held) (live_copy held) (len (map_of a.held)) line
+  due_of told held same line answers =
+      let region : live_copy held ≡ s.place.region = ap live_copy same ∙ (stands_told told).settled.region_is in
+      subst (λ (x : Type 0). x) (sym (answer_is told (live_copy held) line)) (subst (λ (n : ℕ). AnswersUpgrade s.place.layout n (sum s.tally.counts) line) (sym region) answers)
+
+  -- no intent is to be applied, at any moment before
+  none_told : Told a → has_pending a.held ≡ false
+  none_told told = opened.no_intent a.held (inl (told, refl))
+
+  none_left : (image : List ℕ) → Honest a → a.may_leave image → has_pending image ≡ false
+  none_left image honest left = opened.no_intent image (inr (honest, left))
 
   module _ (place : Place) (b d : View) where
     -- a refusal
@@ -113,16 +152,17 @@ module _ (a : View) (s : StoreView) (opened : IsOpenOn s a) where
         → (Told a → (b.held ≡ a.held) × (b.travel ≡ a.travel)) → (Told a → AnswersUpgrade s.place.layout s.place.region (sum s.tally.counts) line) → UpgradesOpened REFUSED s.place.layout s.tally.height a d
     refused_by r facts line refuses is says whole same due = record {
       status_is = inr (inl refl);
-      run = run_said opened.on.settled facts.steps (λ old new step. keeps_upgraded step) says;
-      held = λ told. subst (KeepsMap a.held) (sym says.held) (keeps_upgraded (facts.steps.held told));
+      run = run_said opened.on.settled facts.steps (λ old new honest left step. keeps_upgraded (none_left old honest left) step) says;
+      held = λ told. subst (KeepsMeaning a.held) (sym says.held) (keeps_upgraded (none_told told) (facts.steps.held told));
       due = λ e. absurd (omega (arith, e));
-      represents = λ e. absurd (omega (arith, e));
+      means = λ e. absurd (omega (arith, e));
+      no_intent = λ e. absurd (omega (arith, e));
       layout = λ e. absurd (omega (arith, e));
       array = λ e. absurd (omega (arith, e));
       settled = λ e. absurd (omega (arith, e));
       silent = λ never. absurd (never refl);
       line = λ e told. (line, refuses, from told);
-      why = λ e told. (line, due_of told line (due told), from);
+      why = λ e told. (line, due_of told d.held (says.held ∙ (same told).0) line (due told), from);
       kept = λ e told. (says.held ∙ (same told).0, ap (λ (t : Travel). t.written) (says.travel ∙ (same told).1));
       written = omega (arith, facts.cost, ap (λ (t : Travel). t.written) says.travel);
       disk = λ e. absurd (omega (arith, e));
@@ -135,10 +175,11 @@ module _ (a : View) (s : StoreView) (opened : IsOpenOn s a) where
     failed_by : Facts (Err Failed) s place a b → UpgradesOpened DISK_FAULT s.place.layout s.tally.height a b
     failed_by facts = record {
       status_is = inr (inr refl);
-      run = run_of_steps (λ image said. KeepsMap a.held image) facts.steps (λ honest start image left step. subst (λ (x : List ℕ). KeepsMap x image) (opened.on.settled honest start left) (keeps_upgraded step));
-      held = λ told. keeps_upgraded (facts.steps.held told);
+      run = run_of_steps (λ image said. KeepsMeaning a.held image) facts.steps (λ honest start image left step. subst (λ (x : List ℕ). KeepsMeaning x image) (opened.on.settled honest start left) (keeps_upgraded (none_left start honest left) step));
+      held = λ told. keeps_upgraded (none_told told) (facts.steps.held told);
       due = λ e. absurd (omega (arith, e));
-      represents = λ e. absurd (omega (arith, e));
+      means = λ e. absurd (omega (arith, e));
+      no_intent = λ e. absurd (omega (arith, e));
       layout = λ e. absurd (omega (arith, e));
       array = λ e. absurd (omega (arith, e));
       settled = λ e. absurd (omega (arith, e));
@@ -154,13 +195,14 @@ module _ (a : View) (s : StoreView) (opened : IsOpenOn s a) where
     done_by : Facts (Ok Done) s place a b → UpgradesOpened DONE s.place.layout s.tally.height a b
     done_by facts = record {
       status_is = inl refl;
-      run = run_of_steps (λ image said. KeepsMap a.held image) facts.steps (λ honest start image left step. subst (λ (x : List ℕ). KeepsMap x image) (opened.on.settled honest start left) (keeps_upgraded step));
-      held = λ told. keeps_upgraded (facts.steps.held told);
-      due = λ e told line answers. not_due line (subst (λ (x : Type 0). x) (answer_is told line) answers);
-      represents = λ e told m here.
+      run = run_of_steps (λ image said. KeepsMeaning a.held image) facts.steps (λ honest start image left step. subst (λ (x : List ℕ). KeepsMeaning x image) (opened.on.settled honest start left) (keeps_upgraded (none_left start honest left) step));
+      held = λ told. keeps_upgraded (none_told told) (facts.steps.held told);
+      due = λ e told copy line answers. not_due copy line (subst (λ (x : Type 0). x) (answer_is told copy line) answers);
+      means = λ e told m here.
           let new = stands_new told in
           let is : m ≡ map_of b.held = elim ((facts.steps.held told).map_is m s.tally.height here) [ inl same ↦ (determined b.held m s.tally.height same).0 | inr other ↦ (determined b.held m next other).0 ] in
-          subst (λ (n : Map). Represents b.held n next) (sym is) (subst (Represents b.held (map_of b.held)) new.height_is new.settled.represents);
+          means_idle b.held m next (subst (λ (n : Map). Represents b.held n next) (sym is) (subst (Represents b.held (map_of b.held)) new.height_is new.settled.represents)) (none_new told);
+      no_intent = λ e told. none_new told;
       layout = λ e told. (stands_new told).settled.layout_is ∙ ap (λ (p : Place). p.layout) (facts.place_is refl) ∙ sym (ap widened (stands_told told).settled.layout_is);
       array = λ e told. facts.array refl told;
       settled = λ e. facts.settled;
@@ -175,13 +217,16 @@ module _ (a : View) (s : StoreView) (opened : IsOpenOn s a) where
         next : ℕ
         next = upgraded_height s.place.layout s.tally.height
 
+        none_new : Told a → has_pending b.held ≡ false
+        none_new told = still_none a.held b.held (facts.steps.held told) (none_told told)
+
         stands_new : Told a → StandsWith place.layout place.region next (resized_counts s.tally.counts next) b.held
         stands_new told = facts.stands refl b.held (inl (ap (λ f. f.tells_held) facts.steps.frame.fixed ∙ told, refl))
 
-        not_due : (line : Reply) → AnswersUpgrade s.place.layout s.place.region (sum s.tally.counts) line → ⊥
-        not_due line (inl already) = let e : Ok Done ≡ Ok Already = facts.already.1 already.0 in cc
-        not_due line (inr (inl one)) = let e : Ok Done ≡ Ok OneSegment = facts.one_segment.1 (one.0, one.1) in cc
-        not_due line (inr (inr many)) =
+        not_due : (copy : ℕ) (line : Reply) → AnswersUpgrade s.place.layout copy (sum s.tally.counts) line → ⊥
+        not_due copy line (inl already) = let e : Ok Done ≡ Ok Already = facts.already.1 already.0 in cc
+        not_due copy line (inr (inl one)) = let e : Ok Done ≡ Ok OneSegment = facts.one_segment.1 (one.0, one.1) in cc
+        not_due copy line (inr (inr many)) =
             let e : Ok Done ≡ Ok (TooMany (sum s.tally.counts)) = (facts.too_many (sum s.tally.counts)).1 (record { narrow_is = many.0; some = many.1; above = many.2; number = refl }) in
             cc
 
@@ -222,10 +267,10 @@ pub record Comes (status : ℕ) (a b : View) : Type 0 where
   pub upgraded : UpgradesFile status a b
   pub disk : status ≡ DISK_FAULT → Rose a.disk_faults b.disk_faults
 
-module _ (a b : View) (law : Lawful a) (ab : Steps Opens (attached_by false a) b) where
+module _ (a b : View) (law : Lawful a) (ab : Steps Reopens (attached_by false a) b) where
   -- of a file that was not opened: nothing was done but what an opening does
-  unopened_run : {d : View} {text : List ℕ} → NothingPending a → Says text b d → Run (λ image said. KeepsMap a.held image) (attached_by false a) d
-  unopened_run nothing says = run_said nothing ab (λ old new step. keeps_opened step) says
+  unopened_run : {d : View} {text : List ℕ} → NothingPending a → Says text b d → Run (λ image said. KeepsMeaning a.held image) (attached_by false a) d
+  unopened_run nothing says = run_said nothing ab (λ old new honest left step. keeps_opened step) says
 
   module _ (d : View) where
     -- it isn't refused
@@ -234,14 +279,14 @@ module _ (a b : View) (law : Lawful a) (ab : Steps Opens (attached_by false a) b
       status_is = inr (inr is);
       attached = ab.frame.attached;
       upgraded = record {
-        steps = λ nothing. run_of_steps (λ image said. KeepsMap a.held image) ab (λ honest start image left step. subst (λ (x : List ℕ). KeepsMap x image) (nothing honest start left) (keeps_opened step));
+        steps = λ nothing. run_of_steps (λ image said. KeepsMeaning a.held image) ab (λ honest start image left step. subst (λ (x : List ℕ). KeepsMeaning x image) (nothing honest start left) (keeps_opened step));
         held = λ told. keeps_opened (ab.held told);
         done = λ e. absurd (other DONE ((λ x. omega (arith, x)), (λ x. omega (arith, x))) e);
         settled = λ e. absurd (other DONE ((λ x. omega (arith, x)), (λ x. omega (arith, x))) e);
         silent = λ e. ab.frame.said;
         refused = λ e. absurd (other REFUSED ((λ x. omega (arith, x)), (λ x. omega (arith, x))) e);
         memory = λ e. unopened.memory (memory e);
-        complete = λ told m height here calm. elim is [ inl e ↦ absurd (calm (unopened.failed (failed e))) | inr e ↦ inr (inl e) ];
+        complete = λ told m here calm. elim is [ inl e ↦ absurd (calm (unopened.failed (failed e))) | inr e ↦ inr (inl e) ];
         written = λ told. omega (arith, unopened.cost told);
       };
       disk = λ e. unopened.failed (failed e);
@@ -251,19 +296,19 @@ module _ (a b : View) (law : Lawful a) (ab : Steps Opens (attached_by false a) b
         other n none e = elim is [ inl x ↦ none.0 (sym e ∙ x) | inr x ↦ none.1 (sym e ∙ x) ]
 
     -- it is refused, and represents no map
-    refused_file : (line : Reply) → IsRefusal line → IsUpgradeRefused a d → {text : List ℕ} → Says text b d → (Told a → b.travel.written ≤ a.travel.written + opening_cost (layout_in a.held)) → (Told a → (m : Map) (height : ℕ) → Represents a.held m height → ⊥) → Comes REFUSED a d
+    refused_file : (line : Reply) → IsRefusal line → IsUpgradeRefused a d → {text : List ℕ} → Says text b d → (Told a → b.travel.written ≤ a.travel.written + reopening_cost a.held) → (Told a → (m : Map) → MeansMap a.held m → ⊥) → Comes REFUSED a d
     refused_file line refuses refused says cost never = record {
       status_is = inr (inl refl);
       attached = says.attached ∙ ab.frame.attached;
       upgraded = record {
         steps = λ nothing. unopened_run nothing says;
-        held = λ told. subst (KeepsMap a.held) (sym says.held) (keeps_opened (ab.held told));
+        held = λ told. subst (KeepsMeaning a.held) (sym says.held) (keeps_opened (ab.held told));
         done = λ e. absurd (omega (arith, e));
         settled = λ e. absurd (omega (arith, e));
         silent = λ other. absurd (other refl);
         refused = λ e. refused;
         memory = λ e. absurd (omega (arith, e));
-        complete = λ told m height here. absurd (never told m height here);
+        complete = λ told m here calm. absurd (never told m here);
         written = λ told. omega (arith, cost told, ap (λ (t : Travel). t.written) says.travel);
       };
       disk = λ e. absurd (omega (arith, e));
@@ -278,8 +323,10 @@ module _ (a b : View) (law : Lawful a) (ab : Steps Opens (attached_by false a) b
           line = λ told. (reply.NotStore reason, tt, from told);
           why = λ told. (reply.NotStore reason, inl (reason, unopened.refused reason refl told, refl), from);
           recovers = λ told r is. ap (recovered (layout_in a.held)) says.held ∙ unopened.recovers reason refl told;
-          kept = λ told rest. (says.held ∙ unopened.even reason refl told rest.gate_even, ap (λ (t : Travel). t.written) says.travel ∙ unopened.unwritten told rest);
-        }) says unopened.cost (λ told m height here. none_some (sym (none_of_represents a.held m height here) ∙ unopened.refused reason refl told))
+          even = λ told r is even. says.held ∙ unopened.even reason refl told even;
+          copy = λ told none. ap live_copy says.held ∙ (ab.held told).copy none;
+          kept = λ told rest. (says.held ∙ unopened.even reason refl told rest.rest.gate_even, ap (λ (t : Travel). t.written) says.travel ∙ unopened.unwritten told rest);
+        }) says unopened.cost (λ told m here. none_some (sym (none_of_means a.held m here.0 here.1) ∙ unopened.refused reason refl told))
       where
         none_some : {r : Reason} → None ≡ Some r → ⊥
         none_some is = cc
@@ -291,6 +338,8 @@ module _ (a b : View) (law : Lawful a) (ab : Steps Opens (attached_by false a) b
           line = λ told. (reply.Damaged segment why, tt, from told);
           why = λ told. absurd (unopened.undamaged told);
           recovers = λ told. absurd (unopened.undamaged told);
+          even = λ told. absurd (unopened.undamaged told);
+          copy = λ told. absurd (unopened.undamaged told);
           kept = λ told. absurd (unopened.undamaged told);
         }) says unopened.cost (λ told. absurd (unopened.undamaged told))
       where
@@ -305,35 +354,38 @@ module _ (a b : View) (law : Lawful a) (ab : Steps Opens (attached_by false a) b
     stands_opened : Told a → StandsWith v.place.layout v.place.region v.tally.height v.tally.counts b.held
     stands_opened told = (opened.store.on.stands b.held (inl (on told, refl))).balanced.stands
 
-    same_layout : Told a → v.place.layout ≡ layout_in a.held
-    same_layout told = sym (stands_opened told).settled.layout_is ∙ layout_opened a.held b.held (ab.held told)
+    same_layout : Told a → layout_in b.held ≡ layout_in a.held
+    same_layout told = (stands_opened told).settled.layout_is ∙ opened.layout told
 
-    same_map : Told a → map_of b.held ≡ map_of a.held
-    same_map told = ap (λ (s : ArrayState). s.map) (opened.state told)
+    -- the map that the file meant
+    same_map : Told a → map_of b.held ≡ meant_map a.held
+    same_map told = ap (λ (s : ArrayState). s.map) (opened.state told) ∙ opened_map a.held
 
     -- the height at which the store was opened
-    same_height : Told a → v.tally.height ≡ height_of a.held
+    same_height : Told a → v.tally.height ≡ opened_height a.held
     same_height told = sym (stands_opened told).height_is ∙ ap (λ (s : ArrayState). s.height) (opened.state told)
 
-    same_answer : Told a → (line : Reply) → IsUpgradeAnswer b.held line ≡ IsUpgradeAnswer a.held line
-    same_answer told line = (λ i. AnswersUpgrade (layout_opened a.held b.held (ab.held told) i) (live_opened a.held b.held (ab.held told) i) (len (same_map told i)) line)
+    same_answer : Told a → (copy : ℕ) (line : Reply) → AnswersUpgrade (layout_in b.held) copy (len (map_of b.held)) line ≡ AnswersUpgrade (layout_in a.held) copy (len (meant_map a.held)) line
+    same_answer told copy line = (λ i. AnswersUpgrade (same_layout told i) copy (len (same_map told i)) line)
 
-    same_next : Told a → upgraded_height v.place.layout v.tally.height ≡ upgraded_height (layout_in a.held) (height_of a.held)
-    same_next told = (λ i. upgraded_height (same_layout told i) (same_height told i))
+    same_next : Told a → upgraded_height v.place.layout v.tally.height ≡ next_height a.held
+    same_next told = (λ i. upgraded_height (opened.layout told i) (same_height told i))
 
-    answer_before : Told a → (line : Reply) → IsUpgradeAnswer b.held line → IsUpgradeAnswer a.held line
-    answer_before told line = subst (λ (x : Type 0). x) (same_answer told line)
+    answer_before : Told a → (copy : ℕ) (line : Reply) → AnswersUpgrade (layout_in b.held) copy (len (map_of b.held)) line → AnswersUpgrade (layout_in a.held) copy (len (meant_map a.held)) line
+    answer_before told copy line = subst (λ (x : Type 0). x) (same_answer told copy line)
 
     module _ (status : ℕ) (d : View) (upgrades : UpgradesOpened status v.place.layout v.tally.height b d) where
       was_upgraded : status ≡ DONE → Told a → IsUpgraded a.held d.held
       was_upgraded e told = record {
         sound = opened.sound told;
-        due = λ line answers. upgrades.due e (on told) line (subst (λ (x : Type 0). x) (sym (same_answer told line)) answers);
-        represents = λ m height here.
-            let is : height ≡ height_of a.held = (determined a.held m height here).1 in
-            let opened_too : Represents b.held m v.tally.height = subst (Represents b.held m) (is ∙ sym (same_height told)) ((ab.held told).map m height here) in
-            subst (λ (h : ℕ). Represents d.held m h) (same_next told ∙ ap (upgraded_height (layout_in a.held)) (sym is)) (upgrades.represents e (on told) m opened_too);
-        layout = upgrades.layout e (on told) ∙ ap widened (layout_opened a.held b.held (ab.held told));
+        due = λ copy line answers. upgrades.due e (on told) copy line (subst (λ (x : Type 0). x) (sym (same_answer told copy line)) answers);
+        means = λ m height here.
+            let own : map_of b.held ≡ m = same_map told ∙ sym (meant_one a.held m height here).0 in
+            let stands = stands_opened told in
+            let represents : Represents b.held m v.tally.height = subst (λ (n : Map). Represents b.held n v.tally.height) own (subst (Represents b.held (map_of b.held)) stands.height_is stands.settled.represents) in
+            subst (Means d.held m) (same_next told) (upgrades.means e (on told) m represents);
+        no_intent = upgrades.no_intent e (on told);
+        layout = upgrades.layout e (on told) ∙ ap widened (same_layout told);
         array = upgrades.array e (on told) ∙ (λ i. resized (opened.state told i).array (same_next told i));
       }
 
@@ -342,8 +394,10 @@ module _ (a b : View) (law : Lawful a) (ab : Steps Opens (attached_by false a) b
         line = λ told. let last = upgrades.line e (ap (λ f. f.tells_said) ab.frame.fixed ∙ told) in (last.0, last.1, said_since a b d last.0 ab.frame.said (sym ab.frame.say_faults) last.2);
         why = λ told.
             let last = upgrades.why e (on told) in
-            (last.0, inr (opened.sound told, answer_before told last.0 last.1), (λ said. said_since a b d last.0 ab.frame.said (sym ab.frame.say_faults) (last.2 (ap (λ f. f.tells_said) ab.frame.fixed ∙ said))));
+            (last.0, inr (opened.sound told, answer_before told (live_copy d.held) last.0 last.1), (λ said. said_since a b d last.0 ab.frame.said (sym ab.frame.say_faults) (last.2 (ap (λ f. f.tells_said) ab.frame.fixed ∙ said))));
         recovers = λ told r is. absurd (none_some (sym (opened.sound told) ∙ is));
+        even = λ told r is. absurd (none_some (sym (opened.sound told) ∙ is));
+        copy = λ told none. ap live_copy (upgrades.kept e (on told)).0 ∙ (ab.held told).copy none;
         kept = λ told rest. let kept = upgrades.kept e (on told) in (kept.0 ∙ opened.kept told rest, kept.1 ∙ opened.unwritten told rest);
       }
         where
@@ -356,8 +410,8 @@ module _ (a b : View) (law : Lawful a) (ab : Steps Opens (attached_by false a) b
         attached = upgrades.run.attached ∙ ab.frame.attached;
         upgraded = record {
           steps = λ nothing.
-              let P : List ℕ → List ℕ → Type 0 = λ image said. KeepsMap a.held image in
-              run_on P (run_of_steps P ab (λ honest start image left step. subst (λ (x : List ℕ). KeepsMap x image) (nothing honest start left) (keeps_opened step))) upgrades.run
+              let P : List ℕ → List ℕ → Type 0 = λ image said. KeepsMeaning a.held image in
+              run_on P (run_of_steps P ab (λ honest start image left step. subst (λ (x : List ℕ). KeepsMeaning x image) (nothing honest start left) (keeps_opened step))) upgrades.run
               (λ honest image said keeps. keeps)
               (λ honest image said keeps. keeps_on (keeps_opened (ab.held (law.tells honest).0)) keeps);
           held = λ told. keeps_on (keeps_opened (ab.held told)) (upgrades.held (on told));
@@ -366,9 +420,9 @@ module _ (a b : View) (law : Lawful a) (ab : Steps Opens (attached_by false a) b
           silent = λ other. upgrades.silent other ∙ ab.frame.said;
           refused = was_refused;
           memory = λ e. absurd (elim upgrades.status_is [ inl x ↦ omega (arith, e, x) | inr (inl x) ↦ omega (arith, e, x) | inr (inr x) ↦ omega (arith, e, x) ]);
-          complete = λ told m height here calm. elim upgrades.status_is [
+          complete = λ told m here calm. elim upgrades.status_is [
             | inl e ↦ inl e
-            | inr (inl e) ↦ let last = upgrades.why e (on told) in inr (inr (e, (last.0, answer_before told last.0 last.1)))
+            | inr (inl e) ↦ let last = upgrades.why e (on told) in inr (inr (e, (last.0, answer_before told (live_copy d.held) last.0 last.1)))
             | inr (inr e) ↦ absurd (calm (disk_from e))
           ];
           written = λ told. omega (arith, opened.cost told, upgrades.written, same_cost told);
@@ -379,5 +433,5 @@ module _ (a b : View) (law : Lawful a) (ab : Steps Opens (attached_by false a) b
           disk_from : status ≡ DISK_FAULT → Rose a.disk_faults d.disk_faults
           disk_from e = omega (arith, upgrades.disk e, ab.frame.disk_faults)
 
-          same_cost : Told a → upgrade_cost v.place.layout v.tally.height ≡ upgrade_cost (layout_in a.held) (height_of a.held)
-          same_cost told = (λ i. upgrade_cost (same_layout told i) (same_height told i))
+          same_cost : Told a → upgrade_cost v.place.layout v.tally.height ≡ upgrade_cost (layout_in a.held) (opened_height a.held)
+          same_cost told = (λ i. upgrade_cost (opened.layout told i) (same_height told i))

@@ -4,7 +4,7 @@ use Rattle.std.specs.FinMap.{len}
 use Rattle.station.specs.View.{View, Told, SaidTold, NothingPending, Rose, attached_by}
 use Rattle.station.specs.Steps.{Run}
 use Rattle.density_rule.specs.Bounds.{upper_of}
-use Rattle.header_gate.specs.Header.{live_copy, layout_in}
+use Rattle.header_gate.specs.Header.{gate, live_copy, layout_in}
 use Rattle.header_gate.specs.Places.{segment_size}
 use Rattle.header_gate.specs.Recovered.{recovered}
 use Rattle.header_gate.specs.declared.layout.Layout.{Layout}
@@ -12,20 +12,18 @@ use Rattle.header_gate.specs.declared.reason.Reason.{Reason}
 use Rattle.header_gate.specs.declared.reason.Reason.TheVariants.{Format}
 use Rattle.key_slot.specs.Format.{narrow, wide}
 use Rattle.map_model.specs.Array.{resized}
-use Rattle.map_model.specs.ArrayState.{opened_state}
-use Rattle.map_model.specs.Image.{Represents, RepresentsMap, array_of, height_of, map_of}
-use Rattle.map_model.specs.Reasons.{reason_of}
+use Rattle.map_model.specs.Image.{Represents, array_of, map_of}
 use Rattle.map_model.specs.Store.{Map}
+use Rattle.batch_intent.specs.Means.{Means, MeansMap, has_pending, meant_map, opened_items_state, opening_reason}
 use Rattle.segment.specs.declared.fault.StoreFault.{StoreFault}
 use Rattle.segment.specs.declared.fault.StoreFault.TheVariants.{Failed, Damaged}
-use Rattle.recovery.specs.Costs.{opening_cost}
-use Rattle.recovery.specs.Restores.{IsAtRest}
 use Rattle.resize_region.specs.Upgraded.{widened, upgraded_height}
 use Rattle.resize_region.specs.declared.outcome.Upgrade.{Upgrade}
 use Rattle.resize_region.specs.declared.outcome.Upgrade.TheVariants.{Done, Already, OneSegment, TooMany}
 use Rattle.command_text.specs.declared.reply.Reply.{Reply}
 use Rattle.command_text.specs.declared.reply.Reply.TheVariants as reply
-use Rattle.pma_engine.specs.Opening.{IsOutOfMemory}
+use Rattle.pma_store.specs.Opens.{IsAllAtRest}
+use Rattle.pma_engine.specs.Opening.{IsOutOfMemory, reopening_cost}
 use Rattle.pma_engine.specs.Refusing.{IsRefusal, SaysLine}
 use Rattle.pma_engine.specs.declared.status.TheConstants.{DONE, REFUSED, DISK_FAULT, OUT_OF_MEMORY}
 
@@ -58,35 +56,47 @@ AnswersUpgrade l copy records line = ((l.format ≡ wide) × (line ≡ reply.Not
     ⊎ (((l.format ≡ narrow) × (l.hmax ≡ 0) × (line ≡ reply.OneSegment))
     ⊎ ((l.format ≡ narrow) × (1 ≤ l.hmax) × (upper_of (l.hmax - 1) < records) × (line ≡ reply.TooMany records)))
 
--- the store of an image isn't upgraded, and this line says why
-abbrev pub IsUpgradeAnswer : List ℕ → Reply → Type 0
-IsUpgradeAnswer image line = AnswersUpgrade (layout_in image) (live_copy image) (len (map_of image)) line
+-- the store of an old image isn't upgraded, and this line says why, with the number of the copy that is live in the new one
+abbrev pub IsUpgradeAnswer : List ℕ → List ℕ → Reply → Type 0
+IsUpgradeAnswer old new line = AnswersUpgrade (layout_in old) (live_copy new) (len (meant_map old)) line
 
 -- why the upgrade of a file is refused: the first reason against the file, or that answer
-abbrev pub IsUpgradeRefusal : List ℕ → Reply → Type 0
-IsUpgradeRefusal image line = ((r : Reason) × (reason_of image ≡ Some r) × (line ≡ reply.NotStore r))
-    ⊎ ((reason_of image ≡ None) × IsUpgradeAnswer image line)
+abbrev pub IsUpgradeRefusal : List ℕ → List ℕ → Reply → Type 0
+IsUpgradeRefusal old new line = ((r : Reason) × (opening_reason old ≡ Some r) × (line ≡ reply.NotStore r))
+    ⊎ ((opening_reason old ≡ None) × IsUpgradeAnswer old new line)
 
--- the new image represents each map that the old one does
-abbrev pub KeepsMap : List ℕ → List ℕ → Type 0
-KeepsMap old new = (m : Map) → RepresentsMap old m → RepresentsMap new m
+-- the new image means each map that the old one does
+abbrev pub KeepsMeaning : List ℕ → List ℕ → Type 0
+KeepsMeaning old new = (m : Map) → MeansMap old m → MeansMap new m
+
+-- the height of a store once it is opened, and once it is upgraded
+abbrev pub opened_height : List ℕ → ℕ
+opened_height image = (opened_items_state image).height
+
+abbrev pub next_height : List ℕ → ℕ
+next_height image = upgraded_height (layout_in image) (opened_height image)
 
 -- A store was upgraded: it isn't one that is refused; it has slot format 2, with the layout else as it was; and the array, as
 -- an opening makes it, is spread over the segments of the height that it may have then.
 pub record IsUpgraded (old new : List ℕ) : Type 0 where
-  pub sound : reason_of old ≡ None
-  pub due : (line : Reply) → IsUpgradeAnswer old line → ⊥
-  pub represents : (m : Map) (height : ℕ) → Represents old m height → Represents new m (upgraded_height (layout_in old) height)
+  pub sound : opening_reason old ≡ None
+  pub due : (copy : ℕ) (line : Reply) → AnswersUpgrade (layout_in old) copy (len (meant_map old)) line → ⊥
+  pub means : (m : Map) (height : ℕ) → Means old m height → Means new m (next_height old)
+  -- so it represents that map: no items of an intent wait for longer slots
+  pub no_intent : has_pending new ≡ false
   pub layout : layout_in new ≡ widened (layout_in old)
-  pub array : array_of new ≡ resized (opened_state old).array (upgraded_height (layout_in old) (height_of old))
+  pub array : array_of new ≡ resized (opened_items_state old).array (next_height old)
 
 -- An upgrade was refused, and one line says so. Over a station that tells its bytes it tells the reason or the answer; a file
--- that is no store recovers to what it recovered to, and where an opening had nothing to do, every byte is as it was.
+-- that is no store recovers to what it recovered to, and where its gate is even, it is as before; and where an opening had
+-- nothing to do, every byte is as it was. The copy that is live is the one that was, where no items are to be applied.
 pub record IsUpgradeRefused (a b : View) : Type 0 where
   pub line : SaidTold a → (line : Reply) × IsRefusal line × SaysLine line a.said a b
-  pub why : Told a → (line : Reply) × IsUpgradeRefusal a.held line × (SaidTold a → SaysLine line a.said a b)
-  pub recovers : Told a → (r : Reason) → reason_of a.held ≡ Some r → recovered (layout_in a.held) b.held ≡ recovered (layout_in a.held) a.held
-  pub kept : Told a → IsAtRest a.held → (b.held ≡ a.held) × (b.travel.written ≡ a.travel.written)
+  pub why : Told a → (line : Reply) × IsUpgradeRefusal a.held b.held line × (SaidTold a → SaysLine line a.said a b)
+  pub recovers : Told a → (r : Reason) → opening_reason a.held ≡ Some r → recovered (layout_in a.held) b.held ≡ recovered (layout_in a.held) a.held
+  pub even : Told a → (r : Reason) → opening_reason a.held ≡ Some r → gate a.held ≡ 0 → b.held ≡ a.held
+  pub copy : Told a → has_pending a.held ≡ false → live_copy b.held ≡ live_copy a.held
+  pub kept : Told a → IsAllAtRest a.held → (b.held ≡ a.held) × (b.travel.written ≡ a.travel.written)
 
 -- at most so many bytes are written by the upgrade of a store of this layout and height: the other region's segments, and a flip
 abbrev pub upgrade_cost : Layout → ℕ → ℕ
@@ -94,8 +104,8 @@ upgrade_cost l height = segment_size (widened l) * 2 ^ upgraded_height l height 
 
 -- `upgrade`: no moment and no status changes the map
 pub record UpgradesFile (status : ℕ) (a b : View) : Type 0 where
-  pub steps : NothingPending a → Run (λ image said. KeepsMap a.held image) (attached_by false a) b
-  pub held : Told a → KeepsMap a.held b.held
+  pub steps : NothingPending a → Run (λ image said. KeepsMeaning a.held image) (attached_by false a) b
+  pub held : Told a → KeepsMeaning a.held b.held
   pub done : status ≡ DONE → Told a → IsUpgraded a.held b.held
   pub settled : status ≡ DONE → NothingPending b
   -- but for a line of refusal nothing is said
@@ -103,23 +113,24 @@ pub record UpgradesFile (status : ℕ) (a b : View) : Type 0 where
   pub refused : status ≡ REFUSED → IsUpgradeRefused a b
   pub memory : status ≡ OUT_OF_MEMORY → IsOutOfMemory a b
   -- of a store: where no disk call failed, it ends so, or for want of memory, or with the one answer that is due
-  pub complete : Told a → (m : Map) (height : ℕ) → Represents a.held m height → (Rose a.disk_faults b.disk_faults → ⊥) →
-      (status ≡ DONE) ⊎ ((status ≡ OUT_OF_MEMORY) ⊎ ((status ≡ REFUSED) × ((line : Reply) × IsUpgradeAnswer a.held line)))
-  pub written : Told a → b.travel.written ≤ a.travel.written + (opening_cost (layout_in a.held) + upgrade_cost (layout_in a.held) (height_of a.held))
+  pub complete : Told a → (m : Map) → MeansMap a.held m → (Rose a.disk_faults b.disk_faults → ⊥) →
+      (status ≡ DONE) ⊎ ((status ≡ OUT_OF_MEMORY) ⊎ ((status ≡ REFUSED) × ((line : Reply) × IsUpgradeAnswer a.held b.held line)))
+  pub written : Told a → b.travel.written ≤ a.travel.written + (reopening_cost a.held + upgrade_cost (layout_in a.held) (opened_height a.held))
 
--- what the upgrade of an open store came to, on whose station nothing is pending
+-- what the upgrade of an open store came to, on whose station nothing is pending; its file has no intent that is to be applied
 pub record UpgradesOpened (status : ℕ) (l : Layout) (height : ℕ) (a b : View) : Type 0 where
   pub status_is : (status ≡ DONE) ⊎ ((status ≡ REFUSED) ⊎ (status ≡ DISK_FAULT))
-  pub run : Run (λ image said. KeepsMap a.held image) a b
-  pub held : Told a → KeepsMap a.held b.held
-  pub due : status ≡ DONE → Told a → (line : Reply) → IsUpgradeAnswer a.held line → ⊥
-  pub represents : status ≡ DONE → Told a → (m : Map) → Represents a.held m height → Represents b.held m (upgraded_height l height)
+  pub run : Run (λ image said. KeepsMeaning a.held image) a b
+  pub held : Told a → KeepsMeaning a.held b.held
+  pub due : status ≡ DONE → Told a → (copy : ℕ) (line : Reply) → AnswersUpgrade (layout_in a.held) copy (len (map_of a.held)) line → ⊥
+  pub means : status ≡ DONE → Told a → (m : Map) → Represents a.held m height → Means b.held m (upgraded_height l height)
+  pub no_intent : status ≡ DONE → Told a → has_pending b.held ≡ false
   pub layout : status ≡ DONE → Told a → layout_in b.held ≡ widened (layout_in a.held)
   pub array : status ≡ DONE → Told a → array_of b.held ≡ resized (array_of a.held) (upgraded_height l height)
   pub settled : status ≡ DONE → NothingPending b
   pub silent : (status ≡ REFUSED → ⊥) → b.said ≡ a.said
   pub line : status ≡ REFUSED → SaidTold a → (line : Reply) × IsRefusal line × SaysLine line a.said a b
-  pub why : status ≡ REFUSED → Told a → (line : Reply) × IsUpgradeAnswer a.held line × (SaidTold a → SaysLine line a.said a b)
+  pub why : status ≡ REFUSED → Told a → (line : Reply) × AnswersUpgrade (layout_in a.held) (live_copy b.held) (len (map_of a.held)) line × (SaidTold a → SaysLine line a.said a b)
   pub kept : status ≡ REFUSED → Told a → (b.held ≡ a.held) × (b.travel.written ≡ a.travel.written)
   pub written : b.travel.written ≤ a.travel.written + upgrade_cost l height
   pub disk : status ≡ DISK_FAULT → Rose a.disk_faults b.disk_faults

@@ -3,8 +3,7 @@
 ghost use Rattle.std.specs.Prelude.{◌≡◌, None, Some, false, IfOk, IfErr};
 ghost use Rattle.station.specs.Steps.{Steps, Says};
 ghost use Rattle.station.specs.View.{SaidTold, NamedBy, attached_by};
-ghost use Rattle.recovery.specs.Restores.{Opens};
-ghost use Rattle.pma_engine.specs.Opening.{IsOpened, IsUnopened};
+ghost use Rattle.pma_engine.specs.Opening.{IsOpened, IsUnopened, Reopens};
 ghost use Rattle.pma_engine.specs.Refusing.{SaysLine, line_text, line_of_opening, status_of_opening};
 
 use crate::refusing::say_refusal;
@@ -15,7 +14,7 @@ use recovery::OpenFault;
 use station::Station;
 use std::alloc::Global;
 
-/// Attaches the file of that name, and opens its store.
+/// Attaches the file of that name, and opens its store: the items of an intent that is to be applied are made.
 pub(crate) fn open_file<S: Station>(
     alloc: Global,
     station: &mut S,
@@ -25,7 +24,7 @@ pub(crate) fn open_file<S: Station>(
     requires named { NamedBy name.now (S.view station.old).fixed.name }
     ensures opened { IfOk result (λ store. IsOpened store (S.view station.old) (S.view station.new)) }
     ensures unopened { IfErr result (λ fault. IsUnopened fault (S.view station.old) (S.view station.new)) }
-    ensures steps { Steps Opens (attached_by false (S.view station.old)) (S.view station.new) }
+    ensures steps { Steps Reopens (attached_by false (S.view station.old)) (S.view station.new) }
 {
     let Ok(()) = station.attach(name, false) else {
         return Err(OpenFault::Failed);

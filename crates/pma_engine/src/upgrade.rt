@@ -21,7 +21,8 @@ use std::alloc::Global;
 // The slot format that an upgrade makes.
 const WIDE: u32 = 2;
 
-/// Opens the store of that name, and spreads its records in slots of format 2 over the other region.
+/// Opens the store of that name, and spreads its records in slots of format 2 over the other region. The items of an intent
+/// that is to be applied are made before that, so that none is left for the longer slots.
 ///
 /// A store that isn't upgraded is told in one line, and so is a file that is refused. Else nothing is said.
 pub(crate) fn upgrade_file<S: Station>(alloc: Global, station: &mut S, name: &str) -> u8

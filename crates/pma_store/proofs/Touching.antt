@@ -1,11 +1,11 @@
 -- Which bytes an update touches, call by call.
-use Rattle.std.proofs.Common.{◌≡◌, inl, inr, ℕ, zero, suc, ◌+◌, ◌-◌, ◌*◌, ◌^◌, ◌<◌, ◌≤◌, List, length, Bool, true, false, refl, sym, ap, subst, ◌∙◌, arith}
+use Rattle.std.proofs.Common.{◌≡◌, inl, inr, ℕ, zero, suc, ◌+◌, ◌-◌, ◌*◌, ◌%◌, ◌^◌, ◌<◌, ◌≤◌, List, length, Bool, true, false, refl, sym, ap, subst, ◌∙◌, arith}
 use Rattle.station.specs.Bytes.{byte, InRange, Touched, Same}
 use Rattle.station.specs.View.{View}
 use Rattle.station.specs.Steps.{Steps}
 use Rattle.station.proofs.Composition.{weaken, touched_on, on_same, same_on}
 use Rattle.header_gate.specs.declared.layout.Layout.{Layout}
-use Rattle.header_gate.specs.Header.{number, layout_in}
+use Rattle.header_gate.specs.Header.{number, format_in, layout_in, live_copy}
 use Rattle.header_gate.specs.Places.{page_size, copy_place, region_place}
 use Rattle.header_gate.proofs.NumberLaws.{number_same}
 use Rattle.key_slot.specs.Record.{Record}
@@ -71,6 +71,29 @@ touched_then old mid new one two = record {
   size = two.size ∙ one.size;
   rest = λ k out. two.rest k (λ is. out (same_places (layout_in old) old mid one k is)) ∙ one.rest k out;
 }
+
+-- Moves of records touch neither selector, copies nor identity, so the layout stays.
+
+module _ (place : Place) (old new : List ℕ) (touched : Touched (IsMovePlace place) old new) where
+  unmoved : (k : ℕ) → k < 4096 → (k ≡ 512 → ⊥) → byte new k ≡ byte old k
+  unmoved k low other = touched.rest k (λ is. not_moved is)
+    where
+      not_moved : IsMovePlace place k → ⊥
+      not_moved (inl gate) = other gate
+      not_moved (inr (inl journal)) = omega (arith, journal.0, low)
+      not_moved (inr (inr range)) = omega (arith, range.0, low)
+
+  number_stays : (k : ℕ) → 1024 ≤ k → k + 4 ≤ 4096 → number new k ≡ number old k
+  number_stays k low high = number_same new old k k (λ n x y lt ex ey. let e : x ≡ y = omega arith in unmoved x (omega arith) (λ is. omega (arith, is)) ∙ ap (byte old) e)
+
+  live_stays : live_copy new ≡ live_copy old
+  live_stays = ap (λ (b : ℕ). b % 2) (unmoved 0 (omega arith) (λ is. omega (arith, is)))
+
+  format_stays : format_in (live_copy new) new ≡ format_in (live_copy old) old
+  format_stays = ap (λ (c : ℕ). format_in c new) live_stays ∙ number_stays (copy_place (live_copy old) + 4) (omega arith) (omega arith)
+
+  pub moves_layout : layout_in new ≡ layout_in old
+  moves_layout = λ t. record { hmax = number_stays 3084 (omega arith) (omega arith) t; journal = number_stays 3088 (omega arith) (omega arith) t; version = number_stays 3080 (omega arith) (omega arith) t; format = format_stays t }
 
 -- From a file for which a store stands.
 

@@ -18,10 +18,11 @@ use Rattle.pma_store.specs.Store.{StoreView}
 abbrev pub IsUpdatePlace : Layout → ℕ → Type 0
 IsUpdatePlace l p = (p ≡ 0) ⊎ (InRange (copy_place 0) 8 p ⊎ (InRange (copy_place 1) 8 p ⊎ (IsGatePlace p ⊎ (IsJournalPlace l p ⊎ IsRegionPlace l p))))
 
--- An update in a store with the greatest height hmax: the image represents what the start did, or the map after the update,
--- and each other byte stays.
+-- An update in a store with the greatest height hmax: the image represents what the start did, or the map after the update.
+-- The layout and each other byte stay.
 pub record Updates (hmax : ℕ) (u : Update) (start image : List ℕ) : Type 0 where
   pub map_is : (m : Map) → RepresentsMap start m → RepresentsMap image m ⊎ RepresentsMap image (map_after hmax m u)
+  pub layout_is : layout_in image ≡ layout_in start
   pub touched : Touched (IsUpdatePlace (layout_in start)) start image
 
 -- where the file has its parts after an update, by whether the height changed: a resize makes the other region the live one

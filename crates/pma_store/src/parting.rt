@@ -1,12 +1,31 @@
-//! A store is taken apart.
+//! A store is taken apart, and made of its parts.
 
-ghost use Rattle.std.specs.Prelude.{◌≡◌};
+ghost use Rattle.std.specs.Prelude.{◌≡◌, None, false};
+ghost use Rattle.recovery.specs.Parts.{Fits};
 ghost use Rattle.pma_store.specs.Store.{IsStore};
 
+use crate::array::OpenArray;
 use crate::store::Store;
+use range_scan::HeldPage;
 use recovery::Parts;
+use redo_journal::{Frames, Place};
+use segment::Segment;
+use veb_index::Index;
+use window_tally::Tally;
 
 impl Store {
+    /// The store that has these parts. No items are to be applied.
+    ///
+    /// Where the parts agree with a file, it stands for that file.
+    pub fn from_parts(parts: Parts) -> Store
+        requires none { parts.intent ≡ None }
+        requires fits { Fits parts.place parts.tally parts.index parts.frames.journal }
+        ensures store { result ≡ record { place = parts.place; tally = parts.tally; index = parts.index; journal = parts.frames.journal; closed = false } }
+        ensures is_store { IsStore result }
+    {
+        store_of(parts.place, parts.tally, parts.index, parts.frames)
+    }
+
     /// What the store keeps in memory, for a call that works on the file itself. There is no store after it.
     ///
     /// The parts are the store's own: where it was open, they agree with its file.
@@ -15,6 +34,7 @@ impl Store {
         ensures tally { result.tally ≡ self.tally }
         ensures index { result.index ≡ self.index }
         ensures journal { result.frames.journal ≡ self.journal }
+        ensures intent { result.intent ≡ None }
         ensures store { IsStore self }
     {
         Parts {
@@ -22,6 +42,26 @@ impl Store {
             tally: self.array.tally,
             index: self.array.index,
             frames: self.array.frames,
+            intent: None,
         }
+    }
+}
+
+/// The store that has these parts.
+pub(crate) fn store_of(place: Place, tally: Tally, index: Index, frames: Frames) -> Store
+    requires { Fits place tally index frames.journal }
+    ensures store { result ≡ record { place = place; tally = tally; index = index; journal = frames.journal; closed = false } }
+    ensures is_store { IsStore result }
+{
+    Store {
+        array: OpenArray {
+            place,
+            tally,
+            index,
+            frames,
+            page: HeldPage::new(),
+            closed: false,
+        },
+        rows: Segment::empty(),
     }
 }

@@ -1,6 +1,6 @@
 //! The memory of a store is taken.
 
-ghost use Rattle.std.specs.Prelude.{◌≡◌, ◌≤◌, ◌<◌, IfOk};
+ghost use Rattle.std.specs.Prelude.{◌≡◌, ◌≤◌, ◌<◌, IfOk, None};
 ghost use Rattle.header_gate.specs.Places.{IsLayout, height_limit};
 ghost use Rattle.recovery.specs.Parts.{AreParts};
 ghost use Rattle.window_tally.specs.View.{empty_tally};
@@ -21,6 +21,7 @@ pub(crate) fn make_parts(alloc: Global, header: &Header) -> Result<Parts, AllocE
     requires height { header.now.height ≤ height_limit header.now.layout }
     ensures parts { IfOk result (λ parts. AreParts parts.place parts.tally parts.index parts.frames.journal) }
     ensures place { IfOk result (λ parts. parts.place ≡ record { layout = header.now.layout; region = header.now.live }) }
+    ensures intent { IfOk result (λ parts. parts.intent ≡ None) }
     ensures tally { IfOk result (λ parts. parts.tally ≡ empty_tally (height_limit header.now.layout) header.now.height) }
 {
     let limit = header.layout.height_limit();
@@ -37,5 +38,6 @@ pub(crate) fn make_parts(alloc: Global, header: &Header) -> Result<Parts, AllocE
         tally,
         index,
         frames,
+        intent: None,
     })
 }

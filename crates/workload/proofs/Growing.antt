@@ -4,7 +4,6 @@ use Rattle.std.specs.List.{sum_by}
 use Rattle.std.proofs.lemmas.List.Sums.{sum_by-append, sum_by-cons}
 use Rattle.key_slot.specs.Record.{Record}
 use Rattle.header_gate.specs.declared.layout.Layout.{Layout}
-use Rattle.header_gate.specs.Places.{height_limit}
 use Rattle.map_model.specs.ArrayState.{ArrayState}
 use Rattle.command_text.specs.Answers.{answers, row_line, range_lines}
 use Rattle.command_text.specs.ArraySession.{array_step, array_state_after}
@@ -13,18 +12,18 @@ use Rattle.command_text.specs.declared.reply.Reply.{Reply}
 use Rattle.command_text.specs.declared.reply.Reply.TheVariants.{End}
 use Rattle.workload.specs.Summaries.{is_stored, is_replaced, is_removed, is_absent, is_found, rows_ended, summary_of, counted, CountsBy}
 use Rattle.workload.specs.Generator.{next_draw, draw, generated, command_numbered}
-use Rattle.workload.specs.Generation.{gen_layout, gen_hmax, empty_state, lines_to, gen_state, gen_counts}
+use Rattle.workload.specs.Generation.{gen_layout, empty_state, lines_to, gen_state, gen_counts}
 
-pub state_more : (hmax : ℕ) (s : ArrayState) (cs : List Command) (c : Command) → array_state_after hmax s (cs ++ c ∷ []) ≡ array_step hmax (array_state_after hmax s cs) c
-state_more hmax s [] c = refl
-state_more hmax s (d ∷ cs) c = state_more hmax (array_step hmax s d) cs c
+pub state_more : (l : Layout) (s : ArrayState) (cs : List Command) (c : Command) → array_state_after l s (cs ++ c ∷ []) ≡ array_step l (array_state_after l s cs) c
+state_more l s [] c = refl
+state_more l s (d ∷ cs) c = state_more l (array_step l s d) cs c
 
-pub lines_more : (l : Layout) (s : ArrayState) (cs : List Command) (c : Command) → lines_to l s (cs ++ c ∷ []) ≡ lines_to l s cs ++ answers l (array_state_after (height_limit l) s cs) c
+pub lines_more : (l : Layout) (s : ArrayState) (cs : List Command) (c : Command) → lines_to l s (cs ++ c ∷ []) ≡ lines_to l s cs ++ answers l (array_state_after l s cs) c
 lines_more l s [] c = append-nil (answers l s c)
 lines_more l s (d ∷ cs) c =
-    let next = array_step (height_limit l) s d in
+    let next = array_step l s d in
     ap (λ (lines : List Reply). answers l s d ++ lines) (lines_more l next cs c)
-    ∙ sym (append_assoc (answers l s d) (lines_to l next cs) (answers l (array_state_after (height_limit l) next cs) c))
+    ∙ sym (append_assoc (answers l s d) (lines_to l next cs) (answers l (array_state_after l next cs) c))
 
 one_more : (count : ℕ) → suc count ≡ count + 1
 one_more count = omega arith
@@ -68,8 +67,8 @@ ranges_by_end rows s =
 pub draw_next : (count seed : ℕ) → draw seed (count + 1) ≡ next_draw (draw seed count)
 draw_next count seed = subst (λ (n : ℕ). draw seed n ≡ next_draw (draw seed count)) (one_more count) refl
 
-pub state_next : (count seed : ℕ) → gen_state (count + 1) seed ≡ array_step gen_hmax (gen_state count seed) (command_numbered seed (count + 1))
-state_next count seed = subst (λ (n : ℕ). gen_state n seed ≡ array_step gen_hmax (gen_state count seed) (command_numbered seed n)) (one_more count) (state_more gen_hmax empty_state (generated count seed) (command_numbered seed (suc count)))
+pub state_next : (count seed : ℕ) → gen_state (count + 1) seed ≡ array_step gen_layout (gen_state count seed) (command_numbered seed (count + 1))
+state_next count seed = subst (λ (n : ℕ). gen_state n seed ≡ array_step gen_layout (gen_state count seed) (command_numbered seed n)) (one_more count) (state_more gen_layout empty_state (generated count seed) (command_numbered seed (suc count)))
 
 pub counts_next : (count seed : ℕ) → gen_counts (count + 1) seed ≡ counted (gen_counts count seed) (answers gen_layout (gen_state count seed) (command_numbered seed (count + 1)))
 counts_next count seed =

@@ -8,7 +8,7 @@ use Rattle.command_text.specs.declared.reply.Reply.{Reply}
 use Rattle.workload.specs.declared.summary.Summary.{Summary}
 use Rattle.workload.specs.Generator.{next_draw, draw, command_by, command_numbered}
 use Rattle.workload.specs.Summaries.{summary_of, counted, CountsBy, sized, Fits}
-use Rattle.workload.specs.Generation.{gen_layout, gen_hmax, empty_state, gen_counts, gen_summary, HasRun}
+use Rattle.workload.specs.Generation.{gen_layout, empty_state, gen_counts, gen_summary, HasRun}
 use Rattle.workload.proofs.Growing.{draw_next, state_next, counts_next}
 use Rattle.workload.proofs.Fitting.{fits}
 
@@ -28,11 +28,11 @@ module _ (count seed x : ℕ) (s : Summary) (state : ArrayState) (c : Command) (
   counted_next : CountsBy (answers gen_layout state c) last → counted s (last ∷ []) ≡ gen_counts (count + 1) seed
   counted_next by_last = sym (by_last s) ∙ (λ i. counted (run.counts i) (answers gen_layout (run.state_is i) (numbered i))) ∙ sym (counts_next count seed)
 
-  pub run_next : CountsBy (answers gen_layout state c) last → HasRun (count + 1) seed (next_draw x) (counted s (last ∷ [])) (array_step gen_hmax state c)
+  pub run_next : CountsBy (answers gen_layout state c) last → HasRun (count + 1) seed (next_draw x) (counted s (last ∷ [])) (array_step gen_layout state c)
   run_next by_last = record {
     drawn = drawn;
     counts = counted_next by_last;
-    state_is = (λ i. array_step gen_hmax (run.state_is i) (numbered i)) ∙ sym (state_next count seed);
+    state_is = (λ i. array_step gen_layout (run.state_is i) (numbered i)) ∙ sym (state_next count seed);
   }
 
   pub run_fits : count < 1000000 → CountsBy (answers gen_layout state c) last → Fits (counted s (last ∷ []))

@@ -29,11 +29,11 @@ empty_state = record { map = empty; height = 0; array = [] ∷ []; marks = no_ma
 -- the lines of the replies to commands, from a state on, in a store whose file has this layout
 abbrev pub lines_to : Layout → ArrayState → List Command → List Reply
 lines_to l s [] = []
-lines_to l s (c ∷ cs) = answers l s c ++ lines_to l (array_step (height_limit l) s c) cs
+lines_to l s (c ∷ cs) = answers l s c ++ lines_to l (array_step l s c) cs
 
 -- the state after the first so many commands of a seed
 abbrev pub gen_state : ℕ → ℕ → ArrayState
-gen_state count seed = array_state_after gen_hmax empty_state (generated count seed)
+gen_state count seed = array_state_after gen_layout empty_state (generated count seed)
 
 -- their replies counted
 abbrev pub gen_counts : ℕ → ℕ → Summary

@@ -3,7 +3,7 @@
 use Rattle.std.specs.Prelude.{ℕ, zero, suc, ◌+◌, ◌-◌, ◌*◌, ◌/◌, ◌%◌, ◌^◌, nat_lt, ◌==◌, if◌then◌else◌, List, [], ◌∷◌, ◌++◌, length, replicate, decimal, Some, None}
 use Rattle.key_slot.specs.Record.{Bytes}
 use Rattle.command_text.specs.declared.command.Command.{Command}
-use Rattle.command_text.specs.declared.command.Command.TheVariants.{Nothing, Put, Remove, Get, Range, Check, Probe, OversizedKey, OversizedValue, Bad}
+use Rattle.command_text.specs.declared.command.Command.TheVariants.{Nothing, Put, Remove, Batch, Get, Range, Check, Probe, Cost, OversizedKey, OversizedValue, RepeatedKey, Bad}
 
 -- the number that the generator holds after this one
 unfoldable pub next_draw : ℕ → ℕ
@@ -49,8 +49,11 @@ AsksForRecords (Remove key) = Unit {0}
 AsksForRecords (Get key) = Unit {0}
 AsksForRecords (Range low high limit) = Unit {0}
 AsksForRecords Nothing = ⊥
+AsksForRecords (Batch items) = ⊥
 AsksForRecords Check = ⊥
+AsksForRecords Cost = ⊥
 AsksForRecords (Probe key block) = ⊥
 AsksForRecords OversizedKey = ⊥
 AsksForRecords OversizedValue = ⊥
+AsksForRecords RepeatedKey = ⊥
 AsksForRecords (Bad why) = ⊥

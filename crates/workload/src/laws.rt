@@ -13,7 +13,7 @@ ghost use Rattle.command_text.specs.declared.reply.Reply.TheVariants.{End};
 ghost use Rattle.workload.specs.declared.summary.Summary.{Summary};
 ghost use Rattle.workload.specs.Generator.{next_draw, draw, command_by, command_numbered};
 ghost use Rattle.workload.specs.Summaries.{summary_of, counted, CountsBy, sized, Fits};
-ghost use Rattle.workload.specs.Generation.{gen_layout, gen_hmax, empty_state, gen_state, gen_counts, gen_summary, HasRun};
+ghost use Rattle.workload.specs.Generation.{gen_layout, empty_state, gen_state, gen_counts, gen_summary, HasRun};
 
 /// A law: what one command more makes of the generator, of the store and of the counts.
 pub fn summaries_grow()
@@ -21,7 +21,7 @@ pub fn summaries_grow()
     ensures drawn { (count seed : ℕ) → draw seed (count + 1) ≡ next_draw (draw seed count) }
     ensures command { (count seed : ℕ) → command_numbered seed (count + 1) ≡ command_by (next_draw (draw seed count)) (count + 1) }
     ensures empty { (seed : ℕ) → gen_state 0 seed ≡ empty_state }
-    ensures state { (count seed : ℕ) → gen_state (count + 1) seed ≡ array_step gen_hmax (gen_state count seed) (command_numbered seed (count + 1)) }
+    ensures state { (count seed : ℕ) → gen_state (count + 1) seed ≡ array_step gen_layout (gen_state count seed) (command_numbered seed (count + 1)) }
     ensures none { (seed : ℕ) → gen_counts 0 seed ≡ summary_of 0 [] }
     ensures counts { (count seed : ℕ) → gen_counts (count + 1) seed ≡ counted (gen_counts count seed) (answers gen_layout (gen_state count seed) (command_numbered seed (count + 1))) }
 {}
@@ -37,7 +37,7 @@ pub fn ranges_count_by_their_end()
 pub fn runs_go_on()
     ensures begins { (seed : ℕ) → HasRun 0 seed seed (summary_of 0 []) empty_state }
     ensures fits { (count seed x : ℕ) (s : Summary) (state : ArrayState) (c : Command) (last : Reply) → HasRun count seed x s state → count < 1000000 → c ≡ command_by (next_draw x) (count + 1) → CountsBy (answers gen_layout state c) last → Fits (counted s (last ∷ [])) }
-    ensures next { (count seed x : ℕ) (s : Summary) (state : ArrayState) (c : Command) (last : Reply) → HasRun count seed x s state → c ≡ command_by (next_draw x) (count + 1) → CountsBy (answers gen_layout state c) last → HasRun (count + 1) seed (next_draw x) (counted s (last ∷ [])) (array_step gen_hmax state c) }
+    ensures next { (count seed x : ℕ) (s : Summary) (state : ArrayState) (c : Command) (last : Reply) → HasRun count seed x s state → c ≡ command_by (next_draw x) (count + 1) → CountsBy (answers gen_layout state c) last → HasRun (count + 1) seed (next_draw x) (counted s (last ∷ [])) (array_step gen_layout state c) }
     ensures ends { (count seed x : ℕ) (s : Summary) (state : ArrayState) → HasRun count seed x s state → sized s (plain state) ≡ gen_summary count seed }
 {}
 

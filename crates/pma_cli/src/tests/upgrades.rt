@@ -4,7 +4,7 @@
 ghost use Rattle.std.specs.Prelude.{◌≡◌, IfOk, codes, map, string_bytes, [], ◌∷◌};
 
 use super::rows::{Part, answered, answered_on};
-use super::stops::{PICKS, range_reply, see_opened, see_update_of};
+use super::stops::{PICKS, Room, range_reply, see_opened, see_update_of, with_counts};
 use super::updates::with_bytes;
 use super::{LONGEST, Plan, SMOOTH, created, see_session, status_over};
 use Part::{Lines, Put, Remove};
@@ -42,7 +42,7 @@ const NO_SCRIPT: Plan<'static> = Plan {
 };
 
 // Sees that the upgrade of a file ends with a status, and what is said. Gives the file that it leaves.
-fn see_upgraded(
+pub(super) fn see_upgraded(
     rt: &impl Abort,
     alloc: Global,
     file: &[u8],
@@ -254,26 +254,16 @@ fn a_torn_selector_names_either_format(rt: HostRuntime) -> Result<(), Fail> {
     Ok(())
 }
 
-// The height limit and the journal of a new store that goes over, a script on it then, a line, and the keys before it and
-// after it.
-type Update = (
-    &'static str,
-    Option<&'static str>,
-    &'static [Part],
-    &'static [u8],
-    (u32, u32),
-    (u32, u32),
-);
+// A script on a new store of height limit 2 that went over, a line, and the keys before it and after it.
+type Update = (&'static [Part], &'static [u8], (u32, u32), (u32, u32));
 
 const WIDE: [Update; 3] = [
     // grows to height 1
-    ("2", None, &[Put(1, 64)], b"put k065\n", (1, 64), (1, 65)),
+    (&[Put(1, 64)], b"put k065\n", (1, 64), (1, 65)),
     // spreads two segments
-    ("2", None, &[Put(1, 96)], b"put k097\n", (1, 96), (1, 97)),
+    (&[Put(1, 96)], b"put k097\n", (1, 96), (1, 97)),
     // shrinks to height 0
     (
-        "2",
-        None,
         &[Put(1, 65), Remove(1, 55)],
         b"remove k056\n",
         (56, 65),
@@ -281,23 +271,10 @@ const WIDE: [Update; 3] = [
     ),
 ];
 
-// Spreads four segments, in many batches and in one.
-const WIDE_BATCHES: [Update; 2] = [
-    (
-        "3",
-        Some("4"),
-        &[Put(1, 189)],
-        b"put k190\n",
-        (1, 189),
-        (1, 190),
-    ),
-    ("3", None, &[Put(1, 189)], b"put k190\n", (1, 189), (1, 190)),
-];
-
 // Sees what a fault or a stop at each call of an update of a store of format 2 leaves.
 fn see_wide(rt: &impl Abort, alloc: Global, update: &Update, fails: bool) -> Result<(), Fail> {
-    let (height, journal, parts, line, before, after) = *update;
-    let (_, empty) = created(alloc, height, journal)?;
+    let (parts, line, before, after) = *update;
+    let (_, empty) = created(alloc, "2", None)?;
     let wide = see_upgraded(rt, alloc, empty.held(), (0, b""))?;
     let file = answered_on(rt, alloc, &wide, parts)?;
     see_update_of(rt, alloc, &file, line, (before, after), fails)
@@ -305,8 +282,22 @@ fn see_wide(rt: &impl Abort, alloc: Global, update: &Update, fails: bool) -> Res
 
 #[test]
 fn a_failed_call_keeps_what_was_answered_in_format_2(rt: HostRuntime) -> Result<(), Fail> {
-    for update in WIDE.iter().chain(&WIDE_BATCHES) {
+    for update in &WIDE {
         see_wide(&rt, rt.alloc(), update, true)?;
+    }
+    Ok(())
+}
+
+// Files with a journal of two longer segments, and with one of four.
+const JOURNALS: [Room; 2] = [(2, "3", Some("4"), 24576), (2, "3", None, 40960)];
+
+/// A removal spreads four segments of few records, in several batches and in one.
+#[test]
+fn a_failed_call_of_a_spread_in_format_2(rt: HostRuntime) -> Result<(), Fail> {
+    for room in JOURNALS {
+        let file = with_counts(&rt, rt.alloc(), room, &[4, 6, 10, 10])?;
+        let keys = ((1, 30), (2, 30));
+        see_update_of(&rt, rt.alloc(), &file, b"remove k001\n", keys, true)?;
     }
     Ok(())
 }

@@ -1,13 +1,15 @@
-use Rattle.std.proofs.Common.{◌≡◌, ℕ, ◌+◌, Bool, true, false, cond, refl, List, sym, ap, subst, ◌∙◌, arith, Some, None}
+use Rattle.std.proofs.Common.{◌≡◌, ℕ, ◌+◌, ◌≤◌, T, length, Bool, true, false, cond, refl, List, sym, ap, subst, ◌∙◌, arith, Some, None}
+use Rattle.std.specs.List.{list_all}
 use Rattle.station.specs.Bytes.{byte, Filled}
 use Rattle.station.proofs.Composition.{told_on}
 use Rattle.batch_intent.specs.declared.places.TheConstants.{INTENT}
 use Rattle.header_gate.specs.declared.reason.Reason.TheVariants.{Intent}
 use Rattle.map_model.specs.Store.{Update}
-use Rattle.batch_intent.specs.Spelling.{items_in}
+use Rattle.batch_intent.specs.Spelling.{items_in, fits_item}
 use Rattle.batch_intent.specs.Judging.{wrong_place}
 use Rattle.batch_intent.specs.Gate.{intent_area, reason_at}
 use Rattle.batch_intent.proofs.Gates.{area_read, early_idle, even_idle, odd_applies}
+use Rattle.batch_intent.proofs.Sound.{spells_of_none}
 use Rattle.batch_intent.proofs.reading.read_intent.Goals as goal
 
 pub returns-in-Ok-judge_intent-clause-items : goal.returns-in-Ok-judge_intent-clause-items
@@ -72,3 +74,13 @@ returns-in-Ok-judge_intent-clause-even g c told =
 
     true_false : true ≡ false → ⊥
     true_false e = cc
+
+pub returns-in-Ok-judge_intent-clause-fits : goal.returns-in-Ok-judge_intent-clause-fits
+returns-in-Ok-judge_intent-clause-fits g c items e =
+    let format = c.args.layout.format in
+    let same : c.in-Ok-judge_intent.intent ≡ items = cc in
+    let spells = spells_of_none format c.read_at-2.new.buf c.read_at-2.auto.buf c.in-Ok-judge_intent.ensures.right in
+    subst (λ (us : List Update). (1 ≤ length us) × T (list_all (fits_item format) us)) (sym c.in-Ok-judge_intent.ensures.items ∙ same) (spells.some, spells.fit)
+
+pub returns-in-Err-clause-reason : goal.returns-in-Err-clause-reason
+returns-in-Err-clause-reason g c r is = (INTENT + c.in-Err.place, cc)

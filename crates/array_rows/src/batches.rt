@@ -1,0 +1,311 @@
+//! Batches that grow, spread and shrink a store, stopped or failing at every call, and opened again: the file has none of
+//! their items or all of them.
+
+ghost use Rattle.std.specs.Prelude.{◌≤◌, T, length, IfOk};
+ghost use Rattle.std.specs.List.{list_all};
+ghost use Rattle.batch_intent.specs.Spelling.{fits_item};
+
+use crate::files::{Counts, FORMATS, file_of, lay, layout_of, noting, row, see_records};
+use batch_intent::{Intent, MOST_ITEMS, read_intent};
+use header_gate::Layout;
+use pma_store::{Batch, Store};
+use station::{CrashStation, MemStation, Pick, Station};
+use std::alloc::Global;
+use std::process::Abort;
+use std::test::Fail;
+
+// The most calls that an opening, and a batch behind it, make in these tests.
+const CALLS: u32 = 120;
+
+/// An item: whether it puts a record, and the number of that, or of the one that it removes.
+pub type Item = (bool, u32);
+
+// The bytes of an intent of these items, with records of a format.
+fn spelled(rt: &impl Abort, alloc: Global, format: u32, items: &[Item]) -> Result<Vec<u8>, Fail> {
+    assert!(rt; items.len() <= MOST_ITEMS as usize);
+    let mut bytes = Vec::from_slice(alloc, &[items.len() as u8])?;
+    for (puts, number) in items {
+        let row = row(*number, format)?;
+        let key = row.key.as_bytes();
+        if *puts {
+            let value = row.value.as_bytes();
+            bytes.extend_from_slice(&[1, key.len() as u8, value.len() as u8])?;
+            bytes.extend_from_slice(key)?;
+            bytes.extend_from_slice(value)?;
+        } else {
+            bytes.extend_from_slice(&[2, key.len() as u8, 0])?;
+            bytes.extend_from_slice(key)?;
+        }
+    }
+    Ok(bytes)
+}
+
+/// The intent of these items, with records of a format, as a file has it.
+pub fn intent_of(
+    rt: &impl Abort,
+    alloc: Global,
+    format: u32,
+    items: &[Item],
+) -> Result<Intent, Fail>
+    requires { 1 ≤ format × (format ≤ 2) }
+    ensures { IfOk result (λ intent. (1 ≤ length intent) × T (list_all (fits_item format) intent)) }
+{
+    let mut page = vec![in alloc; 0; 4096]?;
+    lay(rt, &mut page, 640, &[1]);
+    lay(rt, &mut page, 3584, &spelled(rt, alloc, format, items)?);
+    let mut station = MemStation::new(alloc, &page, 4096, 0, &[], None)?;
+    match read_intent(&mut station, layout_of(format, 2, 4)) {
+        Ok(Some(intent)) => Ok(intent),
+        _ => Err("no intent".into()),
+    }
+}
+
+/// The height and the counts before a batch, its items, the last number of the records, the last one behind the batch, which
+/// has taken the first record away, and what it answers.
+type Row = (u32, Counts, &'static [Item], u32, u32, Batch);
+
+const BATCHES: [Row; 3] = [
+    // grows to height 1
+    (
+        0,
+        [64, 0, 0, 0, 0, 0, 0, 0],
+        &[(true, 65), (false, 1), (true, 2), (false, 999)],
+        64,
+        65,
+        Batch::Done {
+            stored: 1,
+            replaced: 1,
+            removed: 1,
+            absent: 1,
+            charge: 9,
+        },
+    ),
+    // spreads both segments
+    (
+        1,
+        [32, 64, 0, 0, 0, 0, 0, 0],
+        &[(true, 97), (false, 1)],
+        96,
+        97,
+        Batch::Done {
+            stored: 1,
+            replaced: 0,
+            removed: 1,
+            absent: 0,
+            charge: 34,
+        },
+    ),
+    // shrinks to height 0
+    (
+        1,
+        [4, 6, 0, 0, 0, 0, 0, 0],
+        &[(false, 1), (true, 11)],
+        10,
+        11,
+        Batch::Done {
+            stored: 1,
+            replaced: 0,
+            removed: 1,
+            absent: 0,
+            charge: 6,
+        },
+    ),
+];
+
+// Opens a store of this format and makes a batch, unless a call fails.
+fn batch_once<S: Station>(
+    rt: &impl Abort,
+    alloc: Global,
+    station: &mut S,
+    format: u32,
+    intent: &Intent,
+) -> Option<Batch>
+    requires some { 1 ≤ length intent.now }
+    requires fit { T (list_all (fits_item format) intent.now) }
+{
+    let Ok(mut store) = Store::open_on(alloc, station) else {
+        return None;
+    };
+    assert!(rt; store.format() == format);
+    store.batch(station, intent).ok()
+}
+
+// Opens a file, sees that it has the records before a batch or those behind it, and answers whether it has the latter.
+fn see_either(
+    rt: &impl Abort,
+    alloc: Global,
+    file: &[u8],
+    layout: Layout,
+    batch: &Row,
+) -> Result<bool, Fail> {
+    let (_, _, _, before, after, _) = *batch;
+    assert!(rt; file.len() < 1000000 && before < 1000 && after < 1000);
+    let mut station = MemStation::new(alloc, file, file.len(), 0, &[], None)?;
+    let mut store = Store::open_on(alloc, &mut station)?;
+    let first = store.get(&mut station, &row(1, layout.format)?.key)?;
+    assert!(rt; station.held().len() > 640);
+    assert_eq!(rt; station.held()[640], 0, "the gate");
+    if first.is_some() {
+        see_records(rt, station.held(), layout, 1, before)?;
+    } else {
+        see_records(rt, station.held(), layout, 2, after)?;
+    }
+    Ok(first.is_none())
+}
+
+// Stops the opening of a file at each of its calls: it has the same records then. A call that fails alone leaves what a stop at it
+// leaves; what the last one left isn't opened again.
+fn see_stopped_openings(
+    rt: &impl Abort,
+    alloc: Global,
+    file: &[u8],
+    layout: Layout,
+    batch: &Row,
+    is_after: bool,
+) -> Result<(), Fail> {
+    let mut last = Vec::from_slice(alloc, file)?;
+    assert!(rt; file.len() < 1000000);
+    for call in 0..CALLS {
+        let mut stopped = MemStation::new(alloc, file, file.len(), 0, &[], Some(call))?;
+        let mut failed = MemStation::new(alloc, file, file.len(), 0, &[call], None)?;
+        let is_stopped = Store::open_on(alloc, &mut stopped).is_err();
+        let is_failed = Store::open_on(alloc, &mut failed).is_err();
+        assert!(rt; is_stopped == is_failed && stopped.held() == failed.held());
+        if !is_stopped {
+            return Ok(());
+        }
+        if stopped.held() != last.as_slice() {
+            let again = see_either(rt, alloc, stopped.held(), layout, batch)?;
+            assert_eq!(rt; again, is_after);
+            last = Vec::from_slice(alloc, stopped.held())?;
+        }
+    }
+    Err("the opening makes more calls".into())
+}
+
+// Opens what a batch has left that was stopped, failed or done, in format 1 also after stops.
+fn see_left(
+    rt: &impl Abort,
+    alloc: Global,
+    file: &[u8],
+    layout: Layout,
+    batch: &Row,
+    is_done: bool,
+) -> Result<(), Fail> {
+    let is_after = see_either(rt, alloc, file, layout, batch)?;
+    assert!(rt; is_after || !is_done);
+    if layout.format == 1 {
+        see_stopped_openings(rt, alloc, file, layout, batch, is_after)?;
+    }
+    Ok(())
+}
+
+// Has each call fail in turn while a store is opened and a batch is made in it. What the last fault left isn't opened again.
+fn see_faults(rt: &impl Abort, alloc: Global, format: u32, batch: &Row) -> Result<(), Fail>
+    requires { 1 ≤ format × (format ≤ 2) }
+{
+    let (height, counts, items, _, _, want) = *batch;
+    let layout = layout_of(format, 2, 4);
+    let file = file_of(rt, alloc, layout, height, counts)?;
+    let intent = intent_of(rt, alloc, format, items)?;
+    let mut last = Vec::new(alloc);
+    assert!(rt; file.len() < 1000000);
+    for call in 0..CALLS {
+        let mut station = MemStation::new(alloc, &file, file.len(), 0, &[call], None)?;
+        let done = batch_once(rt, alloc, &mut station, format, &intent);
+        if done.is_some() {
+            assert_eq!(rt; done, Some(want));
+            return see_left(rt, alloc, station.held(), layout, batch, true);
+        }
+        if station.held() != last.as_slice() {
+            last = Vec::from_slice(alloc, station.held())?;
+            see_left(rt, alloc, &last, layout, batch, false)?;
+        }
+    }
+    Err("the batch makes more calls".into())
+}
+
+// Stops a batch behind each of its calls, with what is pending lost or torn. What is left with all held bytes is what a fault at
+// the next call leaves, so that isn't looked at here.
+fn see_stops(rt: &impl Abort, alloc: Global, format: u32, batch: &Row) -> Result<(), Fail>
+    requires { 1 ≤ format × (format ≤ 2) }
+{
+    let (height, counts, items, _, _, want) = *batch;
+    let layout = layout_of(format, 2, 4);
+    let file = file_of(rt, alloc, layout, height, counts)?;
+    let intent = intent_of(rt, alloc, format, items)?;
+    let mut station = noting(rt, alloc, &file)?;
+    let done = batch_once(rt, alloc, &mut station, format, &intent);
+    assert_eq!(rt; done, Some(want));
+    for pick in [Pick::Settled, Pick::Fill(255)] {
+        see_images(rt, alloc, &station, pick, layout, batch)?;
+    }
+    Ok(())
+}
+
+// Opens what a crash after each of a batch's calls leaves with what is pending left so, but for what the last one left.
+fn see_images(
+    rt: &impl Abort,
+    alloc: Global,
+    station: &CrashStation,
+    pick: Pick,
+    layout: Layout,
+    batch: &Row,
+) -> Result<(), Fail> {
+    let noted = station.noted();
+    let mut last = Vec::new(alloc);
+    assert!(rt; noted < 400, "there was room for all notes");
+    for calls in 0..=noted as u32 {
+        let image = station.crash_image(alloc, calls, pick)?;
+        let is_done = calls as usize == noted;
+        if image != last || is_done {
+            see_left(rt, alloc, &image, layout, batch, is_done)?;
+            last = image;
+        }
+    }
+    Ok(())
+}
+
+#[test]
+fn a_failed_call_of_a_batch_that_grows(rt: HostRuntime) -> Result<(), Fail> {
+    for format in FORMATS {
+        see_faults(&rt, rt.alloc(), format, &BATCHES[0])?;
+    }
+    Ok(())
+}
+
+#[test]
+fn a_failed_call_of_a_batch_that_spreads(rt: HostRuntime) -> Result<(), Fail> {
+    for format in FORMATS {
+        see_faults(&rt, rt.alloc(), format, &BATCHES[1])?;
+    }
+    Ok(())
+}
+
+#[test]
+fn a_failed_call_of_a_batch_that_shrinks(rt: HostRuntime) -> Result<(), Fail> {
+    for format in FORMATS {
+        see_faults(&rt, rt.alloc(), format, &BATCHES[2])?;
+    }
+    Ok(())
+}
+
+#[test]
+fn a_batch_that_grows_is_stopped_at_every_call(rt: HostRuntime) -> Result<(), Fail> {
+    see_stops(&rt, rt.alloc(), 1, &BATCHES[0])
+}
+
+#[test]
+fn a_batch_that_spreads_is_stopped_at_every_call(rt: HostRuntime) -> Result<(), Fail> {
+    see_stops(&rt, rt.alloc(), 1, &BATCHES[1])
+}
+
+#[test]
+fn a_batch_that_shrinks_is_stopped_at_every_call(rt: HostRuntime) -> Result<(), Fail> {
+    see_stops(&rt, rt.alloc(), 1, &BATCHES[2])
+}
+
+#[test]
+fn a_batch_of_format_2_is_stopped_at_every_call(rt: HostRuntime) -> Result<(), Fail> {
+    see_stops(&rt, rt.alloc(), 2, &BATCHES[0])
+}

@@ -1,0 +1,54 @@
+-- A session: the store and the ledger of its updates, through commands, in a file with a layout.
+use Rattle.std.specs.Prelude.{ℕ, ◌+◌, ◌≤◌, List, [], ◌∷◌, length, sum}
+use Rattle.std.specs.List.{flat_map}
+use Rattle.key_slot.specs.Record.{Bytes}
+use Rattle.header_gate.specs.declared.layout.Layout.{Layout}
+use Rattle.map_model.specs.Array.{counts_of}
+use Rattle.map_model.specs.ArrayState.{ArrayState}
+use Rattle.cost_ledger.specs.Ledger.{LedgerView, empty_ledger, noted, ledger_bound, cost_of}
+use Rattle.cost_ledger.specs.Potential.{potential}
+use Rattle.command_text.specs.Answers.{answers}
+use Rattle.command_text.specs.ArraySession.{array_step}
+use Rattle.command_text.specs.Reply.{reply_text}
+use Rattle.command_text.specs.Updates.{updates_made, charge_made}
+use Rattle.command_text.specs.declared.command.Command.{Command}
+use Rattle.command_text.specs.declared.command.Command.TheVariants as command
+use Rattle.command_text.specs.declared.reply.Reply.{Reply}
+use Rattle.command_text.specs.declared.reply.Reply.TheVariants as reply
+
+pub record Session : Type 0 where
+  pub store : ArrayState
+  pub ledger : LedgerView
+
+-- a session that begins with this store
+abbrev pub session_from : ArrayState → Session
+session_from s = record { store = s; ledger = empty_ledger s.height }
+
+-- the ledger after a command, with the updates that it makes and their charges
+abbrev pub ledger_step : Layout → ArrayState → Command → LedgerView → LedgerView
+ledger_step l s c ledger = noted (length (updates_made l s.map c)) (charge_made l s c) ledger
+
+abbrev pub session_step : Layout → Session → Command → Session
+session_step l x c = record { store = array_step l x.store c; ledger = ledger_step l x.store c x.ledger }
+
+-- the lines of the reply to a command
+abbrev pub session_answers : Layout → Session → Command → List Reply
+session_answers l x command.Cost = reply.Cost (cost_of x.ledger) ∷ []
+session_answers l x c = answers l x.store c
+
+-- the bytes of the reply to a command
+abbrev pub session_reply : Layout → Session → Command → Bytes
+session_reply l x c = flat_map reply_text (session_answers l x c)
+
+-- the session after commands
+abbrev pub session_after : Layout → Session → List Command → Session
+session_after l x [] = x
+session_after l x (c ∷ cs) = session_after l (session_step l x c) cs
+
+-- what is set aside in a state for dear updates
+abbrev pub potential_in : ArrayState → ℕ
+potential_in s = potential s.height (sum (counts_of s.array)) s.marks
+
+-- the charges so far, and what is set aside, stay within the bound that `cost` tells
+abbrev pub IsPaid : Session → Type 0
+IsPaid x = x.ledger.charge + potential_in x.store ≤ ledger_bound x.ledger

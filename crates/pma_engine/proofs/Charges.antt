@@ -1,0 +1,152 @@
+-- What commands write, by the charges of their updates.
+use Rattle.std.proofs.Common.{◌≡◌, ℕ, ◌+◌, ◌*◌, ◌/◌, ◌^◌, ◌≤◌, Bool, true, false, cond, not, ◌||◌, nat_lt, List, [], ◌∷◌, length, Option, Some, None, refl, sym, ap, subst, ◌∙◌, arith}
+use Rattle.std.specs.Prelude.{◌==◌}
+use Rattle.key_slot.specs.Record.{Bytes}
+use Rattle.density_rule.specs.Bounds.{upper_of}
+use Rattle.density_rule.specs.Marks.{Marks, mark_of}
+use Rattle.density_rule.specs.Updates.{charge_of, resized_height, height_after as height_by_broken}
+use Rattle.header_gate.specs.Header.{layout_in}
+use Rattle.header_gate.specs.Places.{height_limit, segment_size}
+use Rattle.header_gate.specs.declared.layout.Layout.{Layout}
+use Rattle.map_model.specs.Array.{Array, rows, segment_for}
+use Rattle.map_model.specs.ArrayState.{ArrayState, IsSoundState, UpdateReport, next_state, report_by, report_by_change, report_of}
+use Rattle.map_model.specs.ArrayUpdates.{array_after, broken_for, change_of, has_key, key_of}
+use Rattle.map_model.specs.Charges.{charge_after}
+use Rattle.map_model.specs.Holding.{IsNext}
+use Rattle.map_model.specs.Items.{charge_after_items}
+use Rattle.map_model.specs.Store.{Map, Update, bind, unbind, height_after}
+use Rattle.map_model.proofs.SessionLaws.{next_sound, states_sound}
+use Rattle.map_model.proofs.UpdateLaws.{next_after}
+use Rattle.batch_intent.specs.Means.{MeansMap}
+use Rattle.command_text.specs.Session.{Session, session_after, session_step, IsPaid}
+use Rattle.command_text.specs.Updates.{updates_made}
+use Rattle.command_text.specs.declared.command.Command.{Command}
+use Rattle.command_text.proofs.SessionLaws.{paid_first, paid_next}
+use Rattle.pma_store.specs.Changing.{most_written}
+use Rattle.pma_store.specs.Costing.{report_cost, update_cost_in, updates_cost}
+use Rattle.pma_store.specs.Rewrites.{commit_cost}
+use Rattle.pma_engine.specs.Costs.{charged_cost, images_cost, session_cost}
+use Rattle.pma_engine.specs.Jobs.{ArePaid}
+use Rattle.pma_engine.specs.Outcome.{script_in, session_of, state_of}
+use Rattle.pma_engine.proofs.Meant.{begins_sound}
+
+charge_bind : (hmax height : ℕ) (segments : Array) (key value : Bytes) → charge_after hmax height segments (bind key value) ≡ cond (has_key segments key) 2 (cond (nat_lt (length (rows segments)) (upper_of hmax)) (charge_of true height (broken_for true height segments key)) 0)
+unfolding charge_after
+charge_bind hmax height segments key value = refl
+
+charge_unbind : (hmax height : ℕ) (segments : Array) (key : Bytes) → charge_after hmax height segments (unbind key) ≡ cond (has_key segments key) (charge_of false height (broken_for false height segments key)) 0
+unfolding charge_after
+charge_unbind hmax height segments key = refl
+
+-- images of two charges
+images_plus : (l : Layout) (m n : ℕ) → images_cost l (m + n) ≡ images_cost l m + images_cost l n
+images_plus l m n = omega arith
+
+-- factors
+times_up : (f m n : ℕ) → m ≤ n → f * m ≤ f * n
+times_up f m n le = grind arith
+
+module _ (l : Layout) (some : 1 ≤ l.format) where
+  abbrev hmax : ℕ
+  hmax = height_limit l
+
+  -- what a resize costs, and the spread of a window, by their charges
+  resize_paid : (next : ℕ) → segment_size l * 2 ^ next + 9 + commit_cost l ≤ images_cost l (2 ^ next + 3)
+  resize_paid next = omega (arith, some)
+
+  spread_paid : (j : ℕ) → most_written l j ≤ images_cost l (16 * 2 ^ j)
+  spread_paid j = omega (arith, times_up (2 ^ j) 1 l.format some)
+
+  -- what an update costs that adds a record or takes one, by its greatest broken height
+  broken_paid : (adds : Bool) (height i : ℕ) (marks : Marks) (o : Option ℕ) (next : ℕ) → next ≡ height_by_broken adds height o
+      → report_cost l next (report_by height i o marks) ≤ images_cost l (charge_of adds height o)
+  broken_paid adds height i marks None next at = omega (arith, some)
+  broken_paid adds height i marks (Some c) next at = by (c == height) refl
+    where
+      reported : Bool → UpdateReport
+      reported b = cond b (record { spread = None; cause = None; resized = true }) (record { spread = Some (record { height = c + 1; number = i / 2 ^ (c + 1) }); cause = mark_of marks c (i / 2 ^ c); resized = false })
+
+      charged : Bool → ℕ
+      charged b = cond b (2 ^ resized_height adds height + 3) (16 * 2 ^ (c + 1))
+
+      by : (b : Bool) → (c == height) ≡ b → report_cost l next (reported (c == height)) ≤ images_cost l (charged (c == height))
+      by true e =
+          let same : next ≡ resized_height adds height = at ∙ ap (λ (b : Bool). cond b (resized_height adds height) height) e in
+          subst (λ (b : Bool). report_cost l next (reported b) ≤ images_cost l (charged b)) (sym e)
+          (subst (λ (h : ℕ). report_cost l next (reported true) ≤ images_cost l (2 ^ h + 3)) same (resize_paid next))
+      by false e = subst (λ (b : Bool). report_cost l next (reported b) ≤ images_cost l (charged b)) (sym e) (spread_paid (c + 1))
+
+  module _ (s : ArrayState) (sound : IsSoundState hmax s) where
+    next : (u : Update) (o : Option Bool) → change_of hmax s.array u ≡ o → IsNext hmax o s.height s.array (key_of u) (height_after hmax s.height s.map u) (array_after hmax s.height s.array u)
+    next u o is = subst (λ (o : Option Bool). IsNext hmax o s.height s.array (key_of u) (height_after hmax s.height s.map u) (array_after hmax s.height s.array u)) is (next_after hmax s.map s.height s.array sound.holds sound.balanced u)
+
+    -- an update that adds a record or takes one
+    changing : (u : Update) (adds : Bool) → change_of hmax s.array u ≡ Some adds
+        → report_cost l (height_after hmax s.height s.map u) (report_of hmax s u) ≤ images_cost l (charge_of adds s.height (broken_for adds s.height s.array (key_of u)))
+    changing u adds is =
+        subst (λ (o : Option Bool). report_cost l (height_after hmax s.height s.map u) (report_by_change s u o) ≤ images_cost l (charge_of adds s.height (broken_for adds s.height s.array (key_of u)))) (sym is)
+        (broken_paid adds s.height (segment_for s.array (key_of u)) s.marks (broken_for adds s.height s.array (key_of u)) (height_after hmax s.height s.map u) (next u (Some adds) is).height_is)
+
+    -- one that changes a value
+    replacing : (u : Update) → change_of hmax s.array u ≡ None → report_cost l (height_after hmax s.height s.map u) (report_of hmax s u) ≤ images_cost l 2
+    replacing u is = subst (λ (o : Option Bool). report_cost l (height_after hmax s.height s.map u) (report_by_change s u o) ≤ images_cost l 2) (sym is) (omega (arith, some))
+
+    pub update_paid : (u : Update) → update_cost_in l s u ≤ images_cost l (charge_after hmax s.height s.array u)
+    update_paid (bind key value) =
+        subst (λ (n : ℕ). update_cost_in l s (bind key value) ≤ images_cost l n) (sym (charge_bind hmax s.height s.array key value)) (by (has_key s.array key) (nat_lt (length (rows s.array)) (upper_of hmax)) refl refl)
+      where
+        by : (here room : Bool) → has_key s.array key ≡ here → nat_lt (length (rows s.array)) (upper_of hmax) ≡ room
+            → cond (has_key s.array key || nat_lt (length (rows s.array)) (upper_of hmax)) (report_cost l (height_after hmax s.height s.map (bind key value)) (report_of hmax s (bind key value))) 0 ≤ images_cost l (cond (has_key s.array key) 2 (cond (nat_lt (length (rows s.array)) (upper_of hmax)) (charge_of true s.height (broken_for true s.height s.array key)) 0))
+        by true room p q =
+            subst (λ (b : Bool). cond (b || nat_lt (length (rows s.array)) (upper_of hmax)) (report_cost l (height_after hmax s.height s.map (bind key value)) (report_of hmax s (bind key value))) 0 ≤ images_cost l (cond b 2 (cond (nat_lt (length (rows s.array)) (upper_of hmax)) (charge_of true s.height (broken_for true s.height s.array key)) 0))) (sym p)
+            (replacing (bind key value) (λ t. cond (p t || not (nat_lt (length (rows s.array)) (upper_of hmax))) None (Some true)))
+        by false true p q =
+            subst (λ (x : Bool × Bool). cond (x.0 || x.1) (report_cost l (height_after hmax s.height s.map (bind key value)) (report_of hmax s (bind key value))) 0 ≤ images_cost l (cond x.0 2 (cond x.1 (charge_of true s.height (broken_for true s.height s.array key)) 0))) (λ i. (sym p i, sym q i))
+            (changing (bind key value) true (λ t. cond (p t || not (q t)) None (Some true)))
+        by false false p q =
+            subst (λ (x : Bool × Bool). cond (x.0 || x.1) (report_cost l (height_after hmax s.height s.map (bind key value)) (report_of hmax s (bind key value))) 0 ≤ images_cost l (cond x.0 2 (cond x.1 (charge_of true s.height (broken_for true s.height s.array key)) 0))) (λ i. (sym p i, sym q i)) (omega arith)
+    update_paid (unbind key) =
+        subst (λ (n : ℕ). update_cost_in l s (unbind key) ≤ images_cost l n) (sym (charge_unbind hmax s.height s.array key)) (by (has_key s.array key) refl)
+      where
+        by : (here : Bool) → has_key s.array key ≡ here → cond (has_key s.array key) (report_cost l (height_after hmax s.height s.map (unbind key)) (report_of hmax s (unbind key))) 0 ≤ images_cost l (cond (has_key s.array key) (charge_of false s.height (broken_for false s.height s.array key)) 0)
+        by true p = subst (λ (b : Bool). cond b (report_cost l (height_after hmax s.height s.map (unbind key)) (report_of hmax s (unbind key))) 0 ≤ images_cost l (cond b (charge_of false s.height (broken_for false s.height s.array key)) 0)) (sym p) (changing (unbind key) false (ap (λ b. cond b (Some false) None) p))
+        by false p = subst (λ (b : Bool). cond b (report_cost l (height_after hmax s.height s.map (unbind key)) (report_of hmax s (unbind key))) 0 ≤ images_cost l (cond b (charge_of false s.height (broken_for false s.height s.array key)) 0)) (sym p) (omega arith)
+
+  updates_paid : (s : ArrayState) → IsSoundState hmax s → (us : List Update) → updates_cost l s us ≤ images_cost l (charge_after_items hmax s us)
+  updates_paid s sound [] = omega arith
+  updates_paid s sound (u ∷ us) =
+      omega (
+        arith,
+        update_paid s sound u,
+        updates_paid (next_state hmax s u) (next_sound hmax s sound u) us,
+        images_plus l (charge_after hmax s.height s.array u) (charge_after_items hmax (next_state hmax s u) us),
+      )
+
+  -- what a session's commands cost
+  session_charged : (x : Session) → IsSoundState hmax x.store → (cs : List Command) → images_cost l x.ledger.charge + session_cost l x.store cs ≤ charged_cost l x cs
+  session_charged x sound [] = omega arith
+  session_charged x sound (c ∷ cs) =
+      let us = updates_made l x.store.map c in
+      omega (
+        arith,
+        updates_paid x.store sound us,
+        images_plus l x.ledger.charge (charge_after_items hmax x.store us),
+        session_charged (session_step l x c) (states_sound hmax x.store us sound) cs,
+      )
+
+-- what is charged is paid
+paid_after : (l : Layout) (x : Session) → IsSoundState (height_limit l) x.store → IsPaid x → (cs : List Command) → IsPaid (session_after l x cs)
+paid_after l x sound paid [] = paid
+paid_after l x sound paid (c ∷ cs) = paid_after l (session_step l x c) (states_sound (height_limit l) x.store (updates_made l x.store.map c) sound) (paid_next l x c sound paid) cs
+
+module _ (image : List ℕ) (m : Map) (means : MeansMap image m) where
+  -- what the commands of a run cost
+  pub charged_is : (cs : List Command) → session_cost (layout_in image) (state_of m image) cs ≤ charged_cost (layout_in image) (session_of m image) cs
+  charged_is cs = omega (arith, session_charged (layout_in image) means.1.represents.header.layout.format.least (session_of m image) (begins_sound image m means) cs)
+
+  -- and what they are charged
+  pub session_paid : (script : List ℕ) → ArePaid m image script
+  session_paid script =
+      let sound = begins_sound image m means in
+      let low : (state_of m image).height ≤ 16 = omega (arith, sound.holds.within.height_is, sound.holds.within.hmax_is) in
+      omega (arith, paid_after (layout_in image) (session_of m image) sound (paid_first (state_of m image) low) (script_in image script))

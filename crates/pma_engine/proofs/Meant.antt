@@ -1,0 +1,29 @@
+-- The state from which a run begins on a file that means a map.
+use Rattle.std.proofs.Common.{◌≡◌, ℕ, List, sym, ap, subst, ◌∙◌}
+use Rattle.header_gate.specs.Header.{layout_in}
+use Rattle.header_gate.specs.Places.{height_limit}
+use Rattle.map_model.specs.ArrayState.{IsSoundState, opened_state, plain}
+use Rattle.map_model.specs.Store.{Map, State}
+use Rattle.map_model.proofs.Resuming.{map_of_items, plain_items}
+use Rattle.map_model.proofs.SessionLaws.{opened_sound, states_sound}
+use Rattle.batch_intent.specs.Means.{MeansMap, meant_map, opened_items_state, pending}
+use Rattle.batch_intent.proofs.Meanings.{meant_one}
+use Rattle.pma_engine.specs.Outcome.{state_of}
+
+-- it has the map that the file means
+pub opened_map : (image : List ℕ) → (opened_items_state image).map ≡ meant_map image
+opened_map image =
+    let hmax = height_limit (layout_in image) in
+    ap (λ (t : State). t.map) (plain_items hmax (opened_state image) (pending image)) ∙ map_of_items hmax (plain (opened_state image)) (pending image)
+
+pub meant_is : (image : List ℕ) (m : Map) → MeansMap image m → m ≡ (opened_items_state image).map
+meant_is image m means = (meant_one image m means.0 means.1).0 ∙ sym (opened_map image)
+
+pub opened_is : (image : List ℕ) (m : Map) → MeansMap image m → opened_items_state image ≡ state_of m image
+opened_is image m means = λ i. record (opened_items_state image) { map = sym (meant_is image m means) i }
+
+-- and is sound
+pub begins_sound : (image : List ℕ) (m : Map) → MeansMap image m → IsSoundState (height_limit (layout_in image)) (state_of m image)
+begins_sound image m means =
+    let hmax = height_limit (layout_in image) in
+    subst (IsSoundState hmax) (opened_is image m means) (states_sound hmax (opened_state image) (pending image) (opened_sound image means.1.base means.0 means.1.represents))

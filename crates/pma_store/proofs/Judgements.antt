@@ -1,0 +1,130 @@
+-- What items would do, one more at a time.
+use Rattle.std.proofs.Common.{◌≡◌, ℕ, zero, suc, ◌+◌, ◌-◌, ◌<◌, Bool, true, false, cond, not, ◌||◌, nat_lt, List, [], ◌∷◌, length, take, get_or, refl, sym, ap, subst, ◌∙◌, arith, Option, Some, None, is_some}
+use Rattle.std.specs.Cmp.Lexicographic.{nat_list_cmp_total}
+use Rattle.std.specs.FinMap.{contains_key, insert, remove, len, len-insert, len-remove}
+use Rattle.density_rule.specs.Bounds.{upper_of}
+use Rattle.map_model.specs.Store.{Map, Update, bind, unbind, map_after}
+use Rattle.map_model.specs.ArrayUpdates.{key_of}
+use Rattle.map_model.specs.Items.{ItemCounts, no_items, count_item, count_items, meets_full, first_full, first_full_from, map_after_items, are_distinct}
+use Rattle.map_model.proofs.Resuming.{get_before, next_item}
+use Rattle.std.proofs.lemmas.List.{take_all}
+use Rattle.std.proofs.Common.{set, inl, inr}
+use Rattle.std.proofs.lemmas.Bool.{cases_eq}
+use Rattle.std.proofs.lemmas.List.{get_or-set_other}
+use Rattle.std.proofs.lemmas.Grind.{get_or-set_at}
+use Rattle.pma_store.specs.Judging.{AreFound, judged_of, meets_by, records_by, counted_by}
+
+-- by whether the key is there
+pub meets_is : (hmax : ℕ) (m : Map) (u : Update) → meets_full hmax m u ≡ meets_by u (contains_key m (key_of u)) (len m) (upper_of hmax)
+meets_is hmax m (bind key value) = refl
+meets_is hmax m (unbind key) = refl
+
+pub counted_is : (m : Map) (u : Update) (c : ItemCounts) → count_item m u c ≡ counted_by u (contains_key m (key_of u)) c
+counted_is m (bind key value) c = refl
+counted_is m (unbind key) c = refl
+
+put_records : (m : Map) (key value : List ℕ) (b r : Bool) → contains_key m key ≡ b → not (b || r) ≡ false → len (cond (b || r) (insert m key value) m) ≡ cond b (len m) (len m + 1)
+put_records m key value true r e room = len-insert nat_list_cmp_total m key value ∙ ap (λ (c : Bool). cond c (len m) (len m + 1)) e
+put_records m key value false true e room = len-insert nat_list_cmp_total m key value ∙ ap (λ (c : Bool). cond c (len m) (len m + 1)) e
+put_records m key value false false e room = absurd (cc)
+
+remove_records : (m : Map) (key : List ℕ) (b : Bool) → contains_key m key ≡ b → len (cond b (remove m key) m) ≡ cond b (len m - 1) (len m)
+remove_records m key true e = len-remove nat_list_cmp_total m key ∙ ap (λ (c : Bool). cond c (len m - 1) (len m)) e
+remove_records m key false e = refl
+
+pub records_is : (hmax : ℕ) (m : Map) (u : Update) → meets_full hmax m u ≡ false → len (map_after hmax m u) ≡ records_by u (contains_key m (key_of u)) (len m)
+records_is hmax m (bind key value) room = put_records m key value (contains_key m key) (nat_lt (len m) (upper_of hmax)) refl room
+records_is hmax m (unbind key) room = remove_records m key (contains_key m key) refl
+
+-- One item more.
+
+pub count_next : (hmax : ℕ) (m : Map) (items : List Update) (k : ℕ) (d : Update) (c : ItemCounts) → k < length items → count_items hmax m (take (suc k) items) c ≡ count_item (map_after_items hmax m (take k items)) (get_or items k d) (count_items hmax m (take k items) c)
+count_next hmax m [] k d c lt = absurd (omega arith)
+count_next hmax m (u ∷ us) zero d c lt = refl
+count_next hmax m (u ∷ us) (suc k) d c lt = count_next hmax (map_after hmax m u) us k d (count_item m u c) (omega arith)
+
+either : (b : Bool) (i : ℕ) (x : Option ℕ) → cond b (Some i) x ≡ None → (b ≡ false) × (x ≡ None)
+either true i x e = absurd (cc)
+either false i x e = (refl, e)
+
+pub full_next : (hmax : ℕ) (m : Map) (i : ℕ) (items : List Update) (k : ℕ) (d : Update) → k < length items → first_full_from hmax m i (take k items) ≡ None → meets_full hmax (map_after_items hmax m (take k items)) (get_or items k d) ≡ false → first_full_from hmax m i (take (suc k) items) ≡ None
+full_next hmax m i [] k d lt none room = absurd (omega arith)
+full_next hmax m i (u ∷ us) zero d lt none room = ap (λ (b : Bool). cond b (Some i) None) room
+full_next hmax m i (u ∷ us) (suc k) d lt none room =
+    let parts = either (meets_full hmax m u) i (first_full_from hmax (map_after hmax m u) (suc i) (take k us)) none in
+    ap (λ (b : Bool). cond b (Some i) (first_full_from hmax (map_after hmax m u) (suc i) (take (suc k) us))) parts.0
+    ∙ full_next hmax (map_after hmax m u) (suc i) us k d (omega arith) parts.1 room
+
+pub full_here : (hmax : ℕ) (m : Map) (i : ℕ) (items : List Update) (k : ℕ) (d : Update) → k < length items → first_full_from hmax m i (take k items) ≡ None → meets_full hmax (map_after_items hmax m (take k items)) (get_or items k d) ≡ true → is_some (first_full_from hmax m i items) ≡ true
+full_here hmax m i [] k d lt none full = absurd (omega arith)
+full_here hmax m i (u ∷ us) zero d lt none full = ap (λ (b : Bool). is_some (cond b (Some i) (first_full_from hmax (map_after hmax m u) (suc i) us))) full
+full_here hmax m i (u ∷ us) (suc k) d lt none full =
+    let parts = either (meets_full hmax m u) i (first_full_from hmax (map_after hmax m u) (suc i) (take k us)) none in
+    ap (λ (b : Bool). is_some (cond b (Some i) (first_full_from hmax (map_after hmax m u) (suc i) us))) parts.0
+    ∙ full_here hmax (map_after hmax m u) (suc i) us k d (omega arith) parts.1 full
+
+-- k of the items were judged
+pub record IsJudged (hmax : ℕ) (m : Map) (items : List Update) (k records : ℕ) (counts : ItemCounts) : Type 0 where
+  pub records_are : records ≡ len (map_after_items hmax m (take k items))
+  pub counts_are : counts ≡ count_items hmax m (take k items) no_items
+  pub room : first_full_from hmax m 0 (take k items) ≡ None
+
+pub none_judged : (hmax : ℕ) (m : Map) (items : List Update) (records : ℕ) → records ≡ len m → IsJudged hmax m items 0 records no_items
+none_judged hmax m items records is = record { records_are = is; counts_are = refl; room = refl }
+
+pub all_judged : (hmax : ℕ) (m : Map) (items : List Update) (k records : ℕ) (counts : ItemCounts) → k ≡ length items → IsJudged hmax m items k records counts → Some counts ≡ judged_of hmax m items
+all_judged hmax m items k records counts end is =
+    let whole : take k items ≡ items = take_all k items (omega arith) in
+    let room : first_full hmax m items ≡ None = ap (first_full hmax m) (sym whole) ∙ is.room in
+    ap Some (is.counts_are ∙ ap (λ (us : List Update). count_items hmax m us no_items) whole)
+    ∙ sym (ap (λ (o : Option ℕ). cond (is_some o) None (Some (count_items hmax m items no_items))) room)
+
+module _ (hmax : ℕ) (m : Map) (items : List Update) (k records : ℕ) (counts : ItemCounts) (d : Update) (lt : k < length items) (distinct : are_distinct items ≡ true) (is : IsJudged hmax m items k records counts) (present : Bool) (there : present ≡ contains_key m (key_of (get_or items k d))) where
+  abbrev here : Map
+  here = map_after_items hmax m (take k items)
+
+  -- the item finds its key as the map of before has it
+  finds : contains_key here (key_of (get_or items k d)) ≡ present
+  finds = ap is_some (get_before hmax m items k d lt distinct) ∙ sym there
+
+  meets : meets_full hmax here (get_or items k d) ≡ meets_by (get_or items k d) present records (upper_of hmax)
+  meets = meets_is hmax here (get_or items k d) ∙ (λ t. meets_by (get_or items k d) (finds t) (sym is.records_are t) (upper_of hmax))
+
+  pub full_judged : meets_by (get_or items k d) present records (upper_of hmax) ≡ true → None ≡ judged_of hmax m items
+  full_judged full = sym (ap (λ (b : Bool). cond b None (Some (count_items hmax m items no_items))) (full_here hmax m 0 items k d lt is.room (meets ∙ full)))
+
+  pub next_judged : meets_by (get_or items k d) present records (upper_of hmax) ≡ false → (more : ℕ) (counted : ItemCounts) → more ≡ records_by (get_or items k d) present records → counted ≡ counted_by (get_or items k d) present counts → IsJudged hmax m items (suc k) more counted
+  next_judged room more counted more_is counted_as = record {
+    records_are =
+        more_is
+        ∙ (λ t. records_by (get_or items k d) (sym finds t) (is.records_are t))
+        ∙ sym (records_is hmax here (get_or items k d) (meets ∙ room))
+        ∙ ap len (sym (next_item hmax m items k d lt));
+    counts_are =
+        counted_as
+        ∙ (λ t. counted_by (get_or items k d) (sym finds t) (is.counts_are t))
+        ∙ sym (counted_is here (get_or items k d) (count_items hmax m (take k items) no_items))
+        ∙ sym (count_next hmax m items k d no_items lt);
+    room = full_next hmax m 0 items k d lt is.room (meets ∙ room);
+  }
+
+-- What a count's answer tells.
+
+pub full_of : (a b : Bool) → a ≡ not b → a ≡ false → b ≡ true
+full_of a true is e = refl
+full_of a false is e = absurd (cc)
+
+pub room_of : (a b : Bool) → a ≡ not b → a ≡ true → b ≡ false
+room_of a true is e = absurd (cc)
+room_of a false is e = refl
+
+-- Which keys were found.
+
+pub found_more : (old mid : List Bool) (items : List Update) (m : Map) (i : ℕ) (present : Bool) → mid ≡ old → i < length old → AreFound old items m i → ((d : Update) → present ≡ contains_key m (key_of (get_or items i d))) → AreFound (set mid i present) items m (i + 1)
+found_more old mid items m i present same lt found there = subst (λ (bs : List Bool). AreFound (set bs i present) items m (i + 1)) (sym same) by_place
+  where
+    by_place : AreFound (set old i present) items m (i + 1)
+    by_place j low d = elim (cases_eq j i) [
+      | inl is ↦ get_or-set_at old i j present false is lt ∙ there d ∙ ap (λ (k : ℕ). contains_key m (key_of (get_or items k d))) (sym is)
+      | inr other ↦ get_or-set_other old i j present false other ∙ found j (omega (arith, low, other)) d
+    ]

@@ -1,0 +1,32 @@
+use Rattle.std.proofs.Common.{Some, ap, subst, sym, arith}
+use Rattle.station.specs.View.{Told}
+use Rattle.station.proofs.Composition.{told_back}
+use Rattle.map_model.specs.ArrayState.{ArrayState}
+use Rattle.map_model.specs.Store.{Map}
+use Rattle.pma_store.specs.Judging.{AreAllFound, counts_of}
+use Rattle.pma_store.proofs.Batched.{stands_intent, state_intent, not_written, items_fail, whole_batch}
+use Rattle.pma_store.proofs.array.OpenArray.run_batch.Goals as goal
+
+pub make_items-requires-clause-on : goal.make_items-requires-clause-on
+make_items-requires-clause-on g c =
+    stands_intent c.args.intent.now c.args.self.now c.requires.open (g.met.S.Station.lawful c.args.station.now) c.requires.some c.write_intent.ensures.intent c.requires.fit c.requires.version (counts_of c.args.judged.now) c.requires.judged c.write_intent.ensures.steps c.in-Ok.ensures.settled
+
+pub make_items-requires-clause-found : goal.make_items-requires-clause-found
+make_items-requires-clause-found g c told =
+    let told_a : Told (g.S.Station.view c.args.station.now) = told_back c.write_intent.ensures.steps.frame told in
+    let same = state_intent c.args.intent.now c.args.self.now c.requires.open (g.met.S.Station.lawful c.args.station.now) c.requires.some c.write_intent.ensures.intent c.requires.fit c.requires.version (counts_of c.args.judged.now) c.requires.judged c.write_intent.ensures.steps told_a in
+    subst (λ (m : Map). AreAllFound (Some c.args.judged.now.found) c.args.intent.now m) (sym (ap (λ (x : ArrayState). x.map) same)) (c.requires.found told_a)
+
+pub returns-in-Err-clause-applied : goal.returns-in-Err-clause-applied
+returns-in-Err-clause-applied g c =
+    not_written c.args.intent.now c.args.self.now c.requires.open (g.met.S.Station.lawful c.args.station.now) c.requires.some c.write_intent.ensures.intent c.requires.fit c.requires.version (counts_of c.args.judged.now) c.requires.judged c.write_intent.ensures.steps (omega (arith, c.write_intent.ensures.cost)) c.in-Err.ensures.cause
+
+pub returns-in-Ok-make_items-clause-applied : goal.returns-in-Ok-make_items-clause-applied
+returns-in-Ok-make_items-clause-applied g c =
+    whole_batch c.args.intent.now c.args.self.now c.requires.open (g.met.S.Station.lawful c.args.station.now) c.requires.some c.write_intent.ensures.intent c.requires.fit c.requires.version (counts_of c.args.judged.now) c.requires.judged c.write_intent.ensures.steps
+    c.make_items.new.self (g.met.S.Station.lawful c.write_intent.new.station) c.in-Ok.ensures.settled c.in-Ok.ensures.opened (omega (arith, c.write_intent.ensures.cost)) c.in-Ok-make_items.charge c.in-Ok-make_items.ensures
+
+pub returns-in-Err-make_items-clause-applied : goal.returns-in-Err-make_items-clause-applied
+returns-in-Err-make_items-clause-applied g c =
+    items_fail c.args.intent.now c.args.self.now c.requires.open (g.met.S.Station.lawful c.args.station.now) c.requires.some c.write_intent.ensures.intent c.requires.fit c.requires.version (counts_of c.args.judged.now) c.requires.judged c.write_intent.ensures.steps
+    c.make_items.new.self (g.met.S.Station.lawful c.write_intent.new.station) c.in-Ok.ensures.settled c.in-Ok.ensures.opened (omega (arith, c.write_intent.ensures.cost)) c.in-Err-make_items.fault c.in-Err-make_items.ensures

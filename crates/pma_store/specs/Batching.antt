@@ -1,0 +1,107 @@
+-- Several updates as one command: what it answers, and what it leaves at every moment.
+use Rattle.std.specs.Prelude.{◌≡◌, ◌⊎◌, ℕ, ◌+◌, ◌*◌, ◌≤◌, nat_le, if◌then◌else◌, false, List, [], length, is_some, Result, IsOk, OnOk, IfOk, IfErr, IsErrOf}
+use Rattle.station.specs.Bytes.{Touched}
+use Rattle.station.specs.View.{View, Told, EachHeld, Rose}
+use Rattle.station.specs.Steps.{Steps}
+use Rattle.batch_intent.specs.Gate.{IsIntentPlace}
+use Rattle.batch_intent.specs.Means.{has_pending}
+use Rattle.cost_ledger.specs.Potential.{potential_of}
+use Rattle.density_rule.specs.Bounds.{upper_of}
+use Rattle.header_gate.specs.declared.layout.Layout.{Layout}
+use Rattle.header_gate.specs.declared.layout.TheConstants.{INTENT_VERSION}
+use Rattle.map_model.specs.ArrayState.{ArrayState}
+use Rattle.map_model.specs.Image.{map_of}
+use Rattle.map_model.specs.Items.{ItemCounts, no_items, count_items, first_full, map_after_items, accepts, array_state_after_batch, charge_after_items}
+use Rattle.map_model.specs.Store.{Map, Update}
+use Rattle.segment.specs.declared.fault.StoreFault.{StoreFault}
+use Rattle.segment.specs.declared.fault.StoreFault.TheVariants.{Failed}
+use Rattle.pma_store.specs.declared.answers.Batch.{Batch}
+use Rattle.pma_store.specs.declared.answers.Batch.TheVariants.{Done, Full, NoBatch}
+use Rattle.pma_store.specs.Answers.{state_in}
+use Rattle.pma_store.specs.Costing.{most_of, updates_cost, WritesSome}
+use Rattle.pma_store.specs.Looking.{TellsOther}
+use Rattle.pma_store.specs.Meaning.{BecomesMeant}
+use Rattle.pma_store.specs.Store.{StoreView, StandsOn, LeavesAll, limit_of}
+use Rattle.pma_store.specs.Touching.{IsUpdatePlace}
+
+abbrev pub version_of : StoreView → ℕ
+version_of s = s.place.layout.version
+
+-- the answer where all items are made
+abbrev pub done_by : ItemCounts → ℕ → Batch
+done_by c charge = Done c.stored c.replaced c.removed c.absent charge
+
+-- what a batch answers in a file of this version and a state of it, where the greatest height is hmax
+abbrev pub batch_answer : ℕ → ℕ → ArrayState → List Update → Batch
+batch_answer version hmax s items =
+    if nat_le INTENT_VERSION version
+    then (if is_some (first_full hmax s.map items) then Full (upper_of hmax) else done_by (count_items hmax s.map items no_items) (charge_after_items hmax s items))
+    else NoBatch
+
+-- the updates that a batch makes in a map: all of its items, or none
+abbrev pub items_made : ℕ → ℕ → Map → List Update → List Update
+items_made version hmax m items = if accepts version hmax m items then items else []
+
+-- the map after them
+abbrev pub map_after_batch : ℕ → ℕ → Map → List Update → Map
+map_after_batch version hmax m items = map_after_items hmax m (items_made version hmax m items)
+
+-- by an answer, how many items were made, with what charge, and the bytes of their intent and its gate, twice
+abbrev pub made_in : ℕ → Batch → ℕ
+made_in n (Done stored replaced removed absent charge) = n
+made_in n (Full most) = 0
+made_in n NoBatch = 0
+
+abbrev pub charge_in : Batch → ℕ
+charge_in (Done stored replaced removed absent charge) = charge
+charge_in (Full most) = 0
+charge_in NoBatch = 0
+
+abbrev pub intent_cost_in : Batch → ℕ
+intent_cost_in (Done stored replaced removed absent charge) = 514
+intent_cost_in (Full most) = 0
+intent_cost_in NoBatch = 0
+
+-- a refusal
+abbrev pub IsRefusal : Batch → Type 0
+IsRefusal (Done stored replaced removed absent charge) = ⊥
+IsRefusal (Full most) = Unit {0}
+IsRefusal NoBatch = Unit {0}
+
+-- a place of an update, or of the intent or its gate
+abbrev pub IsBatchPlace : Layout → ℕ → Type 0
+IsBatchPlace l p = IsUpdatePlace l p ⊎ IsIntentPlace p
+
+-- A batch, as a store offers it.
+pub record Batches (items : List Update) (result : Result Batch StoreFault) (s t : StoreView) (a b : View) : Type 0 where
+  pub answer : IfOk result (λ done. Told a → done ≡ batch_answer (version_of s) (limit_of s) (state_in s a.held) items)
+  -- map, height, array and marks are those after all items, or as they were
+  pub state : OnOk result (Told a → state_in t b.held ≡ array_state_after_batch (version_of s) (limit_of s) (state_in s a.held) items)
+  -- where it is refused, nothing changes; and on a file without batches no call is made
+  pub refused : IfOk result (λ done. IsRefusal done → LeavesAll s t a b)
+  pub unread : IfOk result (λ done. done ≡ NoBatch → (b.travel ≡ a.travel) × (b.calls ≡ a.calls))
+  -- at every moment none of the items or all of them, and no byte touched but an update's, the intent's and its gate's
+  pub meant : Steps (BecomesMeant (map_of a.held) (map_after_batch (version_of s) (limit_of s) (map_of a.held) items)) a b
+  pub touched : Steps (Touched (IsBatchPlace s.place.layout)) a b
+  pub layout : t.place.layout ≡ s.place.layout
+  -- what it writes by its answer, by the state, and at most whatever is answered
+  pub images : IfOk result (λ done. b.travel.written ≤ a.travel.written + 4101 * s.place.layout.format * charge_in done + intent_cost_in done)
+  pub cost : IfOk result (λ done. Told a → b.travel.written ≤ a.travel.written + updates_cost s.place.layout (state_in s a.held) (items_made (version_of s) (limit_of s) (map_of a.held) items) + intent_cost_in done)
+  pub most : Told a → WritesSome s.place.layout (state_in s a.held) (items_made (version_of s) (limit_of s) (map_of a.held) items) (a.travel.written + 514) b.travel.written
+  -- and whatever is told
+  pub spent : b.travel.written ≤ a.travel.written + (most_of s.place.layout (length items) + 514)
+  -- its charge and the rise of the potential are together at most 514 for each item
+  pub paid : IfOk result (λ done. charge_in done + potential_of t.tally ≤ potential_of s.tally + 514 * made_in (length items) done)
+  -- where bytes are told it fails by the disk alone
+  pub complete : Told a → ¬ Rose a.disk_faults b.disk_faults → IsOk result
+
+-- A batch within a store: besides, the store stands for its file again, and why it fails. Whether the store is closed is left
+-- as it was.
+pub record AppliesBatch (items : List Update) (result : Result Batch StoreFault) (s t : StoreView) (a b : View) : Type 0 where
+  pub batch : Batches items result s t a b
+  pub store : OnOk result (StandsOn t b)
+  pub no_intent : OnOk result (EachHeld (λ image. has_pending image ≡ false) b)
+  pub closed : t.closed ≡ s.closed
+  pub damaged : IfErr result (λ fault. Told a → fault ≡ Failed)
+  pub counted : IfErr result TellsOther
+  pub failed : IsErrOf result Failed → Rose a.disk_faults b.disk_faults

@@ -1,0 +1,74 @@
+-- What the items of a batch would do, by whether their keys are there and by how many records there are.
+use Rattle.std.specs.Prelude.{◌≡◌, ℕ, ◌+◌, ◌-◌, ◌<◌, nat_lt, ◌||◌, not, if◌then◌else◌, Bool, false, List, length, slice_index_or, Option, Some, None, is_some, Result, IfOk, IfErr, IsErrOf}
+use Rattle.std.specs.FinMap.{contains_key}
+use Rattle.station.specs.Bytes.{Same}
+use Rattle.station.specs.View.{View, Told, Rose}
+use Rattle.station.specs.Steps.{Steps}
+use Rattle.map_model.specs.ArrayUpdates.{key_of}
+use Rattle.map_model.specs.Image.{map_of}
+use Rattle.map_model.specs.Items.{ItemCounts, no_items, count_items, first_full}
+use Rattle.map_model.specs.Store.{Map, Update, bind, unbind}
+use Rattle.segment.specs.declared.fault.StoreFault.{StoreFault}
+use Rattle.segment.specs.declared.fault.StoreFault.TheVariants.{Failed}
+use Rattle.pma_store.specs.declared.judging.Judged.{Judged}
+use Rattle.pma_store.specs.Looking.{TellsOther}
+use Rattle.pma_store.specs.Store.{StoreView, limit_of}
+
+-- how many of the items did what, or none where one of them meets a full store
+abbrev pub judged_of : ℕ → Map → List Update → Option ItemCounts
+judged_of hmax m items = if is_some (first_full hmax m items) then None else Some (count_items hmax m items no_items)
+
+abbrev pub counts_of : Judged → ItemCounts
+counts_of j = record { stored = j.stored; replaced = j.replaced; removed = j.removed; absent = j.absent }
+
+abbrev pub counts_in : Option Judged → Option ItemCounts
+counts_in None = None
+counts_in (Some j) = Some (counts_of j)
+
+-- whether an item meets a full store
+abbrev pub meets_by : Update → Bool → ℕ → ℕ → Bool
+meets_by (bind key value) present records most = not (present || nat_lt records most)
+meets_by (unbind key) present records most = false
+
+-- the records behind it, if it doesn't
+abbrev pub records_by : Update → Bool → ℕ → ℕ
+records_by (bind key value) present n = if present then n else n + 1
+records_by (unbind key) present n = if present then n - 1 else n
+
+-- the counts with it
+abbrev pub counted_by : Update → Bool → ItemCounts → ItemCounts
+counted_by (bind key value) present c = if present then record c { replaced = c.replaced + 1 } else record c { stored = c.stored + 1 }
+counted_by (unbind key) present c = if present then record c { removed = c.removed + 1 } else record c { absent = c.absent + 1 }
+
+-- how many items were counted
+abbrev pub total : Judged → ℕ
+total j = j.stored + j.replaced + j.removed + j.absent
+
+-- the first k of the items have their keys in the map as it was found
+abbrev pub AreFound : List Bool → List Update → Map → ℕ → Type 0
+AreFound found items m k = (i : ℕ) → i < k → (d : Update) → slice_index_or found i false ≡ contains_key m (key_of (slice_index_or items i d))
+
+-- so all of them have, where it was looked for
+abbrev pub AreAllFound : Option (List Bool) → List Update → Map → Type 0
+AreAllFound None items m = Unit {0}
+AreAllFound (Some found) items m = AreFound found items m (length items)
+
+-- what was found of item i
+abbrev pub found_at : Option (List Bool) → ℕ → Option Bool
+found_at None i = None
+found_at (Some found) i = Some (slice_index_or found i false)
+
+abbrev pub found_in : Option Judged → Option (List Bool)
+found_in None = None
+found_in (Some j) = Some j.found
+
+-- The keys of items were looked for, which changes nothing: what they would do, and which of them are there.
+pub record JudgesItems (items : List Update) (result : Result (Option Judged) StoreFault) (s t : StoreView) (a b : View) : Type 0 where
+  pub judged : IfOk result (λ judged. Told a → counts_in judged ≡ judged_of (limit_of s) (map_of a.held) items)
+  pub found : IfOk result (λ judged. Told a → AreAllFound (found_in judged) items (map_of a.held))
+  pub store : t ≡ s
+  pub steps : Steps Same a b
+  pub unwritten : b.travel.written ≡ a.travel.written
+  pub damaged : IfErr result (λ fault. Told a → fault ≡ Failed)
+  pub counted : IfErr result TellsOther
+  pub failed : IsErrOf result Failed → Rose a.disk_faults b.disk_faults

@@ -1,0 +1,48 @@
+-- What an opening leaves of a file, whose intent it applies.
+use Rattle.std.specs.Prelude.{◌≡◌, ℕ, ◌+◌, ◌≤◌, false, List, Some}
+use Rattle.station.specs.Bytes.{Touched}
+use Rattle.batch_intent.specs.Means.{Means, MeansMap, has_pending, opening_reason, pending}
+use Rattle.header_gate.specs.declared.layout.Layout.{Layout}
+use Rattle.header_gate.specs.declared.reason.Reason.{Reason}
+use Rattle.header_gate.specs.Header.{layout_in}
+use Rattle.header_gate.specs.Recovered.{recovered}
+use Rattle.map_model.specs.ArrayState.{opened_state}
+use Rattle.map_model.specs.Store.{Map}
+use Rattle.recovery.specs.Costs.{opening_cost}
+use Rattle.recovery.specs.Restores.{IsAtRest, Opens}
+use Rattle.recovery.specs.declared.fault.OpenFault.{OpenFault}
+use Rattle.recovery.specs.declared.fault.OpenFault.TheVariants.{Memory, Failed, NotStore, Damaged}
+use Rattle.segment.specs.declared.fault.StoreFault.TheVariants as store
+use Rattle.pma_store.specs.Costing.{WritesSome, most_of}
+use Rattle.pma_store.specs.Items.{IsItemPlace}
+use Rattle.pma_store.specs.Looking.{TellsOther}
+
+-- The image means what it meant, and recovers to what it recovered to if something is wrong with it or its intent; only the
+-- places of updates and the intent's gate may change, and where no items are to be applied, what brings the file back.
+pub record OpensMeant (old new : List ℕ) : Type 0 where
+  pub means : (m : Map) (height : ℕ) → Means old m height → MeansMap new m
+  pub recovers : (r : Reason) → opening_reason old ≡ Some r → recovered (layout_in old) new ≡ recovered (layout_in old) old
+  pub touched : Touched (IsItemPlace (layout_in old)) old new
+  pub idle : has_pending old ≡ false → Opens old new
+
+-- there is nothing to be done to the file, and no items are to be applied
+pub record IsAllAtRest (image : List ℕ) : Type 0 where
+  pub rest : IsAtRest image
+  pub no_intent : has_pending image ≡ false
+
+-- What an opening writes at most: what brings the file back; and where items are to be applied, besides what they write,
+-- however many of them are made, and one byte for the intent's gate.
+pub record WritesOpening (image : List ℕ) (before after : ℕ) : Type 0 where
+  pub back : has_pending image ≡ false → after ≤ before + opening_cost (layout_in image)
+  pub items : WritesSome (layout_in image) (opened_state image) (pending image) (before + opening_cost (layout_in image) + 1) after
+
+-- what it writes at most in a file with this layout, whatever is told: as many items as an intent has, and one byte for its gate
+abbrev pub most_opening : Layout → ℕ
+most_opening l = opening_cost l + (most_of l 16 + 1)
+
+-- where damage is another count, the two numbers differ
+abbrev pub TellsOtherCount : OpenFault → Type 0
+TellsOtherCount (Damaged segment why) = TellsOther (store.Damaged segment why)
+TellsOtherCount Memory = Unit {0}
+TellsOtherCount Failed = Unit {0}
+TellsOtherCount (NotStore reason) = Unit {0}

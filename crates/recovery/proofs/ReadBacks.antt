@@ -1,0 +1,148 @@
+-- What comes of the reading of a file, by where it ends.
+use Rattle.std.proofs.Common.{◌≡◌, inl, ℕ, ◌+◌, ◌*◌, ◌^◌, ◌≤◌, List, Option, Some, None, Ok, Err, refl, sym, ◌∙◌, ap, subst, arith}
+use Rattle.station.specs.Bytes.{Same}
+use Rattle.station.specs.View.{View, Lawful, Told, NothingPending}
+use Rattle.station.specs.Steps.{Steps}
+use Rattle.station.proofs.Composition.{same_on, each_held, nothing_on, told_on, told_back}
+use Rattle.header_gate.specs.declared.header.Header.{Header}
+use Rattle.header_gate.specs.declared.reason.Reason.{Reason}
+use Rattle.header_gate.specs.Header.{gate}
+use Rattle.header_gate.specs.Places.{segment_size}
+use Rattle.map_model.specs.Image.{array_of}
+use Rattle.map_model.specs.Reasons.{reason_of}
+use Rattle.batch_intent.specs.Means.{opening_reason}
+use Rattle.redo_journal.specs.declared.place.Place.{Place}
+use Rattle.segment_frames.specs.Standing.{StandsFor}
+use Rattle.veb_index.specs.View.{IndexView}
+use Rattle.window_tally.specs.View.{TallyView}
+use Rattle.recovery.specs.Costs.{replay_cost, back_reads}
+use Rattle.recovery.specs.Faults.{IsEarly, IsNoDamage, IsRegionFault, IsIntentFault, IsReadFault}
+use Rattle.recovery.specs.Intents.{intent_of, intent_reason, intent_reads, region_reads, IsIntentFor}
+use Rattle.recovery.specs.Opening.{Awaits, IsReadBack, ReadsBack}
+use Rattle.recovery.specs.Parts.{HasFences}
+use Rattle.recovery.specs.Restores.{Restores, LeavesFile}
+use Rattle.recovery.specs.declared.fault.OpenFault.{OpenFault}
+use Rattle.recovery.specs.declared.fault.OpenFault.TheVariants.{Memory, Failed, NotStore, Damaged}
+use Rattle.recovery.specs.declared.parts.Parts.{Parts}
+use Rattle.recovery.proofs.Bringing.{leaves_on}
+use Rattle.recovery.proofs.Intents.{by_file, by_intent, waits_kept}
+use Rattle.recovery.proofs.Openings.{same_leaves}
+
+-- what is known of parts and file stays where nothing is written
+pub still_back : {place : Place} {tally : TallyView} {index : IndexView} {journal : ℕ} (b c : View) → Lawful b → Lawful c → Steps Same b c → IsReadBack place tally index journal b → IsReadBack place tally index journal c
+still_back {place} {tally} {index} b c law_b law_c bc back =
+    let quiet = nothing_on law_b back.nothing bc in
+    record {
+      parts_are = back.parts_are;
+      unrested = back.unrested;
+      reach = omega (arith, back.reach, ap (λ f. f.reach) bc.frame.fixed);
+      root = back.root;
+      stands = each_held c (StandsFor place tally) law_c quiet (λ told.
+          let before = told_back bc.frame told in subst (StandsFor place tally) (sym (bc.held before)) (back.stands b.held (inl (before, refl))));
+      fenced = λ told. let before = told_back bc.frame told in subst (λ (f : List ℕ). HasFences index (array_of f)) (sym (bc.held before)) (back.fenced before);
+      nothing = quiet;
+    }
+
+region_no_damage : (e : OpenFault) → IsRegionFault e → IsNoDamage e
+region_no_damage Memory is = absurd is
+region_no_damage Failed is = tt
+region_no_damage (NotStore r) is = tt
+region_no_damage (Damaged segment why) is = absurd is
+
+region_read : (e : OpenFault) → IsRegionFault e → IsReadFault e
+region_read Memory is = absurd is
+region_read Failed is = tt
+region_read (NotStore r) is = tt
+region_read (Damaged segment why) is = absurd is
+
+intent_read : (e : OpenFault) → IsIntentFault e → IsReadFault e
+intent_read Memory is = absurd is
+intent_read Failed is = tt
+intent_read (NotStore r) is = tt
+intent_read (Damaged segment why) is = is
+
+module _ (head : Header) (old mid : Parts) (a b : View) (awaits : Awaits head old a) (steps : Steps Restores a b) (place : mid.place ≡ old.place)
+    (kept : Told a → gate a.held ≡ 0 → LeavesFile a b) (read : Told a → gate a.held ≡ 0 → b.travel.read ≤ a.travel.read + segment_size old.place.layout * 2 ^ head.height)
+    (cost : b.travel.written ≤ a.travel.written + replay_cost old.place.layout) where
+  region_is : Told a → segment_size old.place.layout * 2 ^ head.height ≡ region_reads a.held
+  region_is told t = segment_size (sym (awaits.header_is told).layout_is t) * 2 ^ sym (awaits.header_is told).height_is t
+
+  -- the journal or a segment is refused, or the disk failed
+  pub no_region : (e : OpenFault) → IsRegionFault e → ((r : Reason) → e ≡ NotStore r → Told a → reason_of a.held ≡ Some r) → ((r : Reason) → e ≡ NotStore r → IsEarly r → LeavesFile a b)
+      → ((r : Reason) → e ≡ NotStore r → NothingPending b) → ReadsBack head (Err e) old mid a b
+  no_region e cause refused early settled = record {
+    back = tt;
+    height_is = tt;
+    place = place;
+    array = tt;
+    waits = tt;
+    items = tt;
+    sound = tt;
+    refused = λ r is told. by_file a.held r (refused r is told);
+    steps = steps;
+    early = early;
+    refused_settled = settled;
+    kept = kept;
+    one_pass = λ told even. omega (arith, read told even, region_is told);
+    cost = cost;
+    damaged = λ told. region_no_damage e cause;
+    causes = region_read e cause;
+  }
+
+  -- The intent.
+
+  module _ (c : View) (law_b : Lawful b) (law_c : Lawful c) (bc : Steps Same b c) (back : IsReadBack mid.place mid.tally mid.index mid.frames.journal b) (sound : Told a → reason_of a.held ≡ None)
+      (arrays : Told a → array_of b.held ≡ array_of a.held) (written : c.travel.written ≡ b.travel.written) (reads : Told b → c.travel.read ≤ b.travel.read + intent_reads b.held) where
+    answered : Told a → (answer : Option Reason) → intent_reason b.held ≡ answer → opening_reason a.held ≡ answer
+    answered told answer is = by_intent a.held b.held (steps.held told) (arrays told) answer (sound told) is
+
+    leaves : Told a → gate a.held ≡ 0 → LeavesFile a c
+    leaves told even = leaves_on (kept told even) (same_leaves bc written)
+
+    one_pass : Told a → gate a.held ≡ 0 → c.travel.read ≤ a.travel.read + back_reads a.held
+    one_pass told even =
+        omega (arith, read told even, region_is told, reads (told_on steps.frame told), ap intent_reads ((kept told even).steps.held told))
+
+    cost_in_all : c.travel.written ≤ a.travel.written + replay_cost old.place.layout
+    cost_in_all = omega (arith, cost, written)
+
+    pub no_intent : (e : OpenFault) → IsIntentFault e → ((r : Reason) → e ≡ NotStore r → Told b → intent_reason b.held ≡ Some r) → (Told b → IsNoDamage e) → ReadsBack head (Err e) old mid a c
+    no_intent e cause refused fine = record {
+      back = tt;
+      height_is = tt;
+      place = place;
+      array = tt;
+      waits = tt;
+      items = tt;
+      sound = tt;
+      refused = λ r is told. answered told (Some r) (refused r is (told_on steps.frame told));
+      steps = same_on steps bc;
+      early = λ r is early. absurd (subst IsIntentFault is cause early);
+      refused_settled = λ r is. nothing_on law_b back.nothing bc;
+      kept = leaves;
+      one_pass = one_pass;
+      cost = cost_in_all;
+      damaged = λ told. fine (told_on steps.frame told);
+      causes = intent_read e cause;
+    }
+
+    pub with_intent : (new : Parts) → new ≡ record mid { intent = new.intent } → mid.tally.height ≡ head.height → (Told b → new.intent ≡ intent_of b.held) → IsIntentFor mid.place.layout.format new.intent → (Told b → intent_reason b.held ≡ None)
+        → ReadsBack head (Ok tt) old new a c
+    with_intent new same height waits items none = subst (λ (p : Parts). ReadsBack head (Ok tt) old p a c) (sym same) (record {
+      back = still_back b c law_b law_c bc back;
+      height_is = height;
+      place = place;
+      array = λ told. ap array_of (bc.held (told_on steps.frame told)) ∙ arrays told;
+      waits = λ told. waits (told_on steps.frame told) ∙ waits_kept a.held b.held (steps.held told);
+      items = items;
+      sound = λ told. answered told None (none (told_on steps.frame told));
+      refused = tt;
+      steps = same_on steps bc;
+      early = tt;
+      refused_settled = tt;
+      kept = leaves;
+      one_pass = one_pass;
+      cost = cost_in_all;
+      damaged = tt;
+      causes = tt;
+    })

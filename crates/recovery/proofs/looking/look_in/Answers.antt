@@ -1,0 +1,60 @@
+use Rattle.std.proofs.Common.{◌≡◌, ◌*◌, inl, List, length, Some, None, refl, sym, ap, subst, ◌∙◌, arith}
+use Rattle.std.specs.Prelude.{is_some}
+use Rattle.std.proofs.Math.Pow.{pow_mono}
+use mathlib.Core.Bool.{true≢false}
+use Rattle.station.specs.declared.travel.Travel.{Travel}
+use Rattle.header_gate.specs.Places.{page_size, height_limit}
+use Rattle.key_slot.specs.Format.{format_of}
+use Rattle.key_slot.specs.Record.{Record}
+use Rattle.key_slot.specs.Segment.{segment_of}
+use Rattle.key_slot.proofs.SegmentLaws.{segment_rows}
+use Rattle.range_scan.proofs.Pages.{format_is, read_as}
+use Rattle.segment.specs.Judged.{damage_of}
+use Rattle.segment.specs.declared.fault.StoreFault.{StoreFault}
+use Rattle.recovery.specs.Faults.{IsRepairFault, repair_fault}
+use Rattle.recovery.specs.Intents.{AlsoIn}
+use Rattle.recovery.proofs.Lookups.{undamaged}
+use Rattle.recovery.proofs.Repairing.{shown_reread}
+use Rattle.recovery.proofs.looking.look_in.Goals as goal
+use Rattle.recovery.proofs.looking.look_in.Goals.{After-read_page}
+
+pub read_page-requires-clause-segment : goal.read_page-requires-clause-segment
+read_page-requires-clause-segment g c =
+    let parts = c.args.parts.now in
+    omega (arith, c.requires.in_store, pow_mono {i = parts.tally.height} {j = height_limit parts.place.layout} c.requires.back.parts_are.height)
+
+pub returns-in_default-clause-reads_one : goal.returns-in_default-clause-reads_one
+returns-in_default-clause-reads_one g c = omega (arith, ap (λ (t : Travel). t.read) c.read_page.ensures.reads)
+
+pub returns-in-Ok-judge-clause-reads_one : goal.returns-in-Ok-judge-clause-reads_one
+returns-in-Ok-judge-clause-reads_one g c = omega (arith, ap (λ (t : Travel). t.read) c.read_page.ensures.reads)
+
+pub returns-in-Err-clause-reads_one : goal.returns-in-Err-clause-reads_one
+returns-in-Err-clause-reads_one g c = omega (arith, ap (λ (t : Travel). t.read) c.read_page.ensures.reads)
+
+size : (g : _) (c : After-read_page g) → length c.read_page.new.page ≡ page_size * c.args.parts.now.place.layout.format
+size g c = omega (arith, c.read_page.auto.page, c.requires.size)
+
+pub returns-in-Ok-judge-clause-found : goal.returns-in-Ok-judge-clause-found
+returns-in-Ok-judge-clause-found g c told =
+    let format = c.args.parts.now.place.layout.format in
+    let page = c.read_page.new.page in
+    let rows = c.in-Ok-judge.rows in
+    let rows_are : segment_of format page ≡ rows = segment_rows format rows page (read_as format rows page (size g (goal.at.returns-in-Ok-judge-clause-found g c).After-read_page) c.in-Ok-judge.ensures.rows) in
+    subst (λ (rs : List Record). AlsoIn c.args.intent.now rs c.args.there.now c.mark_keys.new.there) (sym rows_are ∙ ap (segment_of format) (c.in-Ok.ensures.bytes told)) c.mark_keys.ensures
+
+pub returns-in-Err-clause-damaged : goal.returns-in-Err-clause-damaged
+returns-in-Err-clause-damaged g c told =
+    let parts = c.args.parts.now in
+    let image = (g.S.Station.view c.args.station.now).held in
+    let page = c.read_page.new.page in
+    let shows = c.in-Err.ensures.damage in
+    let format : format_of page ≡ parts.place.layout.format = format_is parts.place.layout.format page (size g (goal.at.returns-in-Err-clause-damaged g c).After-read_page) in
+    let none = undamaged parts.place.layout parts.place.region parts.tally.height parts.tally.counts image (c.requires.back.stands image (inl (told, refl))) c.args.segment c.requires.in_store in
+    let some : Some shows.0 ≡ None = sym shows.1 ∙ (λ t. damage_of (format t) (c.in-Ok.ensures.bytes told t) (c.count-kept.ensures t)) ∙ none in
+    absurd (true≢false (ap is_some some))
+
+pub returns-in-Err-clause-causes : goal.returns-in-Err-clause-causes
+returns-in-Err-clause-causes g c =
+    let shows = c.in-Err.ensures.damage in
+    subst (λ (fault : StoreFault). IsRepairFault (repair_fault fault)) (sym shows.2) (shown_reread _ _ _ shows.0 shows.1)

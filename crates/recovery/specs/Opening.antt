@@ -1,0 +1,118 @@
+-- What an opening comes to, and what is known of parts and file between its steps.
+use Rattle.std.specs.Prelude.{◌≡◌, ◌≢◌, ◌⊎◌, ℕ, ◌+◌, ◌≤◌, List, sum, Some, None, Result, IsOk, OnOk, IfErr, IsErrOf}
+use Rattle.station.specs.View.{View, Told, EachHeld, NothingPending, Rose}
+use Rattle.station.specs.Steps.{Steps}
+use Rattle.density_rule.specs.Bounds.{IsInBounds}
+use Rattle.density_rule.specs.Marks.{no_marks}
+use Rattle.header_gate.specs.declared.header.Header.{Header}
+use Rattle.header_gate.specs.declared.reason.Reason.{Reason}
+use Rattle.header_gate.specs.Header.{gate}
+use Rattle.header_gate.specs.Places.{file_length}
+use Rattle.header_gate.specs.Reasons.{header_reason}
+use Rattle.map_model.specs.Store.{Map}
+use Rattle.map_model.specs.Image.{array_of, height_of}
+use Rattle.map_model.specs.Repairing.{repair as repair_of}
+use Rattle.redo_journal.specs.declared.place.Place.{Place}
+use Rattle.segment_frames.specs.Standing.{StandsFor}
+use Rattle.veb_index.specs.View.{IndexView}
+use Rattle.window_tally.specs.View.{TallyView}
+use Rattle.batch_intent.specs.Means.{Means, opening_reason}
+use Rattle.redistribute.specs.Rearranged.{Rearranges}
+use Rattle.recovery.specs.Costs.{replay_cost, repair_cost, back_reads}
+use Rattle.recovery.specs.Faults.{IsEarly, IsNoDamage, IsReadFault, IsRepairFault}
+use Rattle.recovery.specs.Intents.{intent_of, IsIntentFor}
+use Rattle.recovery.specs.Parts.{AreParts, Fits, AgreesWith, HasFences, HasHeader}
+use Rattle.recovery.specs.Restores.{Restores, LeavesFile}
+use Rattle.recovery.specs.declared.fault.OpenFault.{OpenFault}
+use Rattle.recovery.specs.declared.fault.OpenFault.TheVariants.{Memory, Failed, NotStore}
+use Rattle.recovery.specs.declared.parts.Parts.{Parts}
+
+-- What an opening comes to: which files it opens, why it refuses the others, and what becomes of the file. At each moment
+-- `opens` relates it to the file at entry; a file that `rests` says nothing is to be done to is read, and no more than `reads`.
+pub record OpensFile {T : Type 0} (opens : List ℕ → List ℕ → Type 0) (rests : List ℕ → Type 0) (reads : List ℕ → ℕ) (result : Result T OpenFault) (a b : View) : Type 0 where
+  -- the files that are opened mean a map, and those that aren't have this as their first reason
+  pub sound : OnOk result (Told a → opening_reason a.held ≡ None)
+  pub refused : IfErr result (λ e. (r : Reason) → e ≡ NotStore r → Told a → opening_reason a.held ≡ Some r)
+  -- each file that means a map is opened, but for want of memory and faults of the disk
+  pub complete : Told a → (m : Map) (height : ℕ) → Means a.held m height → ¬ Rose a.disk_faults b.disk_faults → IsOk result ⊎ IsErrOf result Memory
+  pub steps : Steps opens a b
+  -- what becomes of a file that is refused
+  pub late : IfErr result (λ e. (r : Reason) → e ≡ NotStore r → Steps Restores a b)
+  pub early : IfErr result (λ e. (r : Reason) → e ≡ NotStore r → IsEarly r → LeavesFile a b)
+  pub even : IfErr result (λ e. (r : Reason) → e ≡ NotStore r → Told a → gate a.held ≡ 0 → LeavesFile a b)
+  pub refused_settled : IfErr result (λ e. (r : Reason) → e ≡ NotStore r → NothingPending b)
+  -- want of memory comes behind the sync and a sound header, and nothing is written then
+  pub memory : IsErrOf result Memory → LeavesFile a b
+  pub memory_last : IsErrOf result Memory → NothingPending b × (Told a → header_reason a.held ≡ None)
+  -- a file to which nothing is to be done, and one that is no store by its header
+  pub kept : Told a → rests a.held → LeavesFile a b
+  pub one_pass : Told a → rests a.held → b.travel.read ≤ a.travel.read + reads a.held
+  pub unsound : Told a → header_reason a.held ≢ None → LeavesFile a b
+  -- where bytes are told a segment that is read again is as it was
+  pub damaged : IfErr result (λ e. Told a → IsNoDamage e)
+
+-- The parts of an opened store, and the file that they agree with: its array is the repair of the old one.
+pub record IsOpened (parts : Parts) (a b : View) : Type 0 where
+  pub agrees : EachHeld (AgreesWith parts.place parts.tally parts.index) b
+  pub fits : Fits parts.place parts.tally parts.index parts.frames.journal
+  pub reach : file_length parts.place.layout ≤ a.fixed.reach
+  pub unrested : parts.tally.marks ≡ no_marks parts.tally.height
+  pub array : Told a → array_of b.held ≡ repair_of (height_of a.held) (array_of a.held)
+  pub waits : Told a → parts.intent ≡ intent_of a.held
+  pub items : IsIntentFor parts.place.layout.format parts.intent
+  pub settled : NothingPending b
+
+-- Parts that were made for the file with this header, of which nothing is known yet.
+pub record Awaits (head : Header) (parts : Parts) (v : View) : Type 0 where
+  pub parts_are : AreParts parts.place parts.tally parts.index parts.frames.journal
+  pub height_is : parts.tally.height ≡ head.height
+  pub unrested : parts.tally.marks ≡ no_marks parts.tally.height
+  pub reach : file_length parts.place.layout ≤ v.fixed.reach
+  pub nothing : NothingPending v
+  pub header_is : Told v → HasHeader parts.place head.height head.gate v.held
+
+-- The file was read: each image stands for the tally, whose records are within the bounds of its height, and the index has
+-- the fences of the segments that aren't empty.
+pub record IsReadBack (place : Place) (tally : TallyView) (index : IndexView) (journal : ℕ) (v : View) : Type 0 where
+  pub parts_are : AreParts place tally index journal
+  pub unrested : tally.marks ≡ no_marks tally.height
+  pub reach : file_length place.layout ≤ v.fixed.reach
+  pub root : IsInBounds tally.height tally.height (sum tally.counts)
+  pub stands : EachHeld (StandsFor place tally) v
+  pub fenced : Told v → HasFences index (array_of v.held)
+  pub nothing : NothingPending v
+
+-- What came of the reading of a file, before a repair.
+pub record ReadsBack (head : Header) (result : Result (Unit {0}) OpenFault) (old new : Parts) (a b : View) : Type 0 where
+  pub back : OnOk result (IsReadBack new.place new.tally new.index new.frames.journal b)
+  pub height_is : OnOk result (new.tally.height ≡ head.height)
+  pub place : new.place ≡ old.place
+  pub array : OnOk result (Told a → array_of b.held ≡ array_of a.held)
+  -- the intent
+  pub waits : OnOk result (Told a → new.intent ≡ intent_of a.held)
+  pub items : OnOk result (IsIntentFor new.place.layout.format new.intent)
+  -- the reasons against the file
+  pub sound : OnOk result (Told a → opening_reason a.held ≡ None)
+  pub refused : IfErr result (λ e. (r : Reason) → e ≡ NotStore r → Told a → opening_reason a.held ≡ Some r)
+  pub steps : Steps Restores a b
+  pub early : IfErr result (λ e. (r : Reason) → e ≡ NotStore r → IsEarly r → LeavesFile a b)
+  pub refused_settled : IfErr result (λ e. (r : Reason) → e ≡ NotStore r → NothingPending b)
+  -- where the gate is even nothing changes
+  pub kept : Told a → gate a.held ≡ 0 → LeavesFile a b
+  pub one_pass : Told a → gate a.held ≡ 0 → b.travel.read ≤ a.travel.read + back_reads a.held
+  pub cost : b.travel.written ≤ a.travel.written + replay_cost old.place.layout
+  pub damaged : IfErr result (λ e. Told a → IsNoDamage e)
+  pub causes : IfErr result IsReadFault
+
+-- What a repair came to.
+pub record Repairs (result : Result (Unit {0}) OpenFault) (old new : Parts) (a b : View) : Type 0 where
+  pub agrees : OnOk result (EachHeld (AgreesWith new.place new.tally new.index) b)
+  pub fits : OnOk result (Fits new.place new.tally new.index new.frames.journal)
+  pub unrested : OnOk result (new.tally.marks ≡ no_marks new.tally.height)
+  pub array : OnOk result (Told a → array_of b.held ≡ repair_of old.tally.height (array_of a.held))
+  pub place : new.place ≡ old.place
+  pub intent : new.intent ≡ old.intent
+  pub steps : Steps (Rearranges old.place) a b
+  pub cost : b.travel.written ≤ a.travel.written + repair_cost old.place.layout.format old.tally.height
+  pub damaged : IfErr result (λ e. Told a → e ≡ Failed)
+  pub causes : IfErr result IsRepairFault

@@ -1,0 +1,114 @@
+//! Whether items have room in a store, told before any of them is made.
+
+ghost use Rattle.std.specs.Prelude.{◌≡◌, ℕ, ◌+◌, ◌≤◌, ◌^◌, length, IfSome};
+ghost use Rattle.key_slot.specs.declared.sizes.TheConstants.{MAX_KEY_LEN, MAX_VALUE_LEN};
+ghost use Rattle.map_model.specs.ArrayUpdates.{key_of};
+ghost use Rattle.map_model.specs.Items.{first_full};
+ghost use Rattle.map_model.specs.Store.{Map};
+ghost use Rattle.batch_intent.specs.Items.{update_of};
+ghost use Rattle.batch_intent.specs.Spelling.{item_bytes};
+ghost use Rattle.recovery.specs.Intents.{puts_in, is_put as is_bind, meets_by, records_by, place_among, IsCounted};
+
+use batch_intent::{Intent, Item, MOST_ITEMS};
+use key_slot::Key;
+
+/// For each item a flag.
+pub(crate) const FLAGS: usize = MOST_ITEMS as usize;
+
+/// The place in the intent of the first item that meets a full store of `most` records, if one does, by which of the items
+/// find their keys in a store of so many records. No item changes another's key.
+pub(crate) fn full_place(
+    intent: &Intent,
+    there: &[bool; FLAGS],
+    records: u32,
+    most: u32,
+) -> Option<u32>
+    requires { records ≤ 2 ^ 31 }
+    ensures full { (limit : ℕ) (m : Map) → IsCounted limit m intent.now there.now records most → result ≡ place_among intent.now (first_full limit m intent.now) }
+    ensures low { IfSome result (λ place. place ≤ 2 ^ 16) }
+{
+    let mut records = records;
+    let mut place = 1;
+    for i in 0..intent.len() {
+        let item = intent.item(i);
+        let present = there[i as usize];
+        if meets_full(&item, present, records, most) {
+            return Some(place);
+        }
+        records = records_behind(&item, present, records);
+        place += item_len(&item);
+    }
+    None
+}
+
+// Whether an item meets a full store.
+fn meets_full(item: &Item, present: bool, records: u32, most: u32) -> bool
+    ensures { result ≡ meets_by (update_of item.now) present records most }
+{
+    match item {
+        Item::Put(_, _) => !(present || records < most),
+        Item::Remove(_) => false,
+    }
+}
+
+// The number of records behind an item that has room.
+fn records_behind(item: &Item, present: bool, records: u32) -> u32
+    requires { records ≤ 2 ^ 31 + 15 }
+    ensures { result ≡ records_by (update_of item.now) present records }
+{
+    match item {
+        Item::Put(_, _) => { if present { records } else { records + 1 } }
+        Item::Remove(_) => {
+            if present {
+                records.saturating_sub(1)
+            } else {
+                records
+            }
+        }
+    }
+}
+
+/// How many of the items are puts.
+pub(crate) fn count_puts(intent: &Intent) -> u32
+    ensures count { result ≡ puts_in intent.now }
+    ensures most { result ≤ 16 }
+{
+    let mut puts = 0;
+    for i in 0..intent.len() {
+        if is_put(&intent.item(i)) {
+            puts += 1;
+        }
+    }
+    puts
+}
+
+// Whether an item is a put.
+fn is_put(item: &Item) -> bool
+    ensures { result ≡ is_bind (update_of item.now) }
+{
+    match item {
+        Item::Put(_, _) => true,
+        Item::Remove(_) => false,
+    }
+}
+
+/// The key of an item.
+pub(crate) fn item_key(item: &Item) -> Key
+    ensures { result ≡ key_of (update_of item.now) }
+{
+    match item {
+        Item::Put(key, _) => *key,
+        Item::Remove(key) => *key,
+    }
+}
+
+// How many bytes the spelling of an item has.
+fn item_len(item: &Item) -> u32
+    ensures size { result ≡ length (item_bytes (update_of item.now)) }
+    ensures most { result ≤ 3 + MAX_KEY_LEN + MAX_VALUE_LEN }
+{
+    match item {
+        Item::Put(key, value) => 3 + (key.as_bytes().len() + value.as_bytes().len()) as u32,
+        Item::Remove(key) => 3 + key.as_bytes().len() as u32,
+    }
+}
