@@ -1,7 +1,7 @@
 -- The words of a batch: what its form says of its items.
-use Rattle.std.proofs.Common.{◌≡◌, ℕ, suc, ◌+◌, ◌<◌, ◌≤◌, Bool, true, false, cond, ◌&&◌, List, [], ◌∷◌, T, length, map, nat_lt, nat_le, Option, Some, None, refl, sym, ap, ◌∙◌, arith}
+use Rattle.std.proofs.Common.{◌≡◌, ℕ, ◌<◌, ◌≤◌, Bool, true, false, cond, ◌&&◌, List, [], ◌∷◌, T, length, map, nat_lt, nat_le, Some, None, refl, arith}
 use Rattle.std.specs.Prelude.{codes}
-use Rattle.std.specs.List.{list_all, slice_split, onto_first, count_by}
+use Rattle.std.specs.List.{list_all, onto_first}
 use Rattle.std.specs.Str.{bytes_eq}
 use Rattle.std.proofs.lemmas.Bool.{leb-true, le-leb, ltb-false}
 use Rattle.std.proofs.lemmas.List.{length-map}
@@ -14,7 +14,6 @@ use Rattle.map_model.specs.ArrayUpdates.{key_of}
 use Rattle.batch_intent.specs.declared.intent.TheConstants.{MOST_ITEMS}
 use Rattle.batch_intent.specs.declared.places.TheConstants.{INTENT_SIZE}
 use Rattle.batch_intent.specs.Spelling.{intent_bytes, value_of, fits_item}
-use Rattle.command_text.specs.declared.command.Command.{Command}
 use Rattle.command_text.specs.declared.command.Command.TheVariants.{OversizedKey, OversizedValue}
 use Rattle.command_text.specs.Batch.{is_separator, parts, is_item_form, item_of, items_of, is_batch_form, first_oversized}
 use Rattle.command_text.proofs.WordLaws.{AreWords}

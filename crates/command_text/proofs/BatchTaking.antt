@@ -1,5 +1,5 @@
 -- The items of a batch taken one by one into an intent.
-use Rattle.std.proofs.Common.{◌≡◌, ℕ, suc, ◌+◌, ◌<◌, ◌≤◌, Bool, true, false, cond, ◌&&◌, List, [], ◌∷◌, ◌++◌, length, map, take, get_or, nat_lt, nat_le, ◌||◌, Option, Some, None, Result, Ok, Err, is_err, MatchResult, refl, sym, ap, subst, ◌∙◌, arith, length-append, append_assoc, append-nil}
+use Rattle.std.proofs.Common.{◌≡◌, ℕ, ◌+◌, ◌≤◌, Bool, true, false, cond, ◌&&◌, List, [], ◌∷◌, ◌++◌, length, map, take, get_or, nat_lt, ◌||◌, Option, Some, None, Result, Ok, Err, is_err, MatchResult, refl, sym, ap, subst, ◌∙◌, arith, length-append, append_assoc, append-nil}
 use Rattle.std.specs.List.{list_all, flat_map}
 use Rattle.std.proofs.lemmas.Bool.{le-ltb, lt-leb}
 use Rattle.std.proofs.lemmas.List.{length-map}

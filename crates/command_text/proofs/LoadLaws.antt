@@ -1,5 +1,5 @@
 -- The lines that a dump says are those of a load text.
-use Rattle.std.proofs.Common.{◌%◌, ◌≡◌, ◌≢◌, ℕ, zero, suc, ◌+◌, ◌-◌, ◌*◌, ◌^◌, ◌<◌, ◌≤◌, ◌==◌, ◌||◌, false, List, [], ◌∷◌, ◌++◌, length, cond, nat_lt, All, Some, refl, sym, ap, subst, ◌∙◌, arith, length-append, ne_eqb, slice_index, take}
+use Rattle.std.proofs.Common.{◌%◌, ◌≡◌, ◌≢◌, ℕ, zero, suc, ◌+◌, ◌-◌, ◌*◌, ◌^◌, ◌<◌, ◌≤◌, ◌||◌, List, [], ◌∷◌, ◌++◌, length, cond, nat_lt, All, refl, ap, ◌∙◌, arith, length-append, ne_eqb, slice_index, take}
 use Rattle.std.specs.Prelude.{codes, decimal}
 use Rattle.std.specs.Str.Lines.{strip_carriage_return}
 use Rattle.std.proofs.lemmas.Bool.{le-ltb}
@@ -8,13 +8,10 @@ use Rattle.std.proofs.lemmas.List.Elements.{All-weaker, All-append}
 use Rattle.percent_encoding.specs.Percent.{percent_decode}
 use Rattle.key_slot.specs.Format.{wide, key_room, value_room}
 use Rattle.key_slot.proofs.SlotLaws.{sizes}
-use Rattle.line_source.specs.Lines.{NoFeed, line_limit, is_long}
-use Rattle.command_text.specs.Words.{words}
-use Rattle.command_text.specs.Number.{number_of}
+use Rattle.line_source.specs.Lines.{NoFeed, line_limit}
 use Rattle.command_text.specs.Printed.{printed, value_word}
 use Rattle.command_text.specs.ReadsBack.{IsPrintedByte, MayBeRecord, DumpReadsBack}
 use Rattle.command_text.specs.Load.{load_line, load_line_raw, record_line, row_of, end_line, if_number}
-use Rattle.command_text.specs.declared.load.LoadLine.{LoadLine}
 use Rattle.command_text.specs.declared.load.LoadLine.TheVariants.{Row, End, Bad}
 use Rattle.command_text.proofs.NumberLaws.{some_of}
 use Rattle.command_text.proofs.PrintedLaws.{clean, decodes, length-printed, record_words, some_words}

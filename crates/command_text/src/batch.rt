@@ -1,6 +1,6 @@
 //! The items of a batch.
 
-ghost use Rattle.std.specs.Prelude.{◌≡◌, ◌≤◌, ◌<◌, ◌+◌, ◌*◌, ℕ, true, false, List, ◌∷◌, length, MatchOption, MatchResult, option_copied, Some};
+ghost use Rattle.std.specs.Prelude.{◌≡◌, ◌≤◌, ◌<◌, ◌+◌, ◌*◌, ℕ, true, false, List, ◌∷◌, length, MatchOption, option_copied, Some};
 ghost use Rattle.std.specs.List.{list_all};
 ghost use Rattle.percent_encoding.specs.Percent.{percent_decode};
 ghost use Rattle.key_slot.specs.Format.{wide};
@@ -28,14 +28,14 @@ pub(crate) struct ItemWords<'a> {
 }
 
 // What follows `batch`.
-pub(crate) fn parse_batch(rest: &[u8], format: u32) -> Command
+pub(crate) fn read_batch(rest: &[u8], format: u32, command: &mut Command)
     requires { format ≤ wide }
-    ensures { result ≡ batch_of format (words rest.now) }
+    ensures { command.new ≡ batch_of format (words rest.now) }
 {
     if has_form(rest) {
-        read_items(rest, format)
+        read_items(rest, format, command);
     } else {
-        Command::Bad(Why::Words)
+        *command = Command::Bad(Why::Words);
     }
 }
 
@@ -65,10 +65,10 @@ fn has_form(rest: &[u8]) -> bool
 }
 
 // The batch of these items, or its refusal.
-fn read_items(rest: &[u8], format: u32) -> Command
+fn read_items(rest: &[u8], format: u32, command: &mut Command)
     requires format { format ≤ wide }
     requires form { is_batch_form (words rest.now) ≡ true }
-    ensures { result ≡ if_sized (first_oversized format (items_of (words rest.now))) (items_of (words rest.now)) }
+    ensures { command.new ≡ if_sized (first_oversized format (items_of (words rest.now))) (items_of (words rest.now)) }
 {
     let mut left = rest;
     let mut intent = Intent::new();
@@ -77,17 +77,17 @@ fn read_items(rest: &[u8], format: u32) -> Command
         let Some(words) = next_item(left) else {
             unreachable!()
         };
-        let item = match read_item(&words, format) {
-            Ok(item) => item,
-            Err(refused) => return refused,
+        let Some(item) = read_item(&words, format, command) else {
+            return;
         };
         repeated |= intent.push(item).is_err();
         let Some(behind) = words.behind else {
-            return if repeated {
-                Command::RepeatedKey
+            if repeated {
+                *command = Command::RepeatedKey;
             } else {
-                Command::Batch(intent)
-            };
+                *command = Command::Batch(intent);
+            }
+            return;
         };
         left = behind;
     }
@@ -167,23 +167,25 @@ fn item_size(item: &ItemWords<'_>) -> Option<usize>
     Some(3 + key + value)
 }
 
-// The item of these words, or the refusal of its key or value.
-fn read_item(words: &ItemWords<'_>, format: u32) -> Result<Item, Command>
+// The item of these words, unless its key or value is refused: then the command becomes the refusal.
+fn read_item(words: &ItemWords<'_>, format: u32, command: &mut Command) -> Option<Item>
     requires key { 0 < length words.now.key.now }
     requires format { format ≤ wide }
-    ensures { MatchResult result
+    ensures { MatchOption result
+        ((us : List Update) → first_oversized format (item_read words.now.puts words.now.key.now words.now.value.now ∷ us) ≡ Some command.new)
         (λ item. (update_of item ≡ item_read words.now.puts words.now.key.now words.now.value.now)
-        × ((us : List Update) → first_oversized format (item_read words.now.puts words.now.key.now words.now.value.now ∷ us) ≡ first_oversized format us))
-        (λ refused. (us : List Update) → first_oversized format (item_read words.now.puts words.now.key.now words.now.value.now ∷ us) ≡ Some refused) }
+        × ((us : List Update) → first_oversized format (item_read words.now.puts words.now.key.now words.now.value.now ∷ us) ≡ first_oversized format us)) }
 {
     let Some(key) = read_key(words.key, format) else {
-        return Err(Command::OversizedKey);
+        *command = Command::OversizedKey;
+        return None;
     };
     if !words.puts {
-        return Ok(Item::Remove(key));
+        return Some(Item::Remove(key));
     }
-    match read_value(words.value, format) {
-        Some(value) => Ok(Item::Put(key, value)),
-        None => Err(Command::OversizedValue),
-    }
+    let Some(value) = read_value(words.value, format) else {
+        *command = Command::OversizedValue;
+        return None;
+    };
+    Some(Item::Put(key, value))
 }

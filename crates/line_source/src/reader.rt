@@ -90,6 +90,13 @@ impl LineReader {
         &self.buffer[self.line_start..self.line_end]
     }
 
+    /// How many bytes it may still take.
+    pub fn room(&self) -> u64
+        ensures { result ≡ self.now.room }
+    {
+        self.room
+    }
+
     /// The next line, or why there is none.
     ///
     /// After `End`, `ReadFailed` or `Spent` it isn't called again.

@@ -2,6 +2,7 @@
 use Rattle.std.proofs.Common.{◌≡◌, ◌⊎◌, ◌↔◌, inl, inr, ℕ, ◌+◌, ◌-◌, ◌≤◌, List, ◌++◌, false, take, Some, None, Result, Ok, Err, refl, sym, ◌∙◌, ap, subst, arith, sum}
 use Rattle.std.specs.Prelude.{◌%◌, ◌&&◌, ◌==◌, nat_le, OnOk, IfOk, IfErr, IsErrOf}
 use Rattle.std.specs.FinMap.{len}
+use Rattle.station.specs.Bytes.{Touched}
 use Rattle.station.specs.View.{View, Told, SaidTold, Honest, NothingPending, EachHeld, Rose, Lawful, attached_by}
 use Rattle.station.specs.Steps.{Steps, Says, Run}
 use Rattle.station.specs.declared.travel.Travel.{Travel}
@@ -46,18 +47,18 @@ use Rattle.pma_engine.specs.declared.status.TheConstants.{DONE, REFUSED, DISK_FA
 use Rattle.pma_engine.proofs.Meant.{opened_map}
 
 -- what opens a file keeps its meaning
-keeps_opened : {old new : List ℕ} → Reopens old new → KeepsMeaning old new
+pub keeps_opened : {old new : List ℕ} → Reopens old new → KeepsMeaning old new
 keeps_opened opens m has = opens.means m has
 
-keeps_on : {old middle new : List ℕ} → KeepsMeaning old middle → KeepsMeaning middle new → KeepsMeaning old new
+pub keeps_on : {old middle new : List ℕ} → KeepsMeaning old middle → KeepsMeaning middle new → KeepsMeaning old new
 keeps_on first second m has = second m (first m has)
 
 -- a file without an intent that is to be applied represents what it means
-unpending : (image : List ℕ) (m : Map) (height : ℕ) → Means image m height → has_pending image ≡ false → Represents image m height
+pub unpending : (image : List ℕ) (m : Map) (height : ℕ) → Means image m height → has_pending image ≡ false → Represents image m height
 unpending image m height means none =
     subst (λ (n : Map). Represents image n height) (sym (ap (map_after_items (height_limit (layout_in image)) means.base) (none_pending image none)) ∙ means.map_is) means.represents
 
--- an upgrade leaves the version and the intent's gate
+-- an upgrade leaves the version and the intent's gate, as all that touches but what isn't live
 widened_version : {l m : Layout} → MayWiden l m → m.version ≡ l.version
 widened_version (inl same) = ap (λ (x : Layout). x.version) same
 widened_version (inr wider) = ap (λ (x : Layout). x.version) wider
@@ -67,9 +68,12 @@ not_spare l spare (inl is) = omega (arith, is)
 not_spare l spare (inr (inl is)) = omega (arith, is.0, is.1)
 not_spare l spare (inr (inr is)) = omega (arith, is.0)
 
+pub spared_none : (l : Layout) (spare : ℕ) (old new : List ℕ) → (layout_in new).version ≡ (layout_in old).version → Touched (IsSparePlace l spare) old new → has_pending old ≡ false → has_pending new ≡ false
+spared_none l spare old new version touched none =
+    (λ i. nat_le INTENT_VERSION (version i) && (touched.rest 640 (not_spare l spare) i % 2 == 1)) ∙ none
+
 still_none : {place : Place} {height : ℕ} (old new : List ℕ) → Upgrades place height old new → has_pending old ≡ false → has_pending new ≡ false
-still_none {place} old new upgrades none =
-    (λ i. nat_le INTENT_VERSION (widened_version upgrades.layout_is i) && (upgrades.touched.rest 640 (not_spare place.layout (1 - place.region)) i % 2 == 1)) ∙ none
+still_none {place} old new upgrades none = spared_none place.layout (1 - place.region) old new (widened_version upgrades.layout_is) upgrades.touched none
 
 -- so what upgrades a file without one keeps its meaning too
 keeps_upgraded : {place : Place} {height : ℕ} {old new : List ℕ} → has_pending old ≡ false → Upgrades place height old new → KeepsMeaning old new
@@ -81,7 +85,7 @@ keeps_upgraded {place} {height} {old} {new} none upgrades m has =
     ]
 
 -- a line said behind disk calls was said since before them
-said_since : (a b d : View) (line : Reply) → b.said ≡ a.said → a.say_faults ≡ b.say_faults → SaysLine line b.said b d → SaysLine line a.said a d
+pub said_since : (a b d : View) (line : Reply) → b.said ≡ a.said → a.say_faults ≡ b.say_faults → SaysLine line b.said b d → SaysLine line a.said a d
 said_since a b d line same calls says = record {
   count = says.count;
   within = says.within;
@@ -90,7 +94,7 @@ said_since a b d line same calls says = record {
 }
 
 -- disk calls that keep the map, from a view on where nothing is pending, and a saying behind them
-run_said : {a b d : View} {R : List ℕ → List ℕ → Type 0} {text : List ℕ} → NothingPending a → Steps R a b → ((old new : List ℕ) → Honest a → a.may_leave old → R old new → KeepsMeaning old new) → Says text b d → Run (λ image said. KeepsMeaning a.held image) a d
+pub run_said : {a b d : View} {R : List ℕ → List ℕ → Type 0} {text : List ℕ} → NothingPending a → Steps R a b → ((old new : List ℕ) → Honest a → a.may_leave old → R old new → KeepsMeaning old new) → Says text b d → Run (λ image said. KeepsMeaning a.held image) a d
 run_said {a} {b} {d} {R} nothing ab keeps says =
     let P : List ℕ → List ℕ → Type 0 = λ image said. KeepsMeaning a.held image in
     let from : Honest a → (start image : List ℕ) → a.may_leave start → R start image → KeepsMeaning a.held image = λ honest start image left step. subst (λ (x : List ℕ). KeepsMeaning x image) (nothing honest start left) (keeps start image honest left step) in
@@ -123,7 +127,7 @@ seen view_of x y (Ok answer) same = λ other. (ap (λ z. (view_of z).held) (same
 seen view_of x y (Err fault) same = tt
 
 module _ (a : View) (s : StoreView) (opened : IsOpenOn s a) where
-  stands_told : Told a → StandsWith s.place.layout s.place.region s.tally.height s.tally.counts a.held
+  pub stands_told : Told a → StandsWith s.place.layout s.place.region s.tally.height s.tally.counts a.held
   stands_told told = (opened.on.stands a.held (inl (told, refl))).balanced.stands
 
   -- the answer that is due is the same by the file and by the store
@@ -140,10 +144,10 @@ module _ (a : View) (s : StoreView) (opened : IsOpenOn s a) where
       subst (λ (x : Type 0). x) (sym (answer_is told (live_copy held) line)) (subst (λ (n : ℕ). AnswersUpgrade s.place.layout n (sum s.tally.counts) line) (sym region) answers)
 
   -- no intent is to be applied, at any moment before
-  none_told : Told a → has_pending a.held ≡ false
+  pub none_told : Told a → has_pending a.held ≡ false
   none_told told = opened.no_intent a.held (inl (told, refl))
 
-  none_left : (image : List ℕ) → Honest a → a.may_leave image → has_pending image ≡ false
+  pub none_left : (image : List ℕ) → Honest a → a.may_leave image → has_pending image ≡ false
   none_left image honest left = opened.no_intent image (inr (honest, left))
 
   module _ (place : Place) (b d : View) where
@@ -269,7 +273,7 @@ pub record Comes (status : ℕ) (a b : View) : Type 0 where
 
 module _ (a b : View) (law : Lawful a) (ab : Steps Reopens (attached_by false a) b) where
   -- of a file that was not opened: nothing was done but what an opening does
-  unopened_run : {d : View} {text : List ℕ} → NothingPending a → Says text b d → Run (λ image said. KeepsMeaning a.held image) (attached_by false a) d
+  pub unopened_run : {d : View} {text : List ℕ} → NothingPending a → Says text b d → Run (λ image said. KeepsMeaning a.held image) (attached_by false a) d
   unopened_run nothing says = run_said nothing ab (λ old new honest left step. keeps_opened step) says
 
   module _ (d : View) where

@@ -1,0 +1,18 @@
+pub mod AsideReads
+pub mod BalanceLaws
+pub mod Calls
+pub mod CauseLaws
+pub mod PackLaws
+pub mod Slices
+pub mod PackedLaws
+pub mod SpreadLaws
+pub mod TakenLaws
+pub mod ReadLaws
+pub mod LineLaws
+pub mod FitLaws
+pub mod LoadLaws
+pub mod DumpLaws
+pub mod TextLaws
+pub mod TextFaults
+pub mod Admitted
+mod Vectors

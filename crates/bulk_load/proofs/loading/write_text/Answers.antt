@@ -1,0 +1,161 @@
+use Rattle.std.proofs.Common.{arith, ◌≡◌, inl, ℕ, ◌+◌, ◌*◌, ◌^◌, ◌≤◌, sym, ap, subst, ◌∙◌}
+use Rattle.std.proofs.Math.Nat.{pow-le-pow_right}
+use Rattle.std.proofs.lemmas.Result.{err_from_is_err_and}
+use Rattle.station.specs.View.{Told}
+use Rattle.station.proofs.Composition.{told_on, told_back}
+use Rattle.density_rule.specs.Bounds.{upper_of}
+use Rattle.header_gate.specs.Places.{height_limit, segment_size}
+use Rattle.key_slot.proofs.SegmentLaws.{times_up}
+use Rattle.map_model.specs.Array.{spread_over}
+use Rattle.resize_region.specs.Aside.{HasWritten}
+use Rattle.bulk_load.specs.Faults.{IsWritingFault, IsNoDamage, IsShownBy}
+use Rattle.bulk_load.specs.Loads.{most_records, IsLeastHeight}
+use Rattle.bulk_load.specs.Packing.{IsTaken, HasPacked}
+use Rattle.bulk_load.specs.Spreading.{used_by}
+use Rattle.bulk_load.proofs.CauseLaws.{read_shown, file_shown}
+use Rattle.bulk_load.proofs.Calls.{spares_on, fill_on}
+use Rattle.bulk_load.proofs.LoadLaws.{few_records, read_fault, read_no_damage, file_fault, file_no_damage}
+use Rattle.bulk_load.proofs.PackLaws.{packed_none, cost_on}
+use Rattle.bulk_load.proofs.loading.write_text.Goals as goal
+use Rattle.bulk_load.proofs.loading.write_text.Goals.{After-segments_at-segments, In-Ok}
+
+pub least_height-height-requires-clause-room : goal.least_height-height-requires-clause-room
+least_height-height-requires-clause-room g c = let r = c.in_ok-taken.ensures.read in omega (arith, r.1.few, r.1.taken.count, ap upper_of c.height_limit.ensures.limit)
+
+-- what was read fits the segments
+fits : (g : _) (c : After-segments_at-segments g) → c.in_ok-taken.taken.records ≤ 64 * c.segments_at-segments.result
+fits g c = omega (arith, few_records c.least_height-height.result c.in_ok-taken.taken.records c.least_height-height.ensures.least.holds, c.segments_at-segments.ensures)
+
+inside : (g : _) (c : After-segments_at-segments g) → c.segments_at-segments.result ≤ 2 ^ height_limit c.args.place.now.layout
+inside g c =
+    omega (arith, c.segments_at-segments.ensures, pow-le-pow_right {n = 2} (omega arith) {i = c.least_height-height.result} {j = height_limit c.args.place.now.layout} (omega (arith, c.least_height-height.ensures.limit, c.height_limit.ensures.limit)))
+
+pub flush_rest-requires-clause-can : goal.flush_rest-requires-clause-can
+flush_rest-requires-clause-can g c = fill_on c.args.place.now c.args.frames.now c.read_text.new.frames c.requires.can c.read_text.ensures.journal c.read_text.ensures.steps
+
+pub flush_rest-requires-clause-taken : goal.flush_rest-requires-clause-taken
+flush_rest-requires-clause-taken g c = let r = c.in_ok-taken.ensures.read in (r.0, r.1.taken)
+
+pub flush_rest-requires-clause-behind : goal.flush_rest-requires-clause-behind
+flush_rest-requires-clause-behind g c = let r = c.in_ok-taken.ensures.read in omega (arith, r.1.behind, r.1.taken.count)
+
+pub flush_rest-requires-clause-room : goal.flush_rest-requires-clause-room
+flush_rest-requires-clause-room g c =
+    let at = (goal.at.flush_rest-requires-clause-room g c).After-segments_at-segments in
+    omega (arith, fits g at, inside g at)
+
+-- all is in the file
+taken : (g : _) (c : In-Ok g) → IsTaken c.args.place.now.layout c.flush_rest.new.taken c.flush_rest.new.frames c.in_ok-taken.ensures.read.0
+taken g c = c.in-Ok.ensures.writes.taken c.in_ok-taken.ensures.read.0 c.in_ok-taken.ensures.read.1.taken
+
+pub spread_aside-requires-clause-can : goal.spread_aside-requires-clause-can
+spread_aside-requires-clause-can g c =
+    fill_on c.args.place.now c.read_text.new.frames c.flush_rest.new.frames (fill_on c.args.place.now c.args.frames.now c.read_text.new.frames c.requires.can c.read_text.ensures.journal c.read_text.ensures.steps) c.flush_rest.ensures.writes.journal c.flush_rest.ensures.writes.steps
+
+pub spread_aside-requires-clause-shares : goal.spread_aside-requires-clause-shares
+spread_aside-requires-clause-shares g c = (taken g (goal.at.spread_aside-requires-clause-shares g c).In-Ok).shares
+
+pub spread_aside-requires-clause-empty : goal.spread_aside-requires-clause-empty
+spread_aside-requires-clause-empty g c i lt =
+    let r = c.in_ok-taken.ensures.read in
+    (taken g (goal.at.spread_aside-requires-clause-empty g c).In-Ok).held i lt ∙ packed_none r.0 (c.flush_rest.new.taken.written + i) (omega (arith, c.in-Ok.ensures.written, r.1.taken.count))
+
+pub spread_aside-requires-clause-inside : goal.spread_aside-requires-clause-inside
+spread_aside-requires-clause-inside g c = inside g (goal.at.spread_aside-requires-clause-inside g c).After-segments_at-segments
+
+pub spread_aside-requires-clause-room : goal.spread_aside-requires-clause-room
+spread_aside-requires-clause-room g c = fits g (goal.at.spread_aside-requires-clause-room g c).After-segments_at-segments
+
+-- The text wasn't read.
+
+pub returns-in_err-taken-clause-fault : goal.returns-in_err-taken-clause-fault
+returns-in_err-taken-clause-fault g c =
+    let p = err_from_is_err_and c.from_residual.result c.from_residual.ensures.1 in
+    rw (p.1, p.2) (read_fault c.args.place.now.layout.format (most_records c.args.place.now.layout) c.args.reader.now (g.I.Source.view c.args.source.now) (g.I.Source.view c.read_text.new.source) c.in_err-taken.field-0.0 c.in_err-taken.ensures.faulty)
+
+pub returns-in_err-taken-clause-damaged : goal.returns-in_err-taken-clause-damaged
+returns-in_err-taken-clause-damaged g c =
+    let p = err_from_is_err_and c.from_residual.result c.from_residual.ensures.1 in
+    rw (p.1, p.2) (λ told. read_no_damage c.args.place.now.layout.format (most_records c.args.place.now.layout) c.args.reader.now (g.I.Source.view c.args.source.now) (g.I.Source.view c.read_text.new.source) c.in_err-taken.field-0.0 c.in_err-taken.ensures.faulty)
+
+-- Not written.
+
+pub returns-in-Err-clause-steps : goal.returns-in-Err-clause-steps
+returns-in-Err-clause-steps g c = spares_on c.args.place.now c.read_text.ensures.steps c.flush_rest.ensures.writes.steps
+
+pub returns-in-Err-clause-fault : goal.returns-in-Err-clause-fault
+returns-in-Err-clause-fault g c =
+    subst (IsWritingFault c.args.place.now.layout.format (most_records c.args.place.now.layout) c.args.reader.now (g.I.Source.view c.args.source.now) (g.I.Source.view c.read_text.new.source)) (sym c.of_file-in-Err.ensures)
+    (file_fault c.args.place.now.layout.format (most_records c.args.place.now.layout) c.args.reader.now (g.I.Source.view c.args.source.now) (g.I.Source.view c.read_text.new.source) c.in-Err.fault)
+
+pub returns-in-Err-clause-damaged : goal.returns-in-Err-clause-damaged
+returns-in-Err-clause-damaged g c told = subst IsNoDamage (sym c.of_file-in-Err.ensures) (file_no_damage c.in-Err.fault c.in-Err.ensures.writes.fault)
+
+pub returns-in-Err-spread_aside-clause-steps : goal.returns-in-Err-spread_aside-clause-steps
+returns-in-Err-spread_aside-clause-steps g c = spares_on c.args.place.now (spares_on c.args.place.now c.read_text.ensures.steps c.flush_rest.ensures.writes.steps) c.spread_aside.ensures.steps
+
+pub returns-in-Err-spread_aside-clause-fault : goal.returns-in-Err-spread_aside-clause-fault
+returns-in-Err-spread_aside-clause-fault g c =
+    subst (IsWritingFault c.args.place.now.layout.format (most_records c.args.place.now.layout) c.args.reader.now (g.I.Source.view c.args.source.now) (g.I.Source.view c.read_text.new.source)) (sym c.of_file.ensures)
+    (file_fault c.args.place.now.layout.format (most_records c.args.place.now.layout) c.args.reader.now (g.I.Source.view c.args.source.now) (g.I.Source.view c.read_text.new.source) c.in-Err-spread_aside.fault)
+
+-- what was read is packed in the file
+packed : (g : _) (c : In-Ok g) → Told (g.S.Station.view c.read_text.new.station) → HasPacked c.args.place.now c.in_ok-taken.ensures.read.0 (used_by c.in_ok-taken.taken.records) (g.S.Station.view c.flush_rest.new.station).held
+packed g c told i lt =
+    let r = c.in_ok-taken.ensures.read in
+    c.in-Ok.ensures.writes.packed told r.0 r.1.taken (r.1.packed told) i (omega (arith, lt, c.in-Ok.ensures.written))
+
+pub returns-in-Err-spread_aside-clause-damaged : goal.returns-in-Err-spread_aside-clause-damaged
+returns-in-Err-spread_aside-clause-damaged g c told =
+    let r = c.in_ok-taken.ensures.read in
+    let told_b = told_on c.read_text.ensures.steps.frame told in
+    subst IsNoDamage (sym c.of_file.ensures) (file_no_damage c.in-Err-spread_aside.fault (c.in-Err-spread_aside.ensures.damaged (told_on c.flush_rest.ensures.writes.steps.frame told_b) r.0 r.1.taken.rows_are (sym r.1.taken.count) (packed g (goal.at.returns-in-Err-spread_aside-clause-damaged g c).In-Ok told_b)))
+
+-- All is written.
+
+pub returns-in-Ok-spread_aside-clause-steps : goal.returns-in-Ok-spread_aside-clause-steps
+returns-in-Ok-spread_aside-clause-steps g c = spares_on c.args.place.now (spares_on c.args.place.now c.read_text.ensures.steps c.flush_rest.ensures.writes.steps) c.spread_aside.ensures.steps
+
+pub returns-in-Ok-spread_aside-clause-written : goal.returns-in-Ok-spread_aside-clause-written
+returns-in-Ok-spread_aside-clause-written g c =
+    let r = c.in_ok-taken.ensures.read in (
+      r.0,
+      record {
+        text = r.1.text;
+        are_rows = r.1.taken.rows_are;
+        count = r.1.taken.count;
+        least = subst (λ (n : ℕ). IsLeastHeight n c.least_height-height.result) r.1.taken.count c.least_height-height.ensures.least;
+        limit = omega (arith, c.least_height-height.ensures.limit, c.height_limit.ensures.limit);
+        written = λ told_z.
+            let told_c = told_back c.spread_aside.ensures.steps.frame told_z in
+            let told_b = told_back c.flush_rest.ensures.writes.steps.frame told_c in
+            subst (λ (m : ℕ). HasWritten c.args.place.now (spread_over m r.0) m (g.S.Station.view c.spread_aside.new.station).held) c.segments_at-segments.ensures (c.in-Ok-spread_aside.ensures.spread told_c r.0 r.1.taken.rows_are (sym r.1.taken.count) (packed g (goal.at.returns-in-Ok-spread_aside-clause-written g c).In-Ok told_b));
+      },
+    )
+
+pub returns-in-Ok-spread_aside-clause-cost : goal.returns-in-Ok-spread_aside-clause-cost
+returns-in-Ok-spread_aside-clause-cost g c =
+    let at = (goal.at.returns-in-Ok-spread_aside-clause-cost g c).After-segments_at-segments in
+    let r = c.in_ok-taken.ensures.read in
+    let size = segment_size c.args.place.now.layout in
+    let t = c.in_ok-taken.taken in
+    let u = c.flush_rest.new.taken in
+    let behind : t.written ≤ u.written = omega (arith, r.1.behind, r.1.taken.count, c.in-Ok.ensures.written) in
+    let one = cost_on size t.written u.written (g.S.Station.view c.args.station.now).travel.written (g.S.Station.view c.read_text.new.station).travel.written (g.S.Station.view c.flush_rest.new.station).travel.written behind c.in_ok-taken.ensures.cost c.in-Ok.ensures.cost in
+    let some : u.written ≤ 2 ^ c.least_height-height.result = omega (arith, fits g at, c.in-Ok.ensures.written, c.segments_at-segments.ensures) in
+    let all : size * c.segments_at-segments.result ≡ size * 2 ^ c.least_height-height.result = ap (λ (n : ℕ). size * n) c.segments_at-segments.ensures in
+    omega (arith, one, c.spread_aside.ensures.cost, all, times_up size u.written (2 ^ c.least_height-height.result) some)
+
+-- What shows the damage.
+
+pub returns-in_err-taken-clause-shown : goal.returns-in_err-taken-clause-shown
+returns-in_err-taken-clause-shown g c =
+    let p = err_from_is_err_and c.from_residual.result c.from_residual.ensures.1 in
+    rw (p.1, p.2) (read_shown c.args.place.now.layout.format (most_records c.args.place.now.layout) c.args.reader.now (g.I.Source.view c.args.source.now) (g.I.Source.view c.read_text.new.source) c.read_text.new.frames c.in_err-taken.field-0.0 c.in_err-taken.ensures.faulty)
+
+pub returns-in-Err-clause-shown : goal.returns-in-Err-clause-shown
+returns-in-Err-clause-shown g c = subst (IsShownBy c.args.place.now.layout.format c.flush_rest.new.frames) (sym c.of_file-in-Err.ensures) (file_shown c.args.place.now.layout.format 0 c.flush_rest.new.frames c.in-Err.fault (inl c.in-Err.ensures.writes.fault))
+
+pub returns-in-Err-spread_aside-clause-shown : goal.returns-in-Err-spread_aside-clause-shown
+returns-in-Err-spread_aside-clause-shown g c =
+    subst (IsShownBy c.args.place.now.layout.format c.spread_aside.new.frames) (sym c.of_file.ensures) (file_shown c.args.place.now.layout.format c.in_ok-taken.taken.records c.spread_aside.new.frames c.in-Err-spread_aside.fault c.in-Err-spread_aside.ensures.cause)

@@ -1,0 +1,30 @@
+use Rattle.std.proofs.Common.{◌≡◌, ℕ, ◌+◌, ◌*◌, ◌/◌, ◌<◌, ◌≤◌, List, []}
+use Rattle.station.specs.Bytes.{Same}
+use Rattle.station.specs.View.{Told}
+use Rattle.station.specs.Steps.{Steps}
+use Rattle.key_slot.specs.Record.{Record}
+use Rattle.map_model.specs.Array.{segment_at, spread_over}
+use Rattle.resize_region.specs.Shares.{share_in}
+use Rattle.bulk_load.specs.Packing.{CanFill}
+use Rattle.bulk_load.specs.Spreading.{IsPacked, ArePacked}
+use Rattle.bulk_load.proofs.spreading.fill_places.Given as goal
+
+abbrev pub invariant-loop-f : goal.invariant-loop-f
+invariant-loop-f g l = record {
+  within : l.f ≤ l.count;
+  packed : IsPacked l.place.layout.format l.records l.frames l.packed;
+  room : l.packed.room ≡ l.fn.packed.room;
+  unread : l.packed.unread ≤ l.fn.packed.unread;
+  rest : l.packed.rest ≡ (l.low + l.f) * l.records / l.segments;
+  empty : (i : ℕ) → i < l.f → share_in l.place.layout.format (l.fn.packed.room + i) l.frames ≡ [];
+  slots : l.frames ≡ record l.fn.frames { slots = l.frames.slots };
+  steps : Steps Same (g.S.Station.view l.fn.station) (g.S.Station.view l.station);
+  unwritten : (g.S.Station.view l.station).travel.written ≡ (g.S.Station.view l.fn.station).travel.written;
+  can : CanFill l.place l.frames (g.S.Station.view l.station);
+  are : Told (g.S.Station.view l.fn.station) → (rows : List Record) → ArePacked l.place l.records rows l.fn.packed l.fn.frames (g.S.Station.view l.fn.station).held → ArePacked l.place l.records rows l.packed l.frames (g.S.Station.view l.station).held;
+  filled : Told (g.S.Station.view l.fn.station) → (rows : List Record) → ArePacked l.place l.records rows l.fn.packed l.fn.frames (g.S.Station.view l.fn.station).held →
+      (i : ℕ) → l.f ≤ i → i < l.count → share_in l.place.layout.format (l.fn.packed.room + i) l.frames ≡ segment_at (spread_over l.segments rows) (l.low + i);
+}
+
+abbrev pub decreases-loop-f : goal.decreases-loop-f
+decreases-loop-f g l = l.f

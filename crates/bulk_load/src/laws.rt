@@ -1,0 +1,46 @@
+//! What holds of load texts: laws over the definitions, each the contract of a function that does nothing.
+
+ghost use Rattle.std.specs.Prelude.{◌≡◌, ℕ, ◌+◌, ◌^◌, ◌<◌, ◌≤◌, true, false, List, length, All};
+ghost use Rattle.key_slot.specs.Format.{wide};
+ghost use Rattle.std.specs.List.{flat_map};
+ghost use Rattle.std.specs.FinMap.{entries, from_sorted, len};
+ghost use Rattle.line_source.specs.Lines.{raw_lines};
+ghost use Rattle.line_source.specs.ReaderView.{ReaderView, rest};
+ghost use Rattle.line_source.specs.SourceView.{SourceView, Told};
+ghost use Rattle.key_slot.specs.Record.{Record};
+ghost use Rattle.map_model.specs.Store.{Map};
+ghost use Rattle.command_text.specs.Answers.{range_lines};
+ghost use Rattle.command_text.specs.Reply.{reply_text};
+ghost use Rattle.command_text.specs.ReadsBack.{MayBeRecord};
+ghost use Rattle.bulk_load.specs.declared.fault.LoadFault.{LoadFault};
+ghost use Rattle.bulk_load.specs.Faults.{IsLoadFault, IsOutsideFault};
+ghost use Rattle.bulk_load.specs.LoadText.{IsLoadText, IsFirstWrong, IsUnfinished, IsOneTooMany};
+ghost use Rattle.bulk_load.specs.Loading.{loading, reads, wrong, full};
+
+/// A law: what comes of lines that are read one at a time is what they are as a load text. Those that are read whole are a
+/// text with these records, and a text is read whole where the store may hold as many. A wrong line is the first that no
+/// text can have there; where lines end before the line with their number of records, some text begins with them, and they
+/// are none. Where they are too many, some text begins with lines that have one record more than the store may hold.
+pub fn texts_are_read_by_lines()
+    ensures text { (format most : ℕ) (lines : List (List ℕ)) (rows : List Record) → loading format most lines ≡ reads rows true → IsLoadText format lines rows }
+    ensures read { (format most : ℕ) (lines : List (List ℕ)) (rows : List Record) → IsLoadText format lines rows → length rows ≤ most → loading format most lines ≡ reads rows true }
+    ensures wrong { (format most n : ℕ) (lines : List (List ℕ)) → most < 2 ^ 32 → loading format most lines ≡ wrong n → IsFirstWrong format lines n }
+    ensures unfinished { (format most : ℕ) (lines : List (List ℕ)) (rows : List Record) → most < 2 ^ 32 → loading format most lines ≡ reads rows false → IsUnfinished format lines }
+    ensures full { (format most : ℕ) (lines : List (List ℕ)) → most + 1 < 2 ^ 32 → loading format most lines ≡ full → IsOneTooMany format most lines }
+    ensures few { (format most : ℕ) (lines : List (List ℕ)) (rows : List Record) → loading format most lines ≡ reads rows true → length rows ≤ most }
+{}
+
+/// A law: the lines of all records of a map, and the line with their number, as a range over all keys is answered, are a
+/// load text of a format for which the records are short enough, with these records, which come back to the map.
+pub fn dumps_are_load_texts()
+    ensures text { (format : ℕ) (m : Map) → format ≤ wide → All (λ r. MayBeRecord format r.0 r.1) (entries m) → len m < 2 ^ 32 →
+        IsLoadText format (raw_lines (flat_map reply_text (range_lines (entries m)))) (entries m) }
+    ensures map { (m : Map) → from_sorted (entries m) ≡ m }
+{}
+
+/// A law: a text that a store without records admits, in a source that has fewer bytes than may be taken, meets no fault but a
+/// disk's, a damaged segment or a failed read.
+pub fn admitted_texts_are_loaded()
+    ensures { (format most : ℕ) (reader : ReaderView) (before after : SourceView) (rows : List Record) (fault : LoadFault) → IsLoadText format (raw_lines (rest reader before)) rows → length rows ≤ most →
+        Told before → length before.left < reader.room → IsLoadFault format most 0 reader before after fault → IsOutsideFault before after fault }
+{}

@@ -1,0 +1,151 @@
+//! A load text is read into a store without records.
+
+ghost use Rattle.std.specs.Prelude.{◌≡◌, ℕ, ◌+◌, ◌-◌, ◌*◌, ◌^◌, ◌<◌, ◌≤◌, List, [], length, sum, OnOk, OnErr, IfOk, IfErr, IsErrOf};
+ghost use Rattle.station.specs.View.{Told, EachHeld, NothingPending, Rose};
+ghost use Rattle.station.specs.Steps.{Steps};
+ghost use Rattle.header_gate.specs.Places.{IsLayout, file_length, height_limit, segment_size};
+ghost use Rattle.density_rule.specs.Bounds.{upper_of};
+ghost use Rattle.key_slot.specs.Record.{Record};
+ghost use Rattle.line_source.specs.SourceView.{Told as SourceTold, Went};
+ghost use Rattle.map_model.specs.Regions.{Spares};
+ghost use Rattle.segment_frames.specs.Standing.{StandsFor};
+ghost use Rattle.bulk_load.specs.Faults.{IsLoadFault, IsWritingFault, IsNoDamage, IsNoDisk, IsShownBy};
+ghost use Rattle.bulk_load.specs.Loading.{IsUnread};
+ghost use Rattle.bulk_load.specs.Loads.{most_records, TextFor, Loads, IsLeastHeight, IsWrittenOut, IsLoaded};
+ghost use Rattle.bulk_load.specs.Packing.{CanFill};
+
+use crate::fault::{LoadFault, Loaded, of_file};
+use crate::packing::flush_rest;
+use crate::reading::read_text;
+use crate::spreading::spread_aside;
+use density_rule::{Window, upper};
+use line_source::{LineReader, Source};
+use redo_journal::{Frames, Place};
+use resize_region::make_live;
+use station::Station;
+use window_tally::Tally;
+
+/// Reads a load text to its end into a store without records, which it then holds.
+///
+/// The records are written into the region that isn't live as the lines come, 64 a segment. Once the text is at its end the
+/// least height that holds them is taken, they are spread there in place, and a flip makes that region the live one. So
+/// whatever a crash leaves represents the empty map, or the map of the whole text. On Ok the place is that of the region.
+///
+/// `NotEmpty` exactly where the store holds records; nothing is taken from the source then. `Line` exactly where this line,
+/// counted from 1, is the first that no load text can have there, or is one more than there are where the text ends without
+/// the line with its number of records. `Full` exactly where a record follows as many as a store of the greatest height
+/// holds. Each fault but the disk's leaves the file as it was, outside of what isn't live.
+pub fn load_rows<I: Source, S: Station>(
+    source: &mut I,
+    station: &mut S,
+    reader: &mut LineReader,
+    place: &mut Place,
+    frames: &mut Frames,
+    tally: &Tally,
+) -> Result<Loaded, LoadFault>
+    requires layout { IsLayout place.old.layout }
+    requires region { place.old.region < 2 }
+    requires reach { file_length place.old.layout ≤ (S.view station.old).fixed.reach }
+    requires journal { frames.old.journal ≡ place.old.layout.journal }
+    requires hmax { tally.now.hmax ≡ height_limit place.old.layout }
+    requires stands { EachHeld (StandsFor place.old tally.now) (S.view station.old) }
+    requires nothing { NothingPending (S.view station.old) }
+    requires unread { IsUnread reader.old }
+
+    // On Ok the file has the records of the text.
+    ensures loaded { IfOk result (λ loaded. (rows : List Record) × IsLoaded place.old rows loaded.records loaded.height (TextFor place.old.layout reader.old (I.view source.old)) (S.view station.new)) }
+    ensures empty { OnOk result (sum tally.now.counts ≡ 0) }
+    ensures whole { OnOk result (SourceTold (I.view source.old) → ((I.view source.new).left ≡ []) × (length (I.view source.old).left < reader.old.room)) }
+    ensures settled { OnOk result (NothingPending (S.view station.new)) }
+    ensures place { OnOk result (place.new ≡ record place.old { region = 1 - place.old.region }) }
+    ensures place_kept { OnErr result (place.new ≡ place.old) }
+    ensures journal { frames.new.journal ≡ frames.old.journal }
+
+    // At every moment the map is the empty one, or that of the whole text; and a store that has records is left alone.
+    ensures steps { Steps (Loads place.old (TextFor place.old.layout reader.old (I.view source.old))) (S.view station.old) (S.view station.new) }
+    ensures untouched { 0 < sum tally.now.counts → (station.new ≡ station.old) × (source.new ≡ source.old) }
+    ensures cost { IfOk result (λ loaded. (S.view station.new).travel.written ≤ (S.view station.old).travel.written + (2 * segment_size place.old.layout * 2 ^ loaded.height + 9)) }
+
+    // Why it fails.
+    ensures fault { IfErr result (IsLoadFault place.old.layout.format (most_records place.old.layout) (sum tally.now.counts) reader.old (I.view source.old) (I.view source.new)) }
+    ensures kept { IfErr result (λ fault. IsNoDisk fault → EachHeld (StandsFor place.old tally.now) (S.view station.new)) }
+    ensures damaged { IfErr result (λ fault. Told (S.view station.old) → IsNoDamage fault) }
+    ensures shown { IfErr result (IsShownBy place.old.layout.format frames.new) }
+    ensures failed { IsErrOf result LoadFault.Disk → Rose (S.view station.old).disk_faults (S.view station.new).disk_faults }
+    ensures went { Went (I.view source.old) (I.view source.new) }
+{
+    let records = tally.count(Window {
+        height: tally.height(),
+        number: 0,
+    });
+    if records > 0 {
+        return Err(LoadFault::NotEmpty { records });
+    }
+    let loaded = write_text(source, station, reader, place, frames)?;
+    let other = 1 - place.region;
+    match make_live(station, other, loaded.height, place.layout.format) {
+        Ok(()) => {
+            place.region = other;
+            Ok(loaded)
+        }
+        Err(fault) => Err(of_file(fault)),
+    }
+}
+
+// Reads a text to its end, and writes its records into the region that isn't live, spread over the segments of the least
+// height that holds them.
+fn write_text<I: Source, S: Station>(
+    source: &mut I,
+    station: &mut S,
+    reader: &mut LineReader,
+    place: &Place,
+    frames: &mut Frames,
+) -> Result<Loaded, LoadFault>
+    requires can { CanFill place.now frames.old (S.view station.old) }
+    requires unread { IsUnread reader.old }
+    ensures written { IfOk result (λ loaded. (rows : List Record) × IsWrittenOut place.now rows loaded.records loaded.height (TextFor place.now.layout reader.old (I.view source.old)) (S.view station.new)) }
+    ensures whole { OnOk result (SourceTold (I.view source.old) → ((I.view source.new).left ≡ []) × (length (I.view source.old).left < reader.old.room)) }
+    ensures fault { IfErr result (IsWritingFault place.now.layout.format (most_records place.now.layout) reader.old (I.view source.old) (I.view source.new)) }
+    ensures steps { Steps (Spares place.now.layout place.now.region) (S.view station.old) (S.view station.new) }
+    ensures cost { IfOk result (λ loaded. (S.view station.new).travel.written ≤ (S.view station.old).travel.written + 2 * segment_size place.now.layout * 2 ^ loaded.height) }
+    ensures damaged { IfErr result (λ fault. Told (S.view station.old) → IsNoDamage fault) }
+    ensures shown { IfErr result (IsShownBy place.now.layout.format frames.new) }
+    ensures journal { frames.new.journal ≡ frames.old.journal }
+    ensures failed { IsErrOf result LoadFault.Disk → Rose (S.view station.old).disk_faults (S.view station.new).disk_faults }
+    ensures went { Went (I.view source.old) (I.view source.new) }
+{
+    let mut taken = read_text(source, station, reader, place, frames)?;
+    let records = taken.records;
+    let height = least_height(records, place.layout.height_limit());
+    let segments = segments_at(height);
+    match flush_rest(station, place, frames, &mut taken) {
+        Ok(()) => match spread_aside(station, place, frames, records, segments) {
+            Ok(()) => Ok(Loaded { records, height }),
+            Err(fault) => Err(of_file(fault)),
+        },
+        Err(fault) => Err(of_file(fault)),
+    }
+}
+
+// The least height of a store that holds so many records.
+fn least_height(records: u32, limit: u32) -> u32
+    requires limit { limit ≤ 16 }
+    requires room { records ≤ upper_of limit }
+    ensures least { IsLeastHeight records result }
+    ensures limit { result ≤ limit }
+{
+    for h in 0..limit {
+        if records <= upper(h) {
+            return h;
+        }
+    }
+    limit
+}
+
+// How many segments a store of this height has.
+fn segments_at(height: u32) -> u32
+    requires { height ≤ 16 }
+    ensures { result ≡ 2 ^ height }
+{
+    1 << height
+}

@@ -1,0 +1,176 @@
+//! A text is read to its end, and its records are packed into the region that isn't live.
+
+ghost use Rattle.std.specs.Prelude.{◌≡◌, ℕ, ◌+◌, ◌*◌, ◌<◌, ◌≤◌, ◌==◌, ◌&&◌, not, true, false, List, [], length, OnOk, IfOk, IfErr, IsErrOf, IsSome, IfSome};
+ghost use Rattle.station.specs.View.{Rose};
+ghost use Rattle.station.specs.Steps.{Steps};
+ghost use Rattle.header_gate.specs.Places.{segment_size};
+ghost use Rattle.key_slot.specs.Format.{wide};
+ghost use Rattle.key_slot.specs.Record.{Record};
+ghost use Rattle.key_slot.specs.Row.{record_of};
+ghost use Rattle.command_text.specs.declared.load.LoadLine.TheVariants as load;
+ghost use Rattle.map_model.specs.Regions.{Spares};
+ghost use Rattle.line_source.specs.SourceView.{SourceView, Told as SourceTold, Went};
+ghost use Rattle.line_source.specs.ReaderView.{ReaderView};
+ghost use Rattle.line_source.specs.Progress.{HasGiven};
+ghost use Rattle.bulk_load.specs.Faults.{IsReadingFault};
+ghost use Rattle.bulk_load.specs.Loading.{IsUnread};
+ghost use Rattle.bulk_load.specs.Loads.{most_records};
+ghost use Rattle.bulk_load.specs.Packing.{CanFill, goes_on_by};
+ghost use Rattle.bulk_load.specs.Reading.{IsNextEntry, FitsLine, IsTaking, TakesOn, IsRead};
+
+use crate::fault::{LoadFault, of_file};
+use crate::packing::{Taken, pack};
+use command_text::{LoadLine, parse_load};
+use density_rule::upper;
+use key_slot::Row;
+use line_source::{LineReader, LineStep, Source};
+use redo_journal::{Frames, Place};
+use resize_region::start_shares;
+use segment_frames::batch_room;
+use station::Station;
+
+/// Reads a text to its end, and packs its records: full segments of them are written as the lines come, and the last ones
+/// are in the frames at the end.
+pub(crate) fn read_text<I: Source, S: Station>(
+    source: &mut I,
+    station: &mut S,
+    reader: &mut LineReader,
+    place: &Place,
+    frames: &mut Frames,
+) -> Result<Taken, LoadFault>
+    requires can { CanFill place.now frames.old (S.view station.old) }
+    requires unread { IsUnread reader.old }
+    ensures read { IfOk result (λ taken. (rows : List Record) × IsRead place.now reader.old (I.view source.old) rows taken frames.new (S.view station.new)) }
+    ensures whole { OnOk result (SourceTold (I.view source.old) → ((I.view source.new).left ≡ []) × (length (I.view source.old).left < reader.old.room)) }
+    ensures faulty { IfErr result (IsReadingFault place.now.layout.format (most_records place.now.layout) reader.old (I.view source.old) (I.view source.new)) }
+    ensures journal { frames.new.journal ≡ frames.old.journal }
+    ensures steps { Steps (Spares place.now.layout place.now.region) (S.view station.old) (S.view station.new) }
+    ensures cost { IfOk result (λ taken. (S.view station.new).travel.written ≤ (S.view station.old).travel.written + segment_size place.now.layout * taken.written) }
+    ensures failed { IsErrOf result LoadFault.Disk → Rose (S.view station.old).disk_faults (S.view station.new).disk_faults }
+    ensures went { Went (I.view source.old) (I.view source.new) }
+{
+    start_shares(frames, place.layout.format, batch_room(&place.layout));
+    // Each line has a byte at least, so their number is no greater.
+    let _most = reader.room();
+    let mut taken = Taken {
+        records: 0,
+        written: 0,
+        last: None,
+        ended: false,
+    };
+    let mut lines: u64 = 0;
+    while let Some(line) = next_entry(reader, source, place.layout.format)? {
+        lines += 1;
+        match take_line(station, place, frames, &mut taken, &line, lines) {
+            Ok(()) => {}
+            Err(fault) => return Err(fault),
+        }
+    }
+    if taken.ended {
+        Ok(taken)
+    } else {
+        Err(LoadFault::Line {
+            number: lines.saturating_add(1),
+        })
+    }
+}
+
+// What the next line is, or None at the end of the text.
+fn next_entry<I: Source>(
+    reader: &mut LineReader,
+    source: &mut I,
+    format: u32,
+) -> Result<Option<LoadLine>, LoadFault>
+    requires fresh { reader.old.done ≡ false }
+    requires format { format ≤ wide }
+    ensures next { (r0 : ReaderView) (s0 : SourceView) (given : List (List ℕ)) → HasGiven r0 s0 given reader.old (I.view source.old) → IsNextEntry format result r0 s0 given reader.new (I.view source.new) }
+    ensures fits { IfOk result (λ next. IfSome next (FitsLine format)) }
+    ensures falls { IfOk result (λ next. IsSome next → reader.new.room + length reader.new.held < reader.old.room + length reader.old.held) }
+    ensures fresh { IfOk result (λ next. IsSome next → reader.new.done ≡ false) }
+    ensures went { Went (I.view source.old) (I.view source.new) }
+{
+    match reader.next_line(source) {
+        LineStep::Line => Ok(Some(parse_load(reader.line(), format))),
+        LineStep::LongLine => Ok(Some(LoadLine::Bad)),
+        LineStep::End => Ok(None),
+        LineStep::ReadFailed => Err(LoadFault::Script),
+        LineStep::Spent => Err(LoadFault::Spent),
+    }
+}
+
+// Takes one line, which has this number, where it can stand there.
+fn take_line<S: Station>(
+    station: &mut S,
+    place: &Place,
+    frames: &mut Frames,
+    taken: &mut Taken,
+    line: &LoadLine,
+    number: u64,
+) -> Result<(), LoadFault>
+    requires can { CanFill place.now frames.old (S.view station.old) }
+    requires taking { IsTaking place.now.layout taken.old frames.old }
+    requires fits { FitsLine place.now.layout.format line.now }
+    ensures { TakesOn place.now number line.now result taken.old taken.new frames.old frames.new (S.view station.old) (S.view station.new) }
+{
+    match line {
+        LoadLine::Nothing => Ok(()),
+        LoadLine::Row(row) => {
+            if !goes_on(taken, row) {
+                return Err(LoadFault::Line { number });
+            }
+            take_row(station, place, frames, taken, row)
+        }
+        LoadLine::End(count) => {
+            if !ends(taken, *count) {
+                return Err(LoadFault::Line { number });
+            }
+            taken.ended = true;
+            Ok(())
+        }
+        LoadLine::Bad => Err(LoadFault::Line { number }),
+    }
+}
+
+// Whether a record may follow those that were taken.
+fn goes_on(taken: &Taken, row: &Row) -> bool
+    ensures { result ≡ goes_on_by taken.now (record_of row.now) }
+{
+    if taken.ended {
+        return false;
+    }
+    match taken.last {
+        Some(last) => last < row.key,
+        None => true,
+    }
+}
+
+// Whether the line with this number of records may follow those that were taken.
+fn ends(taken: &Taken, count: u32) -> bool
+    ensures { result ≡ (not taken.now.ended && (count == taken.now.records)) }
+{
+    !taken.ended && count == taken.records
+}
+
+// Takes a record, unless the store is full.
+fn take_row<S: Station>(
+    station: &mut S,
+    place: &Place,
+    frames: &mut Frames,
+    taken: &mut Taken,
+    row: &Row,
+) -> Result<(), LoadFault>
+    requires can { CanFill place.now frames.old (S.view station.old) }
+    requires taking { IsTaking place.now.layout taken.old frames.old }
+    requires goes_on { goes_on_by taken.old (record_of row.now) ≡ true }
+    requires fits { FitsLine place.now.layout.format (load.Row row.now) }
+    ensures { (k : ℕ) → TakesOn place.now k (load.Row row.now) result taken.old taken.new frames.old frames.new (S.view station.old) (S.view station.new) }
+{
+    let most = upper(place.layout.height_limit());
+    if taken.records == most {
+        return Err(LoadFault::Full { most });
+    }
+    match pack(station, place, frames, taken, row) {
+        Ok(()) => Ok(()),
+        Err(fault) => Err(of_file(fault)),
+    }
+}

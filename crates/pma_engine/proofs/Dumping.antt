@@ -1,0 +1,261 @@
+-- What comes of a dump, from the map that its file means at the entry.
+use Rattle.std.proofs.Common.{◌≡◌, ◌⊎◌, inl, inr, ℕ, ◌+◌, ◌≤◌, List, [], ◌++◌, length, take, false, Some, None, Result, Ok, Err, refl, sym, ◌∙◌, ap, subst, arith, length-append}
+use Rattle.std.specs.List.{flat_map}
+use Rattle.std.specs.FinMap.{entries}
+use Rattle.std.proofs.lemmas.List.{append-nil, take-append-le}
+use Rattle.station.specs.View.{View, Told, SaidTold, NothingPending, Rose, Lawful, attached_by}
+use Rattle.station.specs.Steps.{Steps, Says}
+use Rattle.station.specs.declared.travel.Travel.{Travel}
+use Rattle.station.proofs.Sayings.{run_of_steps, run_in, run_on}
+use Rattle.key_slot.specs.Record.{Record}
+use Rattle.map_model.specs.ArrayState.{ArrayState}
+use Rattle.map_model.specs.Image.{map_of}
+use Rattle.map_model.specs.Store.{Map}
+use Rattle.batch_intent.specs.Means.{MeansMap, meant_map}
+use Rattle.range_scan.specs.SweepView.{SweepView}
+use Rattle.range_scan.specs.Sweeping.{scan_of}
+use Rattle.range_scan.proofs.Walks.{walk_written}
+use Rattle.segment.specs.declared.fault.Damage.{Damage}
+use Rattle.recovery.specs.declared.fault.OpenFault.{OpenFault}
+use Rattle.recovery.specs.declared.fault.OpenFault.TheVariants as opening
+use Rattle.command_text.specs.Answers.{range_lines}
+use Rattle.command_text.specs.Reply.{reply_text}
+use Rattle.command_text.specs.declared.reply.Reply.{Reply}
+use Rattle.command_text.specs.declared.reply.Reply.TheVariants as reply
+use Rattle.pma_store.specs.Opens.{IsAllAtRest}
+use Rattle.pma_store.specs.Store.{StoreView}
+use Rattle.pma_engine.specs.Carrying.{Looks}
+use Rattle.pma_engine.specs.Dumping.{DumpsFile, DumpsOpened, IsDumpStatus, SaidFront, dump_text}
+use Rattle.pma_engine.specs.Opening.{IsOpened, IsUnopened, Reopens, reopening_cost}
+use Rattle.pma_engine.specs.Outcome.{IsRefused}
+use Rattle.pma_engine.specs.Ranging.{SaysSweep, scan_text}
+use Rattle.pma_engine.specs.Refusing.{SaysLine, SaysLastLine, line_text, line_of_opening, line_of_serving, status_of_opening, status_of_serving}
+use Rattle.pma_engine.specs.Upgrading.{KeepsMeaning}
+use Rattle.pma_engine.specs.declared.fault.ServeFault.{ServeFault}
+use Rattle.pma_engine.specs.declared.fault.ServeFault.TheVariants as serving
+use Rattle.pma_engine.specs.declared.status.TheConstants.{DONE, REFUSED, DISK_FAULT, REPLY_FAULT, OUT_OF_MEMORY}
+use Rattle.pma_engine.proofs.Ending.{run_damaged, last_line, on_done, of_disk, of_reply, no_line}
+use Rattle.pma_engine.proofs.Meant.{opened_map}
+use Rattle.pma_engine.proofs.OutcomeLaws.{damaged_refused, no_map, not_store_refused}
+use Rattle.pma_engine.proofs.RangeAnswers.{nothing_front}
+use Rattle.pma_engine.proofs.Upgrading.{keeps_opened, unopened_run}
+
+-- The dump of an open store.
+
+module _ (s t : SweepView) (a b : View) (law : Lawful a) (law_b : Lawful b) (nothing : NothingPending a) (all : Told a → scan_of s a.held ≡ entries (map_of a.held)) where
+  text_is : Told a → scan_text s a.held ≡ dump_text (map_of a.held)
+  text_is told = ap (λ (l : List Record). flat_map reply_text (range_lines l)) (all told)
+
+  module _ (r : Result (Unit {0}) ServeFault) (says : SaysSweep r s t a b) where
+    looks : Looks a b
+    looks = record {
+      run = run_in (λ image said. image ≡ a.held) says.front.run (λ honest image said is. is.image_is);
+      held = says.front.held;
+      unwritten = ap (λ (x : Travel). x.written) says.walks ∙ walk_written s.reader.layout s.reader.region s.reader.next t.reader.next a.travel;
+    }
+
+    settled : NothingPending b
+    settled honest image left =
+        nothing_front law law_b nothing says.front honest image left ∙ sym (says.front.held (law.tells (ap (λ f. f.honest) (sym says.front.run.fixed) ∙ honest)).0)
+
+    front_said : Told a → SaidTold a → SaidFront (dump_text (map_of a.held)) a.said b.said
+    front_said told said_told =
+        let taken = says.front.said said_told in
+        let more = says.begins told in
+        let whole : says.text ++ more.0 ≡ dump_text (map_of a.held) = more.1 ∙ text_is told in
+        record {
+          count = taken.0;
+          within = omega (arith, taken.1, length-append says.text more.0, ap length whole);
+          said_is = taken.2 ∙ ap (λ (l : List ℕ). a.said ++ l) (sym (take-append-le taken.0 says.text more.0 taken.1) ∙ ap (take taken.0) whole);
+        }
+
+    -- no segment was damaged
+    quiet : (line_of_serving r ≡ None) → (status_of_serving r ≡ DONE) ⊎ ((status_of_serving r ≡ REFUSED) ⊎ ((status_of_serving r ≡ DISK_FAULT) ⊎ (status_of_serving r ≡ REPLY_FAULT))) → DumpsOpened (status_of_serving r) a b
+    quiet none is = record {
+      status_is = is;
+      looks = looks;
+      done = λ e told said. on_done r e says.whole told said ∙ ap (λ (l : List ℕ). a.said ++ l) (text_is told);
+      front = front_said;
+      undamaged = λ e. absurd (no_line r none e);
+      line = λ e. absurd (no_line r none e);
+      settled = λ e. settled;
+      disk = λ e. says.disk (of_disk r e);
+      reply = λ e. says.reply (of_reply r e);
+    }
+
+  -- one was
+  damaged : (segment : ℕ) (why : Damage) → SaysSweep (Err (serving.Damaged segment why)) s t a b → (d : View) → Says (reply_text (reply.Damaged segment why)) b d → (SaidTold b → SaysLine (reply.Damaged segment why) b.said b d) → DumpsOpened REFUSED a d
+  damaged segment why says d last line =
+      let here = looks (Err (serving.Damaged segment why)) says in
+      record {
+        status_is = inr (inl refl);
+        looks = record {
+          run = run_damaged (λ image said. image ≡ a.held) law here.run last says.told;
+          held = λ told. absurd (says.told told);
+          unwritten = ap (λ (x : Travel). x.written) last.travel ∙ here.unwritten;
+        };
+        done = λ e. absurd (omega (arith, e));
+        front = λ told. absurd (says.told told);
+        undamaged = λ e told. says.told told;
+        line = λ e told.
+            let taken = says.front.said told in
+            last_line a b d (reply.Damaged segment why) tt (take taken.0 says.text) taken.2 says.front.run.say_faults (line (ap (λ f. f.tells_said) says.front.run.fixed ∙ told));
+        settled = λ e. absurd (elim e [ inl x ↦ omega (arith, x) | inr x ↦ omega (arith, x) ]);
+        disk = λ e. absurd (omega (arith, e));
+        reply = λ e. absurd (omega (arith, e));
+      }
+
+  pub dumped_of : (r : Result (Unit {0}) ServeFault) → SaysSweep r s t a b → (d : View) → Says (line_text (line_of_serving r)) b d → (line_of_serving r ≡ None → d ≡ b)
+      → ((line : Reply) → line_of_serving r ≡ Some line → SaidTold b → SaysLine line b.said b d) → DumpsOpened (status_of_serving r) a d
+  dumped_of (Ok done) says d last silent line = subst (DumpsOpened DONE a) (sym (silent refl)) (quiet (Ok done) says refl (inl refl))
+  dumped_of (Err serving.Disk) says d last silent line = subst (DumpsOpened DISK_FAULT a) (sym (silent refl)) (quiet (Err serving.Disk) says refl (inr (inr (inl refl))))
+  dumped_of (Err (serving.Damaged segment why)) says d last silent line = damaged segment why says d last (line (reply.Damaged segment why) refl)
+  dumped_of (Err serving.Script) says d last silent line = absurd says.never
+  dumped_of (Err serving.Reply) says d last silent line = subst (DumpsOpened REPLY_FAULT a) (sym (silent refl)) (quiet (Err serving.Reply) says refl (inr (inr (inr refl))))
+  dumped_of (Err serving.Spent) says d last silent line = absurd says.never
+
+-- What the whole job comes to.
+
+pub record Comes (status : ℕ) (a b : View) : Type 0 where
+  pub status_is : IsDumpStatus status
+  pub attached : b.attached ≡ Some false
+  pub dumped : DumpsFile status a b
+  pub disk : status ≡ DISK_FAULT → Rose a.disk_faults b.disk_faults
+  pub reply : status ≡ REPLY_FAULT → Rose a.say_faults b.say_faults
+
+module _ (a b : View) (law : Lawful a) (ab : Steps Reopens (attached_by false a) b) where
+  module _ (d : View) where
+    -- a file that was not opened isn't refused
+    quiet_file : (fault : OpenFault) → IsUnopened fault a b → (status : ℕ) → (status ≡ DISK_FAULT) ⊎ (status ≡ OUT_OF_MEMORY) → (status ≡ DISK_FAULT → fault ≡ opening.Failed) → (status ≡ OUT_OF_MEMORY → fault ≡ opening.Memory) → Comes status a b
+    quiet_file fault unopened status is failed memory = record {
+      status_is = elim is [ inl e ↦ inr (inr (inl e)) | inr e ↦ inr (inr (inr (inr e))) ];
+      attached = ab.frame.attached;
+      dumped = record {
+        steps = λ nothing. run_of_steps (λ image said. KeepsMeaning a.held image) ab (λ honest start image left step. subst (λ (x : List ℕ). KeepsMeaning x image) (nothing honest start left) (keeps_opened step));
+        held = λ told. keeps_opened (ab.held told);
+        done = λ e. absurd (other DONE ((λ x. omega (arith, x)), (λ x. omega (arith, x))) e);
+        front = λ open_yet told said. record { count = 0; within = omega arith; said_is = ab.frame.said ∙ sym (append-nil a.said) };
+        refused = λ e. absurd (other REFUSED ((λ x. omega (arith, x)), (λ x. omega (arith, x))) e);
+        memory = λ e. unopened.memory (memory e);
+        settled = λ e. absurd (elim e [ inl x ↦ other DONE ((λ y. omega (arith, y)), (λ y. omega (arith, y))) x | inr x ↦ other REPLY_FAULT ((λ y. omega (arith, y)), (λ y. omega (arith, y))) x ]);
+        complete = λ told m here calm_disk calm_reply. elim is [ inl e ↦ absurd (calm_disk (unopened.failed (failed e))) | inr e ↦ inr e ];
+        unwritten = unopened.unwritten;
+        kept = λ no_disk told rest. elim is [ inl e ↦ absurd (no_disk e) | inr e ↦ (unopened.memory (memory e)).steps.held told ];
+        written = unopened.cost;
+      };
+      disk = λ e. unopened.failed (failed e);
+      reply = λ e. absurd (other REPLY_FAULT ((λ x. omega (arith, x)), (λ x. omega (arith, x))) e);
+    }
+      where
+        other : (n : ℕ) → (n ≡ 4 → ⊥) × (n ≡ 7 → ⊥) → status ≡ n → ⊥
+        other n none e = elim is [ inl x ↦ none.0 (sym e ∙ x) | inr x ↦ none.1 (sym e ∙ x) ]
+
+    -- it is refused, and means no map
+    refused_file : (fault : OpenFault) → IsUnopened fault a b → IsRefused a d → {text : List ℕ} → Says text b d → (Told a → IsAllAtRest a.held → b.held ≡ a.held) → (Told a → (m : Map) → MeansMap a.held m → ⊥) → Comes REFUSED a d
+    refused_file fault unopened refused says kept never = record {
+      status_is = inr (inl refl);
+      attached = says.attached ∙ ab.frame.attached;
+      dumped = record {
+        steps = λ nothing. unopened_run a b law ab nothing says;
+        held = λ told. subst (KeepsMeaning a.held) (sym says.held) (keeps_opened (ab.held told));
+        done = λ e. absurd (omega (arith, e));
+        front = λ other. absurd (other refl);
+        refused = λ e. refused;
+        memory = λ e. absurd (omega (arith, e));
+        settled = λ e. absurd (elim e [ inl x ↦ omega (arith, x) | inr x ↦ omega (arith, x) ]);
+        complete = λ told m here. absurd (never told m here);
+        unwritten = λ told rest. ap (λ (x : Travel). x.written) says.travel ∙ unopened.unwritten told rest;
+        kept = λ other told rest. says.held ∙ kept told rest;
+        written = λ told. omega (arith, unopened.cost told, ap (λ (x : Travel). x.written) says.travel);
+      };
+      disk = λ e. absurd (omega (arith, e));
+      reply = λ e. absurd (omega (arith, e));
+    }
+
+    pub comes_unopened : (fault : OpenFault) → IsUnopened fault a b → (line_of_opening fault ≡ None → d ≡ b) → Says (line_text (line_of_opening fault)) b d → ((line : Reply) → line_of_opening fault ≡ Some line → SaidTold b → SaysLine line b.said b d)
+        → Comes (status_of_opening fault) a d
+    comes_unopened opening.Memory unopened silent says line = subst (Comes OUT_OF_MEMORY a) (sym (silent refl)) (quiet_file opening.Memory unopened OUT_OF_MEMORY (inr refl) (λ e. absurd (omega (arith, e))) (λ e. refl))
+    comes_unopened opening.Failed unopened silent says line = subst (Comes DISK_FAULT a) (sym (silent refl)) (quiet_file opening.Failed unopened DISK_FAULT (inl refl) (λ e. refl) (λ e. absurd (omega (arith, e))))
+    comes_unopened (opening.NotStore reason) unopened silent says line =
+        refused_file (opening.NotStore reason) unopened (not_store_refused a b ab d reason unopened says (line (reply.NotStore reason) refl)) says
+        (λ told rest. unopened.even reason refl told rest.rest.gate_even) (no_map a b ab d reason unopened)
+    comes_unopened (opening.Damaged segment why) unopened silent says line =
+        refused_file (opening.Damaged segment why) unopened (damaged_refused a b ab d segment why unopened (line (reply.Damaged segment why) refl)) says
+        (λ told. absurd (unopened.undamaged told)) (λ told. absurd (unopened.undamaged told))
+
+  -- of a file that was opened
+  module _ (v : StoreView) (opened : IsOpened v a b) (status : ℕ) (d : View) (dumps : DumpsOpened status b d) where
+    on : Told a → Told b
+    on told = ap (λ f. f.tells_held) ab.frame.fixed ∙ told
+
+    on_said : SaidTold a → SaidTold b
+    on_said told = ap (λ f. f.tells_said) ab.frame.fixed ∙ told
+
+    -- the map that the file meant
+    same_text : Told a → dump_text (map_of b.held) ≡ dump_text (meant_map a.held)
+    same_text told = ap dump_text (ap (λ (s : ArrayState). s.map) (opened.state told) ∙ opened_map a.held)
+
+    all_said : status ≡ DONE → Told a → SaidTold a → d.said ≡ a.said ++ dump_text (meant_map a.held)
+    all_said e told said = dumps.done e (on told) (on_said said) ∙ (λ i. ab.frame.said i ++ same_text told i)
+
+    front_since : Told a → SaidTold a → SaidFront (dump_text (meant_map a.held)) a.said d.said
+    front_since told said =
+        let here = dumps.front (on told) (on_said said) in
+        record {
+          count = here.count;
+          within = omega (arith, here.within, ap length (same_text told));
+          said_is = here.said_is ∙ (λ i. ab.frame.said i ++ take here.count (same_text told i));
+        }
+
+    last_since : SaysLastLine b d → SaysLastLine a d
+    last_since last = record {
+      replies = last.replies;
+      line = last.line;
+      refuses = last.refuses;
+      says = record {
+        count = last.says.count;
+        within = last.says.within;
+        said = last.says.said ∙ ap (λ (l : List ℕ). l ++ last.replies ++ take last.says.count (reply_text last.line)) ab.frame.said;
+        whole = λ calm. last.says.whole (λ rose. calm (omega (arith, rose, ab.frame.say_faults)));
+      };
+    }
+
+    disk : status ≡ DISK_FAULT → Rose a.disk_faults d.disk_faults
+    disk e = omega (arith, dumps.disk e, ab.frame.disk_faults)
+
+    cut : status ≡ REPLY_FAULT → Rose a.say_faults d.say_faults
+    cut e = omega (arith, dumps.reply e, ab.frame.say_faults)
+
+    pub comes_opened : Comes status a d
+    comes_opened = record {
+      status_is = elim dumps.status_is [ inl e ↦ inl e | inr (inl e) ↦ inr (inl e) | inr (inr (inl e)) ↦ inr (inr (inl e)) | inr (inr (inr e)) ↦ inr (inr (inr (inl e))) ];
+      attached = dumps.looks.run.attached ∙ ab.frame.attached;
+      dumped = record {
+        steps = λ nothing.
+            run_on (λ image said. KeepsMeaning a.held image) (run_of_steps (λ image said. KeepsMeaning a.held image) ab (λ honest start image left step. subst (λ (x : List ℕ). KeepsMeaning x image) (nothing honest start left) (keeps_opened step))) dumps.looks.run
+            (λ honest image said keeps. keeps)
+            (λ honest image said is. subst (KeepsMeaning a.held) (sym is) (keeps_opened (ab.held (law.tells honest).0)));
+        held = λ told. subst (KeepsMeaning a.held) (sym (dumps.looks.held (on told))) (keeps_opened (ab.held told));
+        done = λ e told. (opened.sound told, all_said e told);
+        front = λ other told said. front_since told said;
+        refused = λ e. record {
+          line = λ told. last_since (dumps.line e (on_said told));
+          reason = λ told. absurd (dumps.undamaged e (on told));
+          recovers = λ told. absurd (dumps.undamaged e (on told));
+          even = λ told. absurd (dumps.undamaged e (on told));
+        };
+        memory = λ e. absurd (elim dumps.status_is [ inl x ↦ omega (arith, e, x) | inr (inl x) ↦ omega (arith, e, x) | inr (inr (inl x)) ↦ omega (arith, e, x) | inr (inr (inr x)) ↦ omega (arith, e, x) ]);
+        settled = dumps.settled;
+        complete = λ told m here calm_disk calm_reply. elim dumps.status_is [
+          | inl e ↦ inl e
+          | inr (inl e) ↦ absurd (dumps.undamaged e (on told))
+          | inr (inr (inl e)) ↦ absurd (calm_disk (disk e))
+          | inr (inr (inr e)) ↦ absurd (calm_reply (cut e))
+        ];
+        unwritten = λ told rest. dumps.looks.unwritten ∙ opened.unwritten told rest;
+        kept = λ other told rest. dumps.looks.held (on told) ∙ opened.kept told rest;
+        written = λ told. omega (arith, opened.cost told, dumps.looks.unwritten);
+      };
+      disk = disk;
+      reply = cut;
+    }

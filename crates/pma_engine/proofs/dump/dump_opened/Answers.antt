@@ -1,0 +1,32 @@
+-- What was said of all records, by the parts of the store, and how it was ended.
+use Rattle.std.proofs.Common.{◌≡◌, inl, ap, refl, subst, sym}
+use Rattle.station.specs.View.{Told}
+use Rattle.map_model.specs.Standing.{StandsBalanced}
+use Rattle.pma_engine.specs.Dumping.{DumpsOpened}
+use Rattle.pma_engine.proofs.Dumping.{dumped_of}
+use Rattle.pma_engine.proofs.dump.dump_opened.Goals as goal
+use Rattle.pma_engine.proofs.dump.dump_opened.Goals.{After-sweep_all-sweep}
+
+module _ (g : _) (c : After-sweep_all-sweep g) where
+  -- the parts stand for the file as the store did
+  stands_by : Told (g.S.Station.view c.args.station.now) → StandsBalanced c.into_parts-parts.result.place.layout c.into_parts-parts.result.place.region c.into_parts-parts.result.tally.height c.into_parts-parts.result.tally.counts (g.S.Station.view c.args.station.now).held
+  stands_by told =
+      let is = c.into_parts-parts.ensures in
+      subst (λ (x : Type 0). x) (λ i. StandsBalanced (sym is.place i).layout (sym is.place i).region (sym is.tally i).height (sym is.tally i).counts (g.S.Station.view c.args.station.now).held)
+      (c.requires.open.on.stands (g.S.Station.view c.args.station.now).held (inl (told, refl))).balanced
+
+pub say_sweep-said-requires-clause-sweeping : goal.say_sweep-said-requires-clause-sweeping
+say_sweep-said-requires-clause-sweeping g c told =
+    let here = (goal.at.say_sweep-said-requires-clause-sweeping g c).After-sweep_all-sweep in
+    c.sweep_all-sweep.ensures.sweeping (g.S.Station.view c.args.station.now).held (stands_by g here told)
+
+pub returns : goal.returns
+returns g c =
+    let here = (goal.at.returns g c).After-sweep_all-sweep in
+    let a = g.S.Station.view c.args.station.now in
+    let b = g.S.Station.view c.say_sweep-said.new.station in
+    let d = g.S.Station.view c.end_served.new.station in
+    subst (λ n. DumpsOpened n a d) (sym c.end_served.ensures.status)
+    (dumped_of c.sweep_all-sweep.result c.say_sweep-said.new.sweep a b (g.met.S.Station.lawful c.args.station.now) (g.met.S.Station.lawful c.say_sweep-said.new.station) c.requires.open.on.settled
+    (λ told. c.sweep_all-sweep.ensures.all a.held (stands_by g here told)) c.say_sweep-said.result c.say_sweep-said.ensures d c.end_served.ensures.says
+    (λ none. ap g.S.Station.view (c.end_served.ensures.silent none)) c.end_served.ensures.line)

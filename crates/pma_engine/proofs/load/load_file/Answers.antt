@@ -1,0 +1,43 @@
+use Rattle.std.proofs.Common.{◌≡◌, ◌⊎◌, ap, subst, sym, refl, arith}
+use Rattle.pma_engine.specs.Jobs.{TakesNothing}
+use Rattle.pma_engine.proofs.Loading.{Comes, comes_opened, comes_unopened, untaken_of}
+use Rattle.pma_engine.proofs.load.load_file.Goals as goal
+
+pub returns-in-Err : goal.returns-in-Err
+returns-in-Err g c =
+    let s = g.I.Source.view c.args.source.now in
+    let a = g.S.Station.view c.args.station.now in
+    let d = g.S.Station.view c.end_unopened.new.station in
+    let comes : Comes c.end_unopened.result c.args.most s s a d =
+    subst (λ n. Comes n c.args.most s s a d) (sym c.end_unopened.ensures.status)
+    (comes_unopened c.args.most s a (g.S.Station.view c.open_file.new.station) (g.met.S.Station.lawful c.args.station.now) c.open_file.ensures.steps d c.in-Err.fault c.in-Err.ensures.unopened
+    (λ none. ap g.S.Station.view (c.end_unopened.ensures.silent none)) c.end_unopened.ensures.says c.end_unopened.ensures.line) in
+    record {
+      status = comes.status_is;
+      attached = comes.attached;
+      loaded = comes.loaded;
+      untaken = λ none. refl;
+      disk = comes.disk;
+      script = comes.script;
+      went = record { tells = refl; faults = omega arith };
+    }
+
+pub returns-in-Ok : goal.returns-in-Ok
+returns-in-Ok g c =
+    let s0 = g.I.Source.view c.args.source.now in
+    let s1 = g.I.Source.view c.load_opened.new.source in
+    let a = g.S.Station.view c.args.station.now in
+    let b = g.S.Station.view c.open_file.new.station in
+    let d = g.S.Station.view c.load_opened.new.station in
+    let law = g.met.S.Station.lawful c.args.station.now in
+    let comes : Comes c.load_opened.result c.args.most s0 s1 a d =
+    comes_opened c.args.most s0 s1 a b law c.open_file.ensures.steps c.in-Ok.store c.in-Ok.ensures.opened c.load_opened.result d c.load_opened.ensures.loads in
+    record {
+      status = comes.status_is;
+      attached = comes.attached;
+      loaded = comes.loaded;
+      untaken = λ none. c.load_opened.ensures.untaken (untaken_of c.args.most s0 s1 a b law c.open_file.ensures.steps c.in-Ok.store c.in-Ok.ensures.opened c.load_opened.result d c.load_opened.ensures.loads none);
+      disk = comes.disk;
+      script = comes.script;
+      went = c.load_opened.ensures.went;
+    }

@@ -1,0 +1,64 @@
+-- What the dump of a file comes to.
+use Rattle.std.specs.Prelude.{◌≡◌, ◌⊎◌, ℕ, ◌+◌, ◌≤◌, List, ◌++◌, length, take, false, None}
+use Rattle.std.specs.List.{flat_map}
+use Rattle.std.specs.FinMap.{entries}
+use Rattle.station.specs.View.{View, Told, SaidTold, NothingPending, Rose, attached_by}
+use Rattle.station.specs.Steps.{Run}
+use Rattle.map_model.specs.Image.{map_of}
+use Rattle.map_model.specs.Store.{Map}
+use Rattle.batch_intent.specs.Means.{MeansMap, meant_map, opening_reason}
+use Rattle.command_text.specs.Answers.{range_lines}
+use Rattle.command_text.specs.Reply.{reply_text}
+use Rattle.pma_store.specs.Opens.{IsAllAtRest}
+use Rattle.pma_engine.specs.Carrying.{Looks}
+use Rattle.pma_engine.specs.Opening.{IsOutOfMemory, reopening_cost}
+use Rattle.pma_engine.specs.Outcome.{IsRefused}
+use Rattle.pma_engine.specs.Refusing.{SaysLastLine}
+use Rattle.pma_engine.specs.Upgrading.{KeepsMeaning}
+use Rattle.pma_engine.specs.declared.status.TheConstants.{DONE, REFUSED, DISK_FAULT, REPLY_FAULT, OUT_OF_MEMORY}
+
+-- the statuses with which a dump may end
+abbrev pub IsDumpStatus : ℕ → Type 0
+IsDumpStatus status = (status ≡ DONE) ⊎ ((status ≡ REFUSED) ⊎ ((status ≡ DISK_FAULT) ⊎ ((status ≡ REPLY_FAULT) ⊎ (status ≡ OUT_OF_MEMORY))))
+
+-- the lines of all records of a map, ascending, and then the line with their number
+abbrev pub dump_text : Map → List ℕ
+dump_text m = flat_map reply_text (range_lines (entries m))
+
+-- a front of a text was said behind what was said before
+pub record SaidFront (text said_before said : List ℕ) : Type 0 where
+  pub count : ℕ
+  pub within : count ≤ length text
+  pub said_is : said ≡ said_before ++ take count text
+
+-- `dump`: no moment and no status changes the map
+pub record DumpsFile (status : ℕ) (a b : View) : Type 0 where
+  pub steps : NothingPending a → Run (λ image said. KeepsMeaning a.held image) (attached_by false a) b
+  pub held : Told a → KeepsMeaning a.held b.held
+  -- of a store exactly its lines are said
+  pub done : status ≡ DONE → Told a → (opening_reason a.held ≡ None) × (SaidTold a → b.said ≡ a.said ++ dump_text (meant_map a.held))
+  -- or a front of them, and of any other file nothing
+  pub front : (status ≡ REFUSED → ⊥) → Told a → SaidTold a → SaidFront (dump_text (meant_map a.held)) a.said b.said
+  -- refused it is as by a run: one line tells the first reason against the file
+  pub refused : status ≡ REFUSED → IsRefused a b
+  pub memory : status ≡ OUT_OF_MEMORY → IsOutOfMemory a b
+  pub settled : (status ≡ DONE) ⊎ (status ≡ REPLY_FAULT) → NothingPending b
+  -- of a store: where no call failed, it ends so, or for want of memory
+  pub complete : Told a → (m : Map) → MeansMap a.held m → (Rose a.disk_faults b.disk_faults → ⊥) → (Rose a.say_faults b.say_faults → ⊥) → (status ≡ DONE) ⊎ (status ≡ OUT_OF_MEMORY)
+  -- nothing is written but by the opening: where it has nothing to do, nothing at all
+  pub unwritten : Told a → IsAllAtRest a.held → b.travel.written ≡ a.travel.written
+  pub kept : (status ≡ DISK_FAULT → ⊥) → Told a → IsAllAtRest a.held → b.held ≡ a.held
+  pub written : Told a → b.travel.written ≤ a.travel.written + reopening_cost a.held
+
+-- what the dump of an open store came to, on whose station nothing is pending
+pub record DumpsOpened (status : ℕ) (a b : View) : Type 0 where
+  pub status_is : (status ≡ DONE) ⊎ ((status ≡ REFUSED) ⊎ ((status ≡ DISK_FAULT) ⊎ (status ≡ REPLY_FAULT)))
+  -- nothing is written, and no byte changes at any moment
+  pub looks : Looks a b
+  pub done : status ≡ DONE → Told a → SaidTold a → b.said ≡ a.said ++ dump_text (map_of a.held)
+  pub front : Told a → SaidTold a → SaidFront (dump_text (map_of a.held)) a.said b.said
+  pub undamaged : status ≡ REFUSED → Told a → ⊥
+  pub line : status ≡ REFUSED → SaidTold a → SaysLastLine a b
+  pub settled : (status ≡ DONE) ⊎ (status ≡ REPLY_FAULT) → NothingPending b
+  pub disk : status ≡ DISK_FAULT → Rose a.disk_faults b.disk_faults
+  pub reply : status ≡ REPLY_FAULT → Rose a.say_faults b.say_faults

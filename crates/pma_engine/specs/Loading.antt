@@ -1,0 +1,181 @@
+-- What the load of a text into a file comes to.
+use Rattle.std.specs.Prelude.{◌≡◌, ◌⊎◌, ℕ, ◌+◌, ◌*◌, ◌^◌, ◌<◌, ◌≤◌, List, [], false, length, Option, Some, None, Result, Ok, Err}
+use Rattle.std.specs.FinMap.{from_sorted, len}
+use Rattle.station.specs.View.{View, Told, SaidTold, EachHeld, NothingPending, Rose, attached_by}
+use Rattle.station.specs.Steps.{Run}
+use Rattle.line_source.specs.Lines.{raw_lines}
+use Rattle.line_source.specs.SourceView.{SourceView}
+use Rattle.line_source.specs.SourceView as source
+use Rattle.header_gate.specs.Header.{gate, layout_in}
+use Rattle.header_gate.specs.Places.{segment_size}
+use Rattle.header_gate.specs.Recovered.{recovered}
+use Rattle.header_gate.specs.declared.layout.Layout.{Layout}
+use Rattle.header_gate.specs.declared.reason.Reason.{Reason}
+use Rattle.key_slot.specs.Record.{Record}
+use Rattle.map_model.specs.Array.{spread_over}
+use Rattle.map_model.specs.Holding.{IsBalancedArray}
+use Rattle.map_model.specs.Image.{array_of, height_of}
+use Rattle.map_model.specs.Store.{Map}
+use Rattle.batch_intent.specs.Means.{Means, MeansMap, has_pending, meant_map, opening_reason}
+use Rattle.bulk_load.specs.Loads.{IsLeastHeight, most_records}
+use Rattle.bulk_load.specs.LoadText.{IsLoadText, IsFirstWrong, IsUnfinished, IsOneTooMany}
+use Rattle.bulk_load.specs.declared.fault.LoadFault.{LoadFault}
+use Rattle.bulk_load.specs.declared.fault.LoadFault.TheVariants as load
+use Rattle.bulk_load.specs.declared.fault.Loaded.{Loaded}
+use Rattle.command_text.specs.declared.reply.Reply.{Reply}
+use Rattle.command_text.specs.declared.reply.Reply.TheVariants as reply
+use Rattle.pma_store.specs.Opens.{IsAllAtRest}
+use Rattle.pma_engine.specs.Opening.{IsOutOfMemory, reopening_cost}
+use Rattle.pma_engine.specs.Outcome.{IsRest, empty_map}
+use Rattle.pma_engine.specs.Refusing.{IsRefusal, SaysLine}
+use Rattle.pma_engine.specs.Upgrading.{KeepsMeaning}
+use Rattle.pma_engine.specs.declared.status.TheConstants.{DONE, REFUSED, DISK_FAULT, SCRIPT_FAULT, OUT_OF_MEMORY, TOO_LONG}
+
+-- the statuses with which a load may end
+abbrev pub IsLoadStatus : ℕ → Type 0
+IsLoadStatus status = IsRest status ⊎ ((status ≡ REFUSED) ⊎ ((status ≡ DISK_FAULT) ⊎ (status ≡ OUT_OF_MEMORY)))
+
+-- the line that tells why a text isn't loaded into an open store
+abbrev pub line_of_load : Result Loaded LoadFault → Option Reply
+line_of_load (Ok loaded) = None
+line_of_load (Err (load.NotEmpty records)) = Some (reply.NotEmpty records)
+line_of_load (Err (load.Line number)) = Some (reply.LoadLine number)
+line_of_load (Err (load.Full most)) = Some (reply.LoadFull most)
+line_of_load (Err load.Disk) = None
+line_of_load (Err (load.Damaged segment why)) = Some (reply.Damaged segment why)
+line_of_load (Err load.Script) = None
+line_of_load (Err load.Spent) = None
+
+-- the status with which the job ends then
+abbrev pub status_of_load : Result Loaded LoadFault → ℕ
+status_of_load (Ok loaded) = DONE
+status_of_load (Err (load.NotEmpty records)) = REFUSED
+status_of_load (Err (load.Line number)) = REFUSED
+status_of_load (Err (load.Full most)) = REFUSED
+status_of_load (Err load.Disk) = DISK_FAULT
+status_of_load (Err (load.Damaged segment why)) = REFUSED
+status_of_load (Err load.Script) = SCRIPT_FAULT
+status_of_load (Err load.Spent) = TOO_LONG
+
+-- where the source tells it, all that it has left is a load text with these records, which a store of this layout admits: in its
+-- slot format, and as many as it may hold
+abbrev pub HasText : Layout → SourceView → List Record → Type 0
+HasText l s rows = source.Told s → IsLoadText l.format (raw_lines s.left) rows × (length rows ≤ most_records l)
+
+-- the image means the map of the whole text, at the least height that holds its records
+pub record MeansText (l : Layout) (s : SourceView) (image : List ℕ) : Type 0 where
+  pub rows : List Record
+  pub height : ℕ
+  pub text : HasText l s rows
+  pub least : IsLeastHeight (length rows) height
+  pub means : Means image (from_sorted rows) height
+
+-- the new image means each map that the old one does; or, where that has no records, the map of the whole text
+abbrev pub MayLoad : SourceView → List ℕ → List ℕ → Type 0
+MayLoad s old new = (m : Map) → MeansMap old m → MeansMap new m ⊎ ((m ≡ empty_map) × MeansText (layout_in old) s new)
+
+-- A text was loaded into a store of this layout: the file means its map, its array is the spread of the records over the segments of
+-- the least height that holds them, every window within its bounds, and no items of an intent wait.
+pub record IsFileLoaded (l : Layout) (s : SourceView) (new : List ℕ) : Type 0 where
+  pub text : MeansText l s new
+  pub no_intent : has_pending new ≡ false
+  pub layout : layout_in new ≡ l
+  pub array : array_of new ≡ spread_over (2 ^ text.height) text.rows
+  pub balanced : IsBalancedArray text.height (array_of new)
+
+-- the source was read to its end, and gave a load text of fewer bytes than may be taken
+pub record IsReadWhole (most : ℕ) (s0 s1 : SourceView) : Type 0 where
+  pub format : ℕ
+  pub rows : List Record
+  pub text : IsLoadText format (raw_lines s0.left) rows
+  pub all : s1.left ≡ []
+  pub short : length s0.left < most
+
+-- where the source tells it, line n is the first that no load text can have there, or one more than there are, where the lines
+-- end before the one with the number of records
+abbrev pub IsWrongAt : Layout → SourceView → ℕ → Type 0
+IsWrongAt l s n = source.Told s → IsFirstWrong l.format (raw_lines s.left) n ⊎ (IsUnfinished l.format (raw_lines s.left) × (n ≡ length (raw_lines s.left) + 1))
+
+-- where the source tells it, a record follows as many as a store of this layout may hold
+abbrev pub IsTooLong : Layout → SourceView → Type 0
+IsTooLong l s = source.Told s → IsOneTooMany l.format (most_records l) (raw_lines s.left)
+
+-- a text isn't loaded into a store of this layout with so many records, and this line says why: there are records, and nothing is
+-- taken from the source; or a line of the text is wrong; or it has more records than the store may hold
+abbrev pub AnswersLoad : Layout → ℕ → SourceView → SourceView → Reply → Type 0
+AnswersLoad l records s0 s1 line = ((0 < records) × (line ≡ reply.NotEmpty records) × (s1 ≡ s0))
+    ⊎ (((records ≡ 0) × ((n : ℕ) × (line ≡ reply.LoadLine n) × IsWrongAt l s0 n))
+    ⊎ ((records ≡ 0) × (line ≡ reply.LoadFull (most_records l)) × IsTooLong l s0))
+
+-- the same of the store of an image
+abbrev pub IsLoadAnswer : List ℕ → SourceView → SourceView → Reply → Type 0
+IsLoadAnswer old s0 s1 line = AnswersLoad (layout_in old) (len (meant_map old)) s0 s1 line
+
+-- why a load is refused: the first reason against the file, or that answer
+abbrev pub IsLoadRefusal : List ℕ → SourceView → SourceView → Reply → Type 0
+IsLoadRefusal old s0 s1 line = ((r : Reason) × (opening_reason old ≡ Some r) × (line ≡ reply.NotStore r))
+    ⊎ ((opening_reason old ≡ None) × IsLoadAnswer old s0 s1 line)
+
+-- A load was refused, and one line says so. Over a station that tells its bytes it tells the reason or the answer; a file that is
+-- no store recovers to what it recovered to, and where its gate is even, it is as before; and where a store has records, and an
+-- opening had nothing to do, every byte is as it was.
+pub record IsLoadRefused (s0 s1 : SourceView) (a b : View) : Type 0 where
+  pub line : SaidTold a → (line : Reply) × IsRefusal line × SaysLine line a.said a b
+  pub why : Told a → (line : Reply) × IsLoadRefusal a.held s0 s1 line × (SaidTold a → SaysLine line a.said a b)
+  pub recovers : Told a → (r : Reason) → opening_reason a.held ≡ Some r → recovered (layout_in a.held) b.held ≡ recovered (layout_in a.held) a.held
+  pub even : Told a → (r : Reason) → opening_reason a.held ≡ Some r → gate a.held ≡ 0 → b.held ≡ a.held
+  pub kept : Told a → IsAllAtRest a.held → 0 < len (meant_map a.held) → (b.held ≡ a.held) × (b.travel.written ≡ a.travel.written)
+
+-- at most so many bytes are written by a load behind the opening, into a file of this layout that then has this height
+abbrev pub load_cost : Layout → ℕ → ℕ
+load_cost l height = 2 * segment_size l * 2 ^ height + 9
+
+-- it ends for the source's sake: a read failed, or all bytes were taken that may be
+abbrev pub IsCutText : ℕ → Type 0
+IsCutText status = (status ≡ SCRIPT_FAULT) ⊎ (status ≡ TOO_LONG)
+
+-- `load`, of whose text at most so many bytes are taken
+pub record LoadsFile (status most : ℕ) (s0 s1 : SourceView) (a b : View) : Type 0 where
+  -- at every moment and at the return: the map stays, or, where it was empty, it is that of the whole text
+  pub steps : NothingPending a → Run (λ image said. MayLoad s0 a.held image) (attached_by false a) b
+  pub held : Told a → MayLoad s0 a.held b.held
+  pub done : status ≡ DONE → Told a → (opening_reason a.held ≡ None) × (meant_map a.held ≡ empty_map) × IsFileLoaded (layout_in a.held) s0 b.held
+  pub whole : status ≡ DONE → source.Told s0 → IsReadWhole most s0 s1
+  pub settled : status ≡ DONE → NothingPending b
+  -- with any other status but that of a disk call which failed, the map stays, in all that a crash may leave then too
+  pub kept : (status ≡ DONE → ⊥) → (status ≡ DISK_FAULT → ⊥) → NothingPending a → EachHeld (KeepsMeaning a.held) b
+  -- but for a line of refusal nothing is said
+  pub silent : (status ≡ REFUSED → ⊥) → b.said ≡ a.said
+  pub refused : status ≡ REFUSED → IsLoadRefused s0 s1 a b
+  pub memory : status ≡ OUT_OF_MEMORY → IsOutOfMemory a b
+  pub too_long : status ≡ TOO_LONG → source.Told s0 → length s0.left ≡ length s1.left + most
+  -- of a store: where no disk call failed, it ends so, or for want of memory, or with the one answer that is due, or for the source
+  pub complete : Told a → (m : Map) → MeansMap a.held m → (Rose a.disk_faults b.disk_faults → ⊥) →
+      (status ≡ DONE) ⊎ ((status ≡ OUT_OF_MEMORY) ⊎ (((status ≡ REFUSED) × ((line : Reply) × IsLoadAnswer a.held s0 s1 line)) ⊎ ((m ≡ empty_map) × IsCutText status)))
+  -- a text that a store without records admits, of fewer bytes than may be taken
+  pub admitted : source.Told s0 → Told a → MeansMap a.held empty_map → (rows : List Record) → HasText (layout_in a.held) s0 rows → length s0.left < most →
+      (Rose a.disk_faults b.disk_faults → ⊥) → (source.Rose s0 s1 → ⊥) → (status ≡ DONE) ⊎ (status ≡ OUT_OF_MEMORY)
+  pub written : status ≡ DONE → Told a → b.travel.written ≤ a.travel.written + (reopening_cost a.held + load_cost (layout_in a.held) (height_of b.held))
+
+-- what a load into an open store of this layout with so many records came to, on whose station nothing is pending; its file has no
+-- intent that is to be applied
+pub record LoadsOpened (status most : ℕ) (l : Layout) (records : ℕ) (s0 s1 : SourceView) (a b : View) : Type 0 where
+  pub status_is : IsRest status ⊎ ((status ≡ REFUSED) ⊎ (status ≡ DISK_FAULT))
+  pub run : Run (λ image said. MayLoad s0 a.held image) a b
+  pub held : Told a → MayLoad s0 a.held b.held
+  pub empty : status ≡ DONE → records ≡ 0
+  pub loaded : status ≡ DONE → Told a → IsFileLoaded l s0 b.held
+  pub whole : status ≡ DONE → source.Told s0 → IsReadWhole most s0 s1
+  pub settled : status ≡ DONE → NothingPending b
+  pub kept : (status ≡ DONE → ⊥) → (status ≡ DISK_FAULT → ⊥) → EachHeld (KeepsMeaning a.held) b
+  pub silent : (status ≡ REFUSED → ⊥) → b.said ≡ a.said
+  pub line : status ≡ REFUSED → SaidTold a → (line : Reply) × IsRefusal line × SaysLine line a.said a b
+  pub why : status ≡ REFUSED → Told a → (line : Reply) × AnswersLoad l records s0 s1 line × (SaidTold a → SaysLine line a.said a b)
+  pub left : 0 < records → (b.held ≡ a.held) × (b.travel.written ≡ a.travel.written)
+  pub too_long : status ≡ TOO_LONG → source.Told s0 → length s0.left ≡ length s1.left + most
+  pub cut : IsCutText status → records ≡ 0
+  pub admitted : source.Told s0 → Told a → records ≡ 0 → (rows : List Record) → HasText l s0 rows → length s0.left < most →
+      (Rose a.disk_faults b.disk_faults → ⊥) → (source.Rose s0 s1 → ⊥) → status ≡ DONE
+  pub written : status ≡ DONE → Told a → b.travel.written ≤ a.travel.written + load_cost l (height_of b.held)
+  pub disk : status ≡ DISK_FAULT → Rose a.disk_faults b.disk_faults
+  pub script : status ≡ SCRIPT_FAULT → source.Rose s0 s1

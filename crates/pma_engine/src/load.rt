@@ -1,0 +1,97 @@
+//! The job of reading a load text into a store without records.
+
+ghost use Rattle.std.specs.Prelude.{◌≡◌, ◌<◌, None, Some, false, sum};
+ghost use Rattle.station.specs.Steps.{Says};
+ghost use Rattle.station.specs.View.{SaidTold, NamedBy, Rose};
+ghost use Rattle.line_source.specs.SourceView.{Rose as SourceRose, Went};
+ghost use Rattle.pma_store.specs.Store.{IsOpenOn};
+ghost use Rattle.pma_engine.specs.Jobs.{TakesNothing};
+ghost use Rattle.pma_engine.specs.Loading.{LoadsFile, LoadsOpened, IsLoadStatus, line_of_load, status_of_load};
+ghost use Rattle.pma_engine.specs.Refusing.{SaysLine, line_text};
+ghost use Rattle.pma_engine.specs.declared.words.Job.TheVariants.{Load};
+
+use crate::attaching::{end_unopened, open_file};
+use crate::refusing::say_refusal;
+use crate::status::{DISK_FAULT, DONE, REFUSED, SCRIPT_FAULT, TOO_LONG};
+use bulk_load::{LoadFault, Loaded, admitted_texts_are_loaded, load_rows, texts_are_read_by_lines};
+use command_text::Reply;
+use line_source::{LineReader, Source};
+use pma_store::Store;
+use station::Station;
+use std::alloc::Global;
+
+/// Opens the store of that name, which has no records, and reads a load text into it, of which it takes at most `most` bytes.
+///
+/// A crash at any moment leaves the store without records, or with all that the text has. A store that has records is told in
+/// one line before anything is taken from the source, and a text that is wrong or has too many records by the number of its line
+/// or the most records. Else nothing is said.
+pub(crate) fn load_file<I: Source, S: Station>(
+    alloc: Global,
+    source: &mut I,
+    station: &mut S,
+    name: &str,
+    most: u64,
+) -> u8
+    requires first { (S.view station.old).attached ≡ None }
+    requires named { NamedBy name.now (S.view station.old).fixed.name }
+    ensures status { IsLoadStatus result }
+    ensures attached { (S.view station.new).attached ≡ Some false }
+    ensures loaded { LoadsFile result most (I.view source.old) (I.view source.new) (S.view station.old) (S.view station.new) }
+    ensures untaken { TakesNothing (Some Load) result (S.view station.old) → source.new ≡ source.old }
+    ensures disk { result ≡ DISK_FAULT → Rose (S.view station.old).disk_faults (S.view station.new).disk_faults }
+    ensures script { result ≡ SCRIPT_FAULT → SourceRose (I.view source.old) (I.view source.new) }
+    ensures went { Went (I.view source.old) (I.view source.new) }
+{
+    match open_file(alloc, station, name) {
+        Ok(store) => load_opened(source, station, store, most),
+        Err(fault) => end_unopened(station, fault),
+    }
+}
+
+// Reads the text into an open store, and says the line where it isn't loaded.
+fn load_opened<I: Source, S: Station>(
+    source: &mut I,
+    station: &mut S,
+    store: Store,
+    most: u64,
+) -> u8
+    requires open { IsOpenOn store (S.view station.old) }
+    ensures loads { LoadsOpened result most store.place.layout (sum store.tally.counts) (I.view source.old) (I.view source.new) (S.view station.old) (S.view station.new) }
+    ensures untaken { 0 < sum store.tally.counts → source.new ≡ source.old }
+    ensures went { Went (I.view source.old) (I.view source.new) }
+{
+    texts_are_read_by_lines();
+    admitted_texts_are_loaded();
+    let mut parts = store.into_parts();
+    let mut reader = LineReader::new(most);
+    let loaded = load_rows(
+        source,
+        station,
+        &mut reader,
+        &mut parts.place,
+        &mut parts.frames,
+        &parts.tally,
+    );
+    end_loaded(station, loaded)
+}
+
+// Ends a load, and says the line where the text isn't loaded.
+fn end_loaded<S: Station>(station: &mut S, loaded: Result<Loaded, LoadFault>) -> u8
+    ensures status { result ≡ status_of_load loaded }
+    ensures says { Says (line_text (line_of_load loaded)) (S.view station.old) (S.view station.new) }
+    ensures silent { line_of_load loaded ≡ None → station.new ≡ station.old }
+    ensures line { (line : Reply) → line_of_load loaded ≡ Some line → SaidTold (S.view station.old) → SaysLine line (S.view station.old).said (S.view station.old) (S.view station.new) }
+{
+    let line = match loaded {
+        Ok(_) => return DONE,
+        Err(LoadFault::NotEmpty { records }) => Reply::NotEmpty(records),
+        Err(LoadFault::Line { number }) => Reply::LoadLine(number),
+        Err(LoadFault::Full { most }) => Reply::LoadFull(most),
+        Err(LoadFault::Disk) => return DISK_FAULT,
+        Err(LoadFault::Damaged { segment, why }) => Reply::Damaged { segment, why },
+        Err(LoadFault::Script) => return SCRIPT_FAULT,
+        Err(LoadFault::Spent) => return TOO_LONG,
+    };
+    say_refusal(station, &line);
+    REFUSED
+}
