@@ -16,8 +16,7 @@ fn window(height: u32, number: u32) -> Window
 /// One window of two segments: with room, full, and with its least records.
 #[test]
 fn picks_of_two_segments(rt: HostRuntime) -> Result<(), Fail> {
-    let mut tally = Tally::new(rt.alloc(), 1)?;
-    tally.clear(1);
+    let mut tally = Tally::new(rt.alloc(), 1, 1)?;
     tally.load(0, 32);
     tally.load(1, 64);
     assert_eq!(rt; tally.pick(1, Change::Add), Pick::Spread(window(1, 0)));
@@ -34,8 +33,7 @@ fn picks_of_two_segments(rt: HostRuntime) -> Result<(), Fail> {
 /// A full segment whose pair would be full too, so four segments are spread. Then the put that asked for it.
 #[test]
 fn spread_of_four_segments(rt: HostRuntime) -> Result<(), Fail> {
-    let mut tally = Tally::new(rt.alloc(), 2)?;
-    tally.clear(2);
+    let mut tally = Tally::new(rt.alloc(), 2, 2)?;
     tally.load(0, 62);
     tally.load(1, 64);
     tally.load(2, 10);
@@ -70,7 +68,7 @@ fn spread_of_four_segments(rt: HostRuntime) -> Result<(), Fail> {
 /// A store that grows from one full segment, and back.
 #[test]
 fn growth_and_shrinkage(rt: HostRuntime) -> Result<(), Fail> {
-    let mut tally = Tally::new(rt.alloc(), 1)?;
+    let mut tally = Tally::new(rt.alloc(), 1, 0)?;
     tally.load(0, 64);
     assert_eq!(rt; tally.pick(0, Change::Add), Pick::Grow);
     tally.resize(1);

@@ -25,10 +25,9 @@ pub(crate) fn make_parts(alloc: Global, header: &Header) -> Result<Parts, AllocE
     ensures tally { IfOk result (λ parts. parts.tally ≡ empty_tally (height_limit header.now.layout) header.now.height) }
 {
     let limit = header.layout.height_limit();
-    let mut tally = Tally::new(alloc, limit)?;
+    let tally = Tally::new(alloc, limit, header.height)?;
     let mut index = Index::new(alloc, limit)?;
     let frames = Frames::new(alloc, header.layout.journal)?;
-    tally.clear(header.height);
     index.reset(header.height);
     Ok(Parts {
         place: Place {

@@ -19,6 +19,7 @@ ghost use Rattle.density_rule.specs.Marks.{mark_of, no_marks, updated_marks, spr
 ghost use Rattle.density_rule.specs.declared.TheConstants.{SEGMENT_SLOTS};
 
 use density_rule::{Window, window_of};
+use room::{fit_counts, fit_marks, no_counts, no_marks_yet};
 use std::alloc::{AllocError, Global};
 use std::marker::Model;
 use tree::{
@@ -26,6 +27,7 @@ use tree::{
     share_out,
 };
 
+mod room;
 mod tree;
 
 /// How many updates a window has had since a larger window around it was spread.
@@ -86,32 +88,24 @@ impl Tally {
     ghost use Rattle.window_tally.specs.View.{empty_tally, since_of, IsTally};
     ghost use Rattle.window_tally.specs.Choice.{adds, pick_of, resize_of, IsPossible};
 
-    /// An empty tally of height 0, with room for the windows of a store of height `hmax`, which is at most 16.
+    /// An empty tally of this height, with no window rested, and with room for the windows of a store of height `hmax`,
+    /// which is at most 16.
     ///
     /// `AllocError` is want of memory, for `2^(hmax + 1)` counts and as many marks; no other call takes any.
-    pub fn new(alloc: Global, hmax: u32) -> Result<Tally, AllocError>
-        requires { hmax ≤ 16 }
-        ensures ok { IfOk result (λ t. t ≡ empty_tally hmax 0) }
+    pub fn new(alloc: Global, hmax: u32, height: u32) -> Result<Tally, AllocError>
+        requires most { hmax ≤ 16 }
+        requires within { height ≤ hmax }
+        ensures ok { IfOk result (λ t. t ≡ empty_tally hmax height) }
         ensures tally { IfOk result IsTally }
     {
-        let places = 2usize << hmax;
+        let most = 2usize << hmax;
+        let places = 2usize << height;
         Ok(Tally {
             hmax,
-            height: 0,
-            counts: vec![in alloc; 0; places]?,
-            marks: vec![in alloc; None; places]?,
+            height,
+            counts: no_counts(alloc, most, places)?,
+            marks: no_marks_yet(alloc, most, places)?,
         })
-    }
-
-    /// Makes this the tally of an empty store of this height, with no window rested.
-    pub fn clear(&mut self, height: u32)
-        requires { height ≤ self.old.hmax }
-        ensures after { self.new ≡ empty_tally self.old.hmax height }
-        ensures tally { IsTally self.new }
-    {
-        self.height = height;
-        self.counts.fill(0);
-        forget_all(&mut self.marks);
     }
 
     /// Forgets which windows are rested. The height and the counts stay.
@@ -238,7 +232,10 @@ impl Tally {
     {
         let records = self.counts[1];
         let root = Window { height, number: 0 };
+        let places = 2usize << height;
         self.height = height;
+        fit_counts(&mut self.counts, places);
+        fit_marks(&mut self.marks, places);
         share_out(&mut self.counts, height, root, records);
         rest_inside(&mut self.marks, height, root);
     }
