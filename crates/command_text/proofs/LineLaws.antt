@@ -20,9 +20,9 @@ use Rattle.command_text.specs.Batch.{parts, items_of, is_batch_form, first_overs
 use Rattle.command_text.specs.Updates.{updates_asked, updates_made}
 use Rattle.command_text.specs.Words.{words}
 use Rattle.command_text.specs.Number.{number_of, if_positive}
-use Rattle.command_text.specs.Command.{IsKey, IsBound, with_key, with_value, with_bound, with_number, bounded, put_of, key_of, range_of, alone, probe_of, command_of_words, command_of}
+use Rattle.command_text.specs.Command.{IsKey, IsBound, with_key, with_value, with_bound, with_number, bounded, put_of, key_of, range_of, alone, probe_of, opened_between, open_of, cursor_named, command_of_words, command_of}
 use Rattle.command_text.specs.declared.command.Command.{Command}
-use Rattle.command_text.specs.declared.command.Command.TheVariants.{Nothing, Put, Remove, Batch, Get, Range, Check, Probe, Cost, OversizedKey, OversizedValue, RepeatedKey, Bad}
+use Rattle.command_text.specs.declared.command.Command.TheVariants.{Nothing, Put, Remove, Batch, Get, Range, Check, Probe, Cost, Open, Next, Close, OversizedKey, OversizedValue, RepeatedKey, Bad}
 use Rattle.command_text.specs.declared.command.Why.TheVariants as why
 use Rattle.command_text.proofs.WordLaws.{AreWords, words_are}
 use Rattle.command_text.proofs.Spans.{span, words_span, batch_span}
@@ -38,6 +38,9 @@ pub record OfEachKind (f n : ℕ) (P : Command → Type 0) : Type 0 where
   pub ranges : (low high : Option (List ℕ)) (limit : ℕ) → IsBound f low → IsBound f high → P (Range low high limit)
   pub checks : P Check
   pub costs : P Cost
+  pub opens : (name : List ℕ) (low high : Option (List ℕ)) → IsKey f name → IsBound f low → IsBound f high → P (Open name low high)
+  pub nexts : (name : List ℕ) → IsKey f name → P (Next name)
+  pub closes : (name : List ℕ) → IsKey f name → P (Close name)
   pub probes : (key : List ℕ) (block : ℕ) → IsKey f key → 1 ≤ block → P (Probe key block)
   pub oversized_key : P OversizedKey
   pub oversized_value : P OversizedValue
@@ -124,6 +127,22 @@ module _ (f n : ℕ) (P : Command → Type 0) (each : OfEachKind f n P) where
       of_number (if_positive (number_of b)) (λ n. Probe key n) (λ n e. each.probes key n is (positive (number_of b) n e)))
   probe_holds (k ∷ b ∷ c ∷ rest) are = each.bad_words
 
+  open_holds : (rest : List (List ℕ)) → AreWords rest → P (open_of f rest)
+  open_holds [] are = each.bad_words
+  open_holds (w ∷ []) are = each.bad_words
+  open_holds (w ∷ l ∷ []) are = each.bad_words
+  open_holds (w ∷ l ∷ h ∷ []) are =
+      of_key w (λ name. opened_between f name l h) are.0 (λ name is.
+      of_bound l (λ low. with_bound f h (λ high. Open name low high)) are.1.0 (λ low low_is.
+      of_bound h (λ high. Open name low high) are.1.1.0 (λ high high_is. each.opens name low high is low_is high_is)))
+  open_holds (w ∷ l ∷ h ∷ v ∷ rest) are = each.bad_words
+
+  cursor_holds : (name : List ℕ) (rest : List (List ℕ)) → AreWords rest → P (cursor_named f name rest)
+  cursor_holds name rest are =
+      either (bytes_eq name (codes "open")) _ _ (λ e. open_holds rest are) (λ e.
+      either (bytes_eq name (codes "next")) _ _ (λ e. key_holds Next each.nexts rest are) (λ e.
+      either (bytes_eq name (codes "close")) _ _ (λ e. key_holds Close each.closes rest are) (λ e. each.bad_command)))
+
   -- the refusal of a size
   abbrev HoldsOf : Option Command → Type 0
   HoldsOf None = Unit {0}
@@ -163,7 +182,7 @@ module _ (f n : ℕ) (P : Command → Type 0) (each : OfEachKind f n P) where
       either (bytes_eq name (codes "check")) _ _ (λ e. alone_holds Check each.checks rest) (λ e.
       either (bytes_eq name (codes "probe")) _ _ (λ e. probe_holds rest are.1) (λ e.
       either (bytes_eq name (codes "batch")) _ _ (λ e. batch_holds rest are.1 behind) (λ e.
-      either (bytes_eq name (codes "cost")) _ _ (λ e. alone_holds Cost each.costs rest) (λ e. each.bad_command)))))))))
+      either (bytes_eq name (codes "cost")) _ _ (λ e. alone_holds Cost each.costs rest) (λ e. cursor_holds name rest are.1)))))))))
 
 pub line_holds : (f : ℕ) (P : Command → Type 0) (line : List ℕ) → OfEachKind f (length line) P → P (command_of f line)
 line_holds f P line each = words_hold f (length line) P each (words line) (words_are line) (words_span line)
@@ -179,6 +198,9 @@ few_asked f line = line_holds f (λ c. 2 * length (updates_asked c) ≤ length l
   ranges = λ low high limit low_is high_is. omega arith;
   checks = omega arith;
   costs = omega arith;
+  opens = λ name low high is low_is high_is. omega arith;
+  nexts = λ name is. omega arith;
+  closes = λ name is. omega arith;
   probes = λ key block is some. omega arith;
   oversized_key = omega arith;
   oversized_value = omega arith;
@@ -203,6 +225,9 @@ made_as_asked l m (Range low high limit) = omega arith
 made_as_asked l m Check = omega arith
 made_as_asked l m (Probe key block) = omega arith
 made_as_asked l m Cost = omega arith
+made_as_asked l m (Open name low high) = omega arith
+made_as_asked l m (Next name) = omega arith
+made_as_asked l m (Close name) = omega arith
 made_as_asked l m OversizedKey = omega arith
 made_as_asked l m OversizedValue = omega arith
 made_as_asked l m RepeatedKey = omega arith

@@ -1,14 +1,17 @@
--- A session: the store and the ledger of its updates, through commands, in a file with a layout.
+-- A session: the store, the open cursors and the ledger of its updates, through commands, in a file with a layout.
 use Rattle.std.specs.Prelude.{ℕ, ◌+◌, ◌≤◌, List, [], ◌∷◌, length, sum}
 use Rattle.std.specs.List.{flat_map}
+use Rattle.std.specs.FinMap.{empty}
 use Rattle.key_slot.specs.Record.{Bytes}
 use Rattle.header_gate.specs.declared.layout.Layout.{Layout}
 use Rattle.map_model.specs.Array.{counts_of}
 use Rattle.map_model.specs.ArrayState.{ArrayState}
+use Rattle.map_model.specs.Cursors.{Cursors, next_in}
 use Rattle.cost_ledger.specs.Ledger.{LedgerView, empty_ledger, noted, ledger_bound, cost_of}
 use Rattle.cost_ledger.specs.Potential.{potential}
 use Rattle.command_text.specs.Answers.{answers}
 use Rattle.command_text.specs.ArraySession.{array_step}
+use Rattle.command_text.specs.CursorLines.{open_line, next_line, close_line, cursors_after}
 use Rattle.command_text.specs.Reply.{reply_text}
 use Rattle.command_text.specs.Updates.{updates_made, charge_made}
 use Rattle.command_text.specs.declared.command.Command.{Command}
@@ -18,22 +21,26 @@ use Rattle.command_text.specs.declared.reply.Reply.TheVariants as reply
 
 pub record Session : Type 0 where
   pub store : ArrayState
+  pub cursors : Cursors
   pub ledger : LedgerView
 
 -- a session that begins with this store
 abbrev pub session_from : ArrayState → Session
-session_from s = record { store = s; ledger = empty_ledger s.height }
+session_from s = record { store = s; cursors = empty; ledger = empty_ledger s.height }
 
 -- the ledger after a command, with the updates that it makes and their charges
 abbrev pub ledger_step : Layout → ArrayState → Command → LedgerView → LedgerView
 ledger_step l s c ledger = noted (length (updates_made l s.map c)) (charge_made l s c) ledger
 
 abbrev pub session_step : Layout → Session → Command → Session
-session_step l x c = record { store = array_step l x.store c; ledger = ledger_step l x.store c x.ledger }
+session_step l x c = record { store = array_step l x.store c; cursors = cursors_after x.store.map x.cursors c; ledger = ledger_step l x.store c x.ledger }
 
 -- the lines of the reply to a command
 abbrev pub session_answers : Layout → Session → Command → List Reply
 session_answers l x command.Cost = reply.Cost (cost_of x.ledger) ∷ []
+session_answers l x (command.Open name low high) = open_line x.cursors name ∷ []
+session_answers l x (command.Next name) = next_line (next_in x.store.map x.cursors name) ∷ []
+session_answers l x (command.Close name) = close_line x.cursors name ∷ []
 session_answers l x c = answers l x.store c
 
 -- the bytes of the reply to a command

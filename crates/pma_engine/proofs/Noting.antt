@@ -15,6 +15,7 @@ use Rattle.map_model.proofs.Resuming.{items_within, plain_items}
 use Rattle.map_model.proofs.SessionLaws.{holds_of}
 use Rattle.cost_ledger.specs.Ledger.{noted}
 use Rattle.command_text.specs.Answers.{batch_or_full}
+use Rattle.command_text.specs.CursorLines.{cursors_after}
 use Rattle.command_text.specs.Session.{Session, session_step}
 use Rattle.command_text.specs.Updates.{updates_made}
 use Rattle.command_text.specs.declared.command.Command.{Command}
@@ -36,13 +37,13 @@ plus_none n = omega arith
 
 -- a session behind updates
 abbrev stepped : Layout → Session → List Update → Session
-stepped l x us = record { store = next_states (height_limit l) x.store us; ledger = noted (length us) (charge_after_items (height_limit l) x.store us) x.ledger }
+stepped l x us = record { store = next_states (height_limit l) x.store us; cursors = x.cursors; ledger = noted (length us) (charge_after_items (height_limit l) x.store us) x.ledger }
 
--- a command that makes no update leaves the session
-pub no_step : (l : Layout) (x : Session) (c : Command) → updates_made l x.store.map c ≡ [] → x ≡ session_step l x c
+-- a command that makes no update leaves the session, but for the cursors
+pub no_step : (l : Layout) (x : Session) (c : Command) → updates_made l x.store.map c ≡ [] → record x { cursors = cursors_after x.store.map x.cursors c } ≡ session_step l x c
 no_step l x c none =
-    (λ i. record { store = x.store; ledger = record { start = x.ledger.start; updates = plus_none x.ledger.updates i; charge = plus_none x.ledger.charge i } })
-    ∙ sym (ap (stepped l x) none)
+    (λ i. record { store = x.store; cursors = cursors_after x.store.map x.cursors c; ledger = record { start = x.ledger.start; updates = plus_none x.ledger.updates i; charge = plus_none x.ledger.charge i } })
+    ∙ sym (ap (stepped l (record x { cursors = cursors_after x.store.map x.cursors c })) none)
 
 -- Batches.
 

@@ -29,10 +29,7 @@ pub(crate) fn open_file<S: Station>(
     let Ok(()) = station.attach(name, false) else {
         return Err(OpenFault::Failed);
     };
-    match Store::open_on(alloc, station) {
-        Ok(store) => Ok(store),
-        Err(fault) => Err(fault),
-    }
+    Store::open_on(alloc, station)
 }
 
 /// Ends a job whose store could not be opened, and says the line where its file is refused.

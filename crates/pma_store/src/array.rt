@@ -16,7 +16,7 @@ pub(crate) struct OpenArray {
     pub(crate) index: Index,
     pub(crate) frames: Frames,
     // What a call reads of a segment stands there, and means nothing between two calls.
-    pub(crate) page: HeldPage,
+    pub(crate) page: Box<HeldPage>,
     pub(crate) closed: bool,
 }
 

@@ -35,7 +35,7 @@ use std::marker::Model;
 /// gives, whatever the updates were.
 #[derive(Drop)]
 pub struct Metered {
-    store: Store,
+    pub(crate) store: Store,
     ledger: Ledger,
 }
 

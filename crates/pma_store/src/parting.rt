@@ -6,12 +6,7 @@ ghost use Rattle.pma_store.specs.Store.{IsStore};
 
 use crate::array::OpenArray;
 use crate::store::Store;
-use range_scan::HeldPage;
 use recovery::Parts;
-use redo_journal::{Frames, Place};
-use segment::Segment;
-use veb_index::Index;
-use window_tally::Tally;
 
 impl Store {
     /// The store that has these parts. No items are to be applied.
@@ -23,7 +18,7 @@ impl Store {
         ensures store { result ≡ record { place = parts.place; tally = parts.tally; index = parts.index; journal = parts.frames.journal; closed = false } }
         ensures is_store { IsStore result }
     {
-        store_of(parts.place, parts.tally, parts.index, parts.frames)
+        store_of(parts)
     }
 
     /// What the store keeps in memory, for a call that works on the file itself. There is no store after it.
@@ -42,26 +37,28 @@ impl Store {
             tally: self.array.tally,
             index: self.array.index,
             frames: self.array.frames,
+            page: self.array.page,
+            rows: self.rows,
             intent: None,
         }
     }
 }
 
-/// The store that has these parts.
-pub(crate) fn store_of(place: Place, tally: Tally, index: Index, frames: Frames) -> Store
-    requires { Fits place tally index frames.journal }
-    ensures store { result ≡ record { place = place; tally = tally; index = index; journal = frames.journal; closed = false } }
+/// The store that has these parts, but for the items that are to be applied.
+pub(crate) fn store_of(parts: Parts) -> Store
+    requires { Fits parts.place parts.tally parts.index parts.frames.journal }
+    ensures store { result ≡ record { place = parts.place; tally = parts.tally; index = parts.index; journal = parts.frames.journal; closed = false } }
     ensures is_store { IsStore result }
 {
     Store {
         array: OpenArray {
-            place,
-            tally,
-            index,
-            frames,
-            page: HeldPage::new(),
+            place: parts.place,
+            tally: parts.tally,
+            index: parts.index,
+            frames: parts.frames,
+            page: parts.page,
             closed: false,
         },
-        rows: Segment::empty(),
+        rows: parts.rows,
     }
 }

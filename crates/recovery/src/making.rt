@@ -7,7 +7,9 @@ ghost use Rattle.window_tally.specs.View.{empty_tally};
 
 use crate::parts::Parts;
 use header_gate::Header;
+use range_scan::HeldPage;
 use redo_journal::{Frames, Place};
+use segment::Segment;
 use std::alloc::{AllocError, Global};
 use veb_index::Index;
 use window_tally::Tally;
@@ -28,6 +30,8 @@ pub(crate) fn make_parts(alloc: Global, header: &Header) -> Result<Parts, AllocE
     let mut tally = Tally::new(alloc, limit)?;
     let mut index = Index::new(alloc, limit)?;
     let frames = Frames::new(alloc, header.layout.journal)?;
+    let page = Box::new(alloc, HeldPage::new())?;
+    let rows = Box::new(alloc, Segment::empty())?;
     tally.clear(header.height);
     index.reset(header.height);
     Ok(Parts {
@@ -38,6 +42,8 @@ pub(crate) fn make_parts(alloc: Global, header: &Header) -> Result<Parts, AllocE
         tally,
         index,
         frames,
+        page,
+        rows,
         intent: None,
     })
 }

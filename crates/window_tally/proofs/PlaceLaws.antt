@@ -1,5 +1,6 @@
 -- The places of windows.
-use Rattle.std.proofs.Common.{◌≡◌, ℕ, ◌+◌, ◌-◌, ◌*◌, ◌^◌, ◌<◌, ◌≤◌, List, length, take, drop, get_or, slice_range, sym, ap, ◌∙◌, arith, inl, inr, pow-add}
+use Rattle.std.proofs.Common.{◌≡◌, ℕ, ◌+◌, ◌-◌, ◌*◌, ◌%◌, ◌^◌, ◌<◌, ◌≤◌, List, length, take, drop, get_or, slice_range, sym, ap, ◌∙◌, arith, inl, inr, pow-add}
+use Rattle.std.proofs.lemmas.Nat.{shl_whole}
 use Rattle.std.proofs.lemmas.Bool.{cases_lt}
 use Rattle.std.proofs.lemmas.List.{length-take-le, length-drop, get_or-take, get_or-drop, ext_get_or, drop-take, take-take, drop-drop}
 use Rattle.std.proofs.Math.Nat.{mul-le-mul_right, add-mul}
@@ -73,3 +74,7 @@ part_of_leaves height a b items le within =
     let inner : drop a (take (2 ^ height) (drop (2 ^ height) items)) ≡ take (2 ^ height - a) (drop a (drop (2 ^ height) items)) =
     ap (λ (n : ℕ). drop a (take n (drop (2 ^ height) items))) {x = 2 ^ height} {y = a + (2 ^ height - a)} (omega arith) ∙ drop-take a (2 ^ height - a) (drop (2 ^ height) items) in
     sym (ap (take (b - a)) inner ∙ take-take (b - a) (2 ^ height - a) (drop a (drop (2 ^ height) items)) (omega arith) ∙ ap (take (b - a)) (drop-drop a (2 ^ height) items))
+
+-- the places of a tree as they are computed
+pub doubled : (h : ℕ) → h ≤ 16 → 2 * 2 ^ h % 2 ^ 64 ≡ 2 ^ (h + 1)
+doubled h low = shl_whole 2 2 h 64 (omega arith) (omega (arith, low)) ∙ omega (arith, twice h)

@@ -19,6 +19,7 @@ ghost use Rattle.density_rule.specs.Marks.{mark_of, no_marks, updated_marks, spr
 ghost use Rattle.density_rule.specs.declared.TheConstants.{SEGMENT_SLOTS};
 
 use density_rule::{Window, window_of};
+use room::{clear_counts, clear_marks, fit_counts, fit_marks, no_counts, no_marks_yet};
 use std::alloc::{AllocError, Global};
 use std::marker::Model;
 use tree::{
@@ -26,6 +27,7 @@ use tree::{
     share_out,
 };
 
+mod room;
 mod tree;
 
 /// How many updates a window has had since a larger window around it was spread.
@@ -94,12 +96,12 @@ impl Tally {
         ensures ok { IfOk result (λ t. t ≡ empty_tally hmax 0) }
         ensures tally { IfOk result IsTally }
     {
-        let places = 2usize << hmax;
+        let most = 2usize << hmax;
         Ok(Tally {
             hmax,
             height: 0,
-            counts: vec![in alloc; 0; places]?,
-            marks: vec![in alloc; None; places]?,
+            counts: no_counts(alloc, most, 2)?,
+            marks: no_marks_yet(alloc, most, 2)?,
         })
     }
 
@@ -110,8 +112,9 @@ impl Tally {
         ensures tally { IsTally self.new }
     {
         self.height = height;
-        self.counts.fill(0);
-        forget_all(&mut self.marks);
+        let places = 2usize << height;
+        clear_counts(&mut self.counts, places);
+        clear_marks(&mut self.marks, places);
     }
 
     /// Forgets which windows are rested. The height and the counts stay.
@@ -238,7 +241,10 @@ impl Tally {
     {
         let records = self.counts[1];
         let root = Window { height, number: 0 };
+        let places = 2usize << height;
         self.height = height;
+        fit_counts(&mut self.counts, places);
+        fit_marks(&mut self.marks, places);
         share_out(&mut self.counts, height, root, records);
         rest_inside(&mut self.marks, height, root);
     }

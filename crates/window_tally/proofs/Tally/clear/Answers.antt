@@ -1,29 +1,56 @@
-use Rattle.std.proofs.Common.{rules, ◌≡◌, ◌+◌, ◌^◌, ◌≤◌, length, replicate, None, vec_len, ap, ◌∙◌}
-use Rattle.std.specs.Vec.{with_items}
-use Rattle.std.proofs.lemmas.List.{with_items_is}
+use Rattle.std.proofs.Common.{◌≡◌, ◌+◌, ◌*◌, ◌%◌, ◌^◌, ◌≤◌, sym, ap, subst, ◌∙◌, arith}
+use Rattle.std.proofs.Math.Pow.{pow_mono}
 use Rattle.window_tally.specs.View.{TallyView, empty_tally}
-use Rattle.window_tally.proofs.KeptLaws.{Becomes, becomes_at, empty_becomes}
+use Rattle.window_tally.proofs.KeptLaws.{Becomes, empty_becomes}
+use Rattle.window_tally.proofs.PlaceLaws.{doubled}
 use Rattle.window_tally.proofs.Tally.clear.Goals as goal
-use Rattle.window_tally.proofs.Tally.clear.Goals.{After-forget_all}
+use Rattle.window_tally.proofs.Tally.clear.Goals.{After-self, After-clear_marks}
 
-hmax_is : (c : After-forget_all) → c.self.inside.hmax ≡ c.args.self.now.hmax
-hmax_is c = ap (λ (t : TallyView). t.hmax) c.self.view_is
+limit : (c : After-self) → c.args.height ≤ c.self.inside.hmax
+limit c = subst (λ (t : TallyView). c.args.height ≤ t.hmax) (sym c.self.view_is) c.requires
 
-emptied : (c : After-forget_all) → Becomes c.self.inside.hmax c.args.height c.fill.new.self.items (with_items c.self.inside.marks c.forget_all.new.marks).items (empty_tally c.self.inside.hmax c.args.height)
-emptied c =
-    let counts : c.fill.new.self.items ≡ replicate (vec_len c.self.inside.counts) 0 = search rules in
-    let counts_size : vec_len c.self.inside.counts ≡ 2 ^ (c.self.inside.hmax + 1) = search rules in
-    let size : length c.forget_all.new.marks ≡ c.self.inside.marks.len = search rules in
-    let marks_size : length c.deref_mut.result.now ≡ 2 ^ (c.self.inside.hmax + 1) = ap (λ ms. length ms) c.deref_mut.ensures.value ∙ c.self.invariant.marks_size in
-    let low : c.args.height ≤ c.self.inside.hmax = search rules in
-    becomes_at c.self.inside.hmax c.args.height c.fill.new.self.items c.fill.new.self.items c.forget_all.new.marks _ _ (λ _. c.fill.new.self.items) (with_items_is c.self.inside.marks c.forget_all.new.marks size)
-    (empty_becomes c.self.inside.hmax c.args.height c.fill.new.self.items c.forget_all.new.marks c.self.invariant.sound.hmax_is low (counts ∙ ap (λ n. replicate n 0) counts_size) (c.forget_all.ensures ∙ ap (λ n. replicate n None) marks_size))
+low : (c : After-self) → c.args.height ≤ 16
+low c = omega (arith, limit c, c.self.invariant.by.sound.hmax_is)
+
+-- the places of the new tree, as they are computed, for which both vectors have the memory
+places_are : (c : After-self) → 2 * 2 ^ c.args.height % 2 ^ 64 ≡ 2 ^ (c.args.height + 1)
+places_are c = doubled c.args.height (low c)
+
+within : (c : After-self) → 2 ^ (c.args.height + 1) ≤ 2 ^ (c.self.inside.hmax + 1)
+within c = pow_mono (omega (arith, limit c))
+
+pub overflow_shl-places : goal.overflow_shl-places
+overflow_shl-places c = omega (arith, subst (λ (t : TallyView). c.args.height ≤ t.hmax) (sym c.self.view_is) c.requires, c.self.invariant.by.sound.hmax_is)
+
+pub clear_counts-requires : goal.clear_counts-requires
+clear_counts-requires c =
+    let at = (goal.at.clear_counts-requires c).After-self in
+    omega (arith, places_are at, within at, c.self.invariant.counts_room)
+
+pub clear_marks-requires : goal.clear_marks-requires
+clear_marks-requires c =
+    let at = (goal.at.clear_marks-requires c).After-self in
+    omega (arith, places_are at, within at, c.self.invariant.marks_room)
+
+emptied : (c : After-clear_marks) → c.args.height ≤ c.self.inside.hmax → 2 * 2 ^ c.args.height % 2 ^ 64 ≡ 2 ^ (c.args.height + 1) → Becomes c.self.inside.hmax c.args.height c.clear_counts.new.counts.items c.clear_marks.new.marks.items (empty_tally c.self.inside.hmax c.args.height)
+emptied c le places =
+    empty_becomes c.self.inside.hmax c.args.height c.clear_counts.new.counts.items c.clear_marks.new.marks.items (2 * 2 ^ c.args.height % 2 ^ 64) c.self.invariant.by.sound.hmax_is le places c.clear_counts.ensures.size c.clear_marks.ensures.size c.clear_counts.ensures.each c.clear_marks.ensures.each
 
 pub invariant_of-self : goal.invariant_of-self
-invariant_of-self c = (emptied (goal.at.invariant_of-self c).After-forget_all).kept
+invariant_of-self c =
+    let at = (goal.at.invariant_of-self c).After-self in
+    record {
+      by = (emptied (goal.at.invariant_of-self c).After-clear_marks (limit at) (places_are at)).kept;
+      counts_room = omega (arith, c.self.invariant.counts_room, c.clear_counts.ensures.room);
+      marks_room = omega (arith, c.self.invariant.marks_room, c.clear_marks.ensures.room);
+    }
 
 pub returns-clause-after : goal.returns-clause-after
-returns-clause-after c = (emptied (goal.at.returns-clause-after c).After-forget_all).view_is ∙ ap (λ n. empty_tally n c.args.height) (hmax_is (goal.at.returns-clause-after c).After-forget_all)
+returns-clause-after c =
+    let at = (goal.at.returns-clause-after c).After-self in
+    (emptied (goal.at.returns-clause-after c).After-clear_marks (limit at) (places_are at)).view_is ∙ ap (λ (t : TallyView). empty_tally t.hmax c.args.height) c.self.view_is
 
 pub returns-clause-tally : goal.returns-clause-tally
-returns-clause-tally c = (emptied (goal.at.returns-clause-tally c).After-forget_all).kept.sound
+returns-clause-tally c =
+    let at = (goal.at.returns-clause-tally c).After-self in
+    (emptied (goal.at.returns-clause-tally c).After-clear_marks (limit at) (places_are at)).kept.sound

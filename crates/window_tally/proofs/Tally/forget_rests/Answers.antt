@@ -14,10 +14,10 @@ forgotten c =
     let size : length c.forget_all.new.marks ≡ c.self.inside.marks.len = search rules in
     let same : length c.deref_mut.result.now ≡ length c.self.inside.marks.items = ap (λ ms. length ms) c.deref_mut.ensures.value in
     becomes_at inside.hmax inside.height inside.counts.items inside.counts.items c.forget_all.new.marks _ _ (λ _. inside.counts.items) (with_items_is inside.marks c.forget_all.new.marks size)
-    (forgotten_becomes inside.hmax inside.height inside.counts.items inside.marks.items c.self.invariant (length c.deref_mut.result.now) c.forget_all.new.marks c.forget_all.ensures same)
+    (forgotten_becomes inside.hmax inside.height inside.counts.items inside.marks.items c.self.invariant.by (length c.deref_mut.result.now) c.forget_all.new.marks c.forget_all.ensures same)
 
 pub invariant_of-self : goal.invariant_of-self
-invariant_of-self c = (forgotten (goal.at.invariant_of-self c).After-forget_all).kept
+invariant_of-self c = record { by = (forgotten (goal.at.invariant_of-self c).After-forget_all).kept; counts_room = c.self.invariant.counts_room; marks_room = c.self.invariant.marks_room }
 
 pub returns-clause-after : goal.returns-clause-after
 returns-clause-after c = (forgotten (goal.at.returns-clause-after c).After-forget_all).view_is ∙ ap (λ (t : TallyView). record t { marks = no_marks t.height }) c.self.view_is

@@ -13,7 +13,7 @@ window : (c : After-place_of) → IsWindow c.self.inside.height c.args.window.he
 window c = subst (λ (t : TallyView). IsWindow t.height c.args.window.height c.args.window.number) (sym c.self.view_is) c.requires
 
 below : (c : After-place_of) → c.place_of.result < length c.self.inside.marks.items
-below c = omega (arith, c.place_of.ensures, (place_kept c.self.inside.hmax c.self.inside.height c.self.inside.counts.items c.self.inside.marks.items c.self.invariant c.args.window.height c.args.window.number (window c)).1)
+below c = omega (arith, c.place_of.ensures, (place_kept c.self.inside.hmax c.self.inside.height c.self.inside.counts.items c.self.inside.marks.items c.self.invariant.by c.args.window.height c.args.window.number (window c)).1)
 
 pub index-requires : goal.index-requires
 index-requires c = let all : length c.self.inside.marks.items ≡ vec_len c.self.inside.marks = search rules in omega (arith, below (goal.at.index-requires c).After-place_of)

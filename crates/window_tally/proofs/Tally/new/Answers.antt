@@ -1,20 +1,26 @@
-use Rattle.std.proofs.Common.{rules, ◌≡◌, ◌+◌, ◌*◌, ◌%◌, ◌^◌, replicate, None, arith, ap, ◌∙◌}
-use Rattle.std.proofs.lemmas.Nat.{shl_whole}
+use Rattle.std.proofs.Common.{arith}
+use Rattle.std.proofs.Math.Pow.{pow_pos}
 use Rattle.window_tally.specs.View.{empty_tally}
 use Rattle.window_tally.proofs.KeptLaws.{Becomes, empty_becomes}
-use Rattle.window_tally.proofs.PlaceLaws.{twice}
+use Rattle.window_tally.proofs.PlaceLaws.{doubled, twice}
 use Rattle.window_tally.proofs.Tally.new.Goals as goal
-use Rattle.window_tally.proofs.Tally.new.Goals.{In_ok-vec-2}
+use Rattle.window_tally.proofs.Tally.new.Goals.{In_ok-no_marks_yet}
 
-emptied : (c : In_ok-vec-2) → Becomes c.args.hmax 0 c.in_ok-vec.field-0.items c.in_ok-vec-2.field-0.items (empty_tally c.args.hmax 0)
-emptied c =
-    let places : 2 * 2 ^ c.args.hmax % 2 ^ 64 ≡ 2 ^ (c.args.hmax + 1) = shl_whole 2 2 c.args.hmax 64 (omega arith) (omega (arith, c.requires)) ∙ omega (arith, twice c.args.hmax) in
-    let counts : c.in_ok-vec.field-0.items ≡ replicate (2 * 2 ^ c.args.hmax % 2 ^ 64) 0 = search rules in
-    let marks : c.in_ok-vec-2.field-0.items ≡ replicate (2 * 2 ^ c.args.hmax % 2 ^ 64) None = search rules in
-    empty_becomes c.args.hmax 0 c.in_ok-vec.field-0.items c.in_ok-vec-2.field-0.items c.requires (omega arith) (counts ∙ ap (λ n. replicate n 0) places) (marks ∙ ap (λ n. replicate n None) places)
+pub no_counts-requires : goal.no_counts-requires
+no_counts-requires c = omega (arith, pow_pos c.args.hmax, doubled c.args.hmax c.requires, twice c.args.hmax)
+
+pub no_marks_yet-requires : goal.no_marks_yet-requires
+no_marks_yet-requires c = omega (arith, pow_pos c.args.hmax, doubled c.args.hmax c.requires, twice c.args.hmax)
+
+emptied : (c : In_ok-no_marks_yet) → Becomes c.args.hmax 0 c.in_ok-no_counts.field-0.items c.in_ok-no_marks_yet.field-0.items (empty_tally c.args.hmax 0)
+emptied c = empty_becomes c.args.hmax 0 c.in_ok-no_counts.field-0.items c.in_ok-no_marks_yet.field-0.items 2 c.requires (omega arith) (omega arith) c.in_ok-no_counts.ensures.size c.in_ok-no_marks_yet.ensures.size c.in_ok-no_counts.ensures.each c.in_ok-no_marks_yet.ensures.each
 
 pub invariant_of-result : goal.invariant_of-result
-invariant_of-result c = (emptied c).kept
+invariant_of-result c = record {
+  by = (emptied c).kept;
+  counts_room = omega (arith, c.in_ok-no_counts.ensures.room, doubled c.args.hmax c.requires);
+  marks_room = omega (arith, c.in_ok-no_marks_yet.ensures.room, doubled c.args.hmax c.requires);
+}
 
 pub returns-clause-ok : goal.returns-clause-ok
 returns-clause-ok c = (emptied c).view_is

@@ -29,10 +29,10 @@ spread c =
     let filled = subst (λ xs. FillsBelow 0 (part_of (count_in (leaves_of height inside.counts.items) j w) j) height j w j xs c.share_out.new.counts) c.deref_mut.ensures.value fills in
     let rested = subst (λ ms. FillsBelow None (λ _ _. Some 0) height j w j ms c.rest_inside.new.marks) c.deref_mut-2.ensures.value c.rest_inside.ensures in
     becomes_at inside.hmax height c.share_out.new.counts _ c.rest_inside.new.marks _ _ (with_items_is inside.counts c.share_out.new.counts size) (with_items_is inside.marks c.rest_inside.new.marks marks_size)
-    (spread_becomes inside.hmax height inside.counts.items inside.marks.items c.self.invariant j w c.share_out.new.counts c.rest_inside.new.marks window c.requires.larger bounds same marks_same filled rested)
+    (spread_becomes inside.hmax height inside.counts.items inside.marks.items c.self.invariant.by j w c.share_out.new.counts c.rest_inside.new.marks window c.requires.larger bounds same marks_same filled rested)
 
 pub invariant_of-self : goal.invariant_of-self
-invariant_of-self c = (spread (goal.at.invariant_of-self c).After-rest_inside).kept
+invariant_of-self c = record { by = (spread (goal.at.invariant_of-self c).After-rest_inside).kept; counts_room = c.self.invariant.counts_room; marks_room = c.self.invariant.marks_room }
 
 pub returns-clause-after : goal.returns-clause-after
 returns-clause-after c = (spread (goal.at.returns-clause-after c).After-rest_inside).view_is ∙ ap (λ (t : TallyView). record t { counts = spread_counts t.counts c.args.window.height c.args.window.number; marks = spread_marks t.height c.args.window.height c.args.window.number t.marks }) c.self.view_is

@@ -16,7 +16,7 @@ use Rattle.window_tally.proofs.Tally.update.Goals.{After-deref_mut, After-count_
 use Rattle.density_rule.specs.declared.TheConstants.{SEGMENT_SLOTS}
 
 pub set_count-requires-clause-tree : goal.set_count-requires-clause-tree
-set_count-requires-clause-tree c = subst (IsTree c.self.inside.height) (sym c.deref_mut.ensures.value) (kept_tree c.self.inside.hmax c.self.inside.height c.self.inside.counts.items c.self.inside.marks.items c.self.invariant)
+set_count-requires-clause-tree c = subst (IsTree c.self.inside.height) (sym c.deref_mut.ensures.value) (kept_tree c.self.inside.hmax c.self.inside.height c.self.inside.counts.items c.self.inside.marks.items c.self.invariant.by)
 
 in_store : (c : After-deref_mut) → c.args.segment < 2 ^ c.self.inside.height
 in_store c = subst (λ (t : TallyView). c.args.segment < 2 ^ t.height) (sym c.self.view_is) c.requires.in_store
@@ -25,7 +25,7 @@ in_store c = subst (λ (t : TallyView). c.args.segment < 2 ^ t.height) (sym c.se
 count_is : (c : After-deref_mut) → c.index-count.result.now ≡ get_or (leaves_of c.self.inside.height c.self.inside.counts.items) c.args.segment 0
 count_is c =
     let window = segment_window c.self.inside.height c.args.segment (in_store c) in
-    let below : c.place_of.result < length c.self.inside.counts.items = omega (arith, c.place_of.ensures, (place_kept c.self.inside.hmax c.self.inside.height c.self.inside.counts.items c.self.inside.marks.items c.self.invariant 0 c.args.segment window).0) in
+    let below : c.place_of.result < length c.self.inside.counts.items = omega (arith, c.place_of.ensures, (place_kept c.self.inside.hmax c.self.inside.height c.self.inside.counts.items c.self.inside.marks.items c.self.invariant.by 0 c.args.segment window).0) in
     get_or_read c.self.inside.counts.items c.place_of.result c.index-count.result.now below c.index-count.ensures 0 ∙ ap (λ p. get_or c.self.inside.counts.items p 0) c.place_of.ensures
     ∙ sym (get_or-leaves_of c.self.inside.height c.args.segment c.self.inside.counts.items (in_store c))
 
@@ -53,10 +53,10 @@ updated c leaf =
     let has = subst (λ n. HasCounts height c.set_count.new.counts (set leaves c.args.segment n)) (c.changed.ensures ∙ ap (count_after (adds c.args.change)) leaf) set_was in
     let aged = c.count_update.ensures ∙ ap (λ ms. updated_marks height c.args.segment (marks_in height ms)) c.deref_mut-2.ensures.value in
     becomes_at inside.hmax height c.set_count.new.counts _ c.count_update.new.marks _ _ (with_items_is inside.counts c.set_count.new.counts size) (with_items_is inside.marks c.count_update.new.marks marks_size)
-    (updated_becomes inside.hmax height inside.counts.items inside.marks.items c.self.invariant c.args.segment (adds c.args.change) c.set_count.new.counts c.count_update.new.marks in_store (by_add c.args.change _ room) (by_take c.args.change _ some) same marks_same has aged)
+    (updated_becomes inside.hmax height inside.counts.items inside.marks.items c.self.invariant.by c.args.segment (adds c.args.change) c.set_count.new.counts c.count_update.new.marks in_store (by_add c.args.change _ room) (by_take c.args.change _ some) same marks_same has aged)
 
 pub invariant_of-self : goal.invariant_of-self
-invariant_of-self c = (updated (goal.at.invariant_of-self c).After-count_update (count_is (goal.at.invariant_of-self c).After-deref_mut)).kept
+invariant_of-self c = record { by = (updated (goal.at.invariant_of-self c).After-count_update (count_is (goal.at.invariant_of-self c).After-deref_mut)).kept; counts_room = c.self.invariant.counts_room; marks_room = c.self.invariant.marks_room }
 
 pub returns-clause-after : goal.returns-clause-after
 returns-clause-after c = (updated (goal.at.returns-clause-after c).After-count_update (count_is (goal.at.returns-clause-after c).After-deref_mut)).view_is ∙ ap (λ (t : TallyView). record t { counts = counts_after (adds c.args.change) t.counts c.args.segment; marks = updated_marks t.height c.args.segment t.marks }) c.self.view_is

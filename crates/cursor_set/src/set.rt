@@ -1,0 +1,143 @@
+//! A set of cursors.
+
+ghost use Rattle.std.specs.Prelude.{◌≡◌, ◌≤◌, false, is_err, is_some, Some, None, IsOk, IfOk, IfErr, OnOk, OnErr, IsErrOf};
+ghost use Rattle.std.specs.FinMap.{get, contains_key, empty, remove};
+ghost use Rattle.station.specs.Bytes.{Same};
+ghost use Rattle.station.specs.View.{Told, EachHeld, NothingPending, Rose};
+ghost use Rattle.station.specs.Steps.{Steps};
+ghost use Rattle.header_gate.specs.Places.{file_length};
+ghost use Rattle.map_model.specs.Image.{map_of};
+ghost use Rattle.map_model.specs.Cursors.{Cursor, after_open, next_in, after_next};
+ghost use Rattle.range_scan.specs.Seeking.{ReadsNear, later};
+ghost use Rattle.cursor_set.specs.Answers.{opening, told_by, after_step};
+
+use super::answers::{Opened, Step};
+use super::slots::{Entry, find_entry, find_free};
+use key_slot::Key;
+use range_scan::Seek;
+use segment::StoreFault;
+use station::Station;
+use std::marker::Model;
+
+/// The most cursors that are open at once.
+const PLACES: usize = 16;
+
+/// Cursors by their names, at most 16 of them.
+#[derive(Drop)]
+pub struct CursorSet {
+    slots: [Option<Entry>; PLACES],
+}
+
+impl Model for CursorSet {
+    ghost use Rattle.map_model.specs.Cursors.{Cursors};
+    ghost use Rattle.cursor_set.specs.Codes.{cursors_code};
+
+    ghost Value = { Cursors };
+
+    ghost coded = { cursors_code };
+
+    ghost use Rattle.cursor_set.specs.Slots.{cursors_in, IsKept};
+
+    ghost view = { λ s. cursors_in s.slots };
+
+    ghost invariant = { λ s. IsKept s.slots };
+}
+
+impl CursorSet {
+    /// A set without a cursor.
+    pub fn new() -> CursorSet
+        ensures { result ≡ empty }
+    {
+        CursorSet {
+            slots: [None; PLACES],
+        }
+    }
+
+    /// Opens a cursor over the records whose keys are not below `low` and below `high`.
+    ///
+    /// Where a cursor of this name is open, or 16 are, nothing changes.
+    pub fn begin(&mut self, name: &Key, low: Option<Key>, high: Option<Key>) -> Opened
+        ensures answer { result ≡ opening self.old name.now }
+        ensures after { self.new ≡ after_open self.old name.now low high }
+    {
+        if find_entry(&self.slots, name).is_some() {
+            return Opened::Taken;
+        }
+        match find_free(&self.slots) {
+            Some(place) => {
+                self.slots[place] = Some(Entry {
+                    name: *name,
+                    low,
+                    high,
+                    past: None,
+                });
+                Opened::Opened
+            }
+            None => Opened::NoRoom,
+        }
+    }
+
+    /// Closes the cursor of a name, and answers whether there was one.
+    pub fn close(&mut self, name: &Key) -> bool
+        ensures answer { result ≡ contains_key self.old name.now }
+        ensures after { self.new ≡ remove self.old name.now }
+    {
+        match find_entry(&self.slots, name) {
+            Some((place, _)) => {
+                self.slots[place] = None;
+                true
+            }
+            None => false,
+        }
+    }
+
+    /// The next record of a cursor: that with the least key within its bounds which is above the key of the last record that
+    /// it gave.
+    ///
+    /// Where there is none the cursor is closed. It reads at most two segments, and without a cursor none. A fault of the store leaves the set as it was.
+    pub fn next_row<S: Station, R: Seek>(
+        &mut self,
+        store: &mut R,
+        station: &mut S,
+        name: &Key,
+    ) -> Result<Step, StoreFault>
+        requires open { R.closed store.old ≡ false }
+        requires store { EachHeld (R.stands store.old) (S.view station.old) }
+        requires nothing { NothingPending (S.view station.old) }
+        requires reach { file_length (R.kept store.old).layout ≤ (S.view station.old).fixed.reach }
+        ensures answer { IfOk result (λ step. Told (S.view station.old) → told_by step ≡ next_in (map_of (S.view station.old).held) self.old name.now) }
+        ensures known { IfOk result (λ step. is_some (told_by step) ≡ contains_key self.old name.now) }
+        ensures after { IfOk result (λ step. self.new ≡ after_step self.old name.now step) }
+        ensures next { OnOk result (Told (S.view station.old) → self.new ≡ after_next (map_of (S.view station.old).held) self.old name.now) }
+        ensures unchanged { OnErr result (self.new ≡ self.old) }
+        ensures complete { Told (S.view station.old) → ¬ Rose (S.view station.old).disk_faults (S.view station.new).disk_faults → IsOk result }
+        ensures damaged { IfErr result (λ fault. Told (S.view station.old) → fault ≡ StoreFault.Failed) }
+        ensures failed { IsErrOf result StoreFault.Failed → Rose (S.view station.old).disk_faults (S.view station.new).disk_faults }
+        ensures closed { R.closed store.new ≡ is_err result }
+        ensures state { R.state store.new ≡ R.state store.old }
+        ensures kept { R.kept store.new ≡ R.kept store.old }
+        ensures store { OnOk result (EachHeld (R.stands store.new) (S.view station.new)) }
+        ensures settled { OnOk result (NothingPending (S.view station.new)) }
+        ensures steps { Steps Same (S.view station.old) (S.view station.new) }
+        ensures reads { (k : Cursor) → get self.old name.now ≡ Some k → ReadsNear (later k.low k.past) (R.kept store.old) result (S.view station.old) (S.view station.new) }
+        ensures idle { get self.old name.now ≡ None → (S.view station.new).travel ≡ (S.view station.old).travel }
+    {
+        let Some((place, entry)) = find_entry(&self.slots, name) else {
+            return Ok(Step::NoCursor);
+        };
+        match store.first_row(station, entry.low, entry.past, entry.high) {
+            Ok(Some(row)) => {
+                self.slots[place] = Some(Entry {
+                    past: Some(row.key),
+                    ..entry
+                });
+                Ok(Step::Row(row))
+            }
+            Ok(None) => {
+                self.slots[place] = None;
+                Ok(Step::End)
+            }
+            Err(fault) => Err(fault),
+        }
+    }
+}

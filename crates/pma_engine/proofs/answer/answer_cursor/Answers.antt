@@ -1,0 +1,34 @@
+use Rattle.std.proofs.Common.{◌≡◌, Some, Ok, Err, Result, refl, subst, sym}
+use Rattle.command_text.specs.declared.command.Command.{Command}
+use Rattle.command_text.specs.declared.reply.Reply.{Reply}
+use Rattle.segment.specs.declared.fault.StoreFault.{StoreFault}
+use Rattle.pma_engine.specs.Carrying.{with_cursors, Executes, AnswersLine}
+use Rattle.pma_engine.specs.Replies.{one_line}
+use Rattle.pma_engine.specs.declared.fault.ServeFault.{ServeFault}
+use Rattle.pma_engine.proofs.Answering.{answers_fault, answers_said, answers_cut}
+use Rattle.pma_engine.proofs.Stepping.{asks_one_line}
+use Rattle.pma_engine.proofs.answer.answer_cursor.Goals as goal
+use Rattle.pma_engine.proofs.answer.answer_cursor.Goals.{After-say_line}
+
+pub returns-in-Err : goal.returns-in-Err
+returns-in-Err g c =
+    let m = with_cursors c.args.store.now c.args.cursors.now in
+    let n = with_cursors c.ask_cursors.new.store c.ask_cursors.new.cursors in
+    let a = g.S.Station.view c.args.station.now in
+    let b = g.S.Station.view c.ask_cursors.new.station in
+    subst (λ (f : ServeFault). AnswersLine {T = Unit {0}} c.args.command.now (Err f) m n a b) (sym c.of_store.ensures)
+    (answers_fault c.args.command.now (asks_one_line c.args.command.now c.requires.asks) m n a b (g.met.S.Station.lawful c.args.station.now) c.requires.open.on.settled (Unit {0}) c.in-Err.fault c.in-Err.ensures)
+
+pub returns-in-Ok-say_line : goal.returns-in-Ok-say_line
+returns-in-Ok-say_line g c =
+    let m = with_cursors c.args.store.now c.args.cursors.now in
+    let n = with_cursors c.ask_cursors.new.store c.ask_cursors.new.cursors in
+    answers_said c.args.command.now (asks_one_line c.args.command.now c.requires.asks) m n (g.S.Station.view c.args.station.now) (g.S.Station.view c.ask_cursors.new.station) (g.met.S.Station.lawful c.args.station.now) c.requires.open.on.settled
+    c.in-Ok.reply (g.S.Station.view c.say_line.new.station) c.in-Ok.ensures c.say_line.ensures.says tt c.in-Ok-say_line.ensures.all
+
+pub returns-in-Err-say_line : goal.returns-in-Err-say_line
+returns-in-Err-say_line g c =
+    let m = with_cursors c.args.store.now c.args.cursors.now in
+    let n = with_cursors c.ask_cursors.new.store c.ask_cursors.new.cursors in
+    answers_cut c.args.command.now (asks_one_line c.args.command.now c.requires.asks) m n (g.S.Station.view c.args.station.now) (g.S.Station.view c.ask_cursors.new.station) (g.met.S.Station.lawful c.args.station.now) c.requires.open.on.settled
+    c.in-Ok.reply (g.S.Station.view c.say_line.new.station) c.in-Ok.ensures c.say_line.ensures.says (Unit {0}) c.in-Err-say_line.ensures.cause

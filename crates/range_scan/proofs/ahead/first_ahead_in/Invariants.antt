@@ -1,0 +1,25 @@
+use Rattle.std.proofs.Common.{◌≡◌, ◌-◌, ◌+◌, ◌≤◌, take}
+use Rattle.std.specs.FinMap.{entries}
+use Rattle.station.specs.Bytes.{Same}
+use Rattle.station.specs.View.{Told}
+use Rattle.station.specs.Steps.{Steps}
+use Rattle.map_model.specs.Image.{map_of}
+use Rattle.map_model.specs.Array.{cut, rows}
+use Rattle.range_scan.specs.Checking.{LieAbove}
+use Rattle.range_scan.specs.Seeking.{IsNear, NoneAhead}
+use Rattle.range_scan.specs.Walk.{after_walk}
+use Rattle.range_scan.proofs.ahead.first_ahead_in.Given as goal
+
+abbrev pub invariant-loop-page : goal.invariant-loop-page
+invariant-loop-page g l = record {
+  near : IsNear l.fn.layout l.fn.region l.tally.height l.fn.first l.reader;
+  above : Told (g.S.Station.view l.fn.station) → LieAbove l.reader (cut l.tally.counts (entries (map_of (g.S.Station.view l.fn.station).held)));
+  none : Told (g.S.Station.view l.fn.station) → NoneAhead l.start l.past l.high (rows (take l.reader.next (cut l.tally.counts (entries (map_of (g.S.Station.view l.fn.station).held)))));
+  -- the second segment always has such a record
+  early : Told (g.S.Station.view l.fn.station) → l.reader.next ≤ l.fn.first + 1;
+  steps : Steps Same (g.S.Station.view l.fn.station) (g.S.Station.view l.station);
+  reads : (g.S.Station.view l.station).travel ≡ after_walk l.fn.layout l.fn.region l.fn.first l.reader.next (g.S.Station.view l.fn.station).travel;
+}
+
+abbrev pub decreases-loop-page : goal.decreases-loop-page
+decreases-loop-page g l = l.reader.end - l.reader.next

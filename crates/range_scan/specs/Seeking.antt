@@ -1,0 +1,83 @@
+-- What a look for the next record behind a key may read, and may find wrong.
+use Rattle.std.specs.Prelude.{◌≡◌, ℕ, ◌+◌, ◌-◌, ◌^◌, ◌<◌, ◌≤◌, Bool, false, List, [], ◌∷◌, T, take, drop, slice_get, Option, Some, None, Result, IfErr, if◌then◌else◌}
+use Rattle.std.specs.Ordering.{is_lt, is_eq}
+use Rattle.header_gate.specs.declared.layout.Layout.{Layout}
+use Rattle.key_slot.specs.Record.{Bytes, Record, key_cmp}
+use Rattle.map_model.specs.Cursors.{is_ahead}
+use Rattle.map_model.specs.Image.{array_of}
+use Rattle.std.specs.FinMap.Entries.{where_key}
+use Rattle.map_model.specs.Scan.{is_below}
+use Rattle.segment.specs.declared.fault.StoreFault.{StoreFault}
+use Rattle.station.specs.View.{View, Told}
+use Rattle.range_scan.specs.Bounds.{are_from, are_before}
+use Rattle.range_scan.specs.Faults.{IsDamageAt}
+use Rattle.range_scan.specs.ReaderView.{ReaderView}
+use Rattle.range_scan.specs.Sweeping.{first_for}
+use Rattle.range_scan.specs.Walk.{after_walk}
+
+-- where a store has its region, and what it keeps of it: the height, and the count of each segment
+pub record KeptRegion : Type 0 where
+  pub layout : Layout
+  pub region : ℕ
+  pub height : ℕ
+  pub counts : List ℕ
+
+-- the later of two bounds, from which a look may begin: a key that isn't below the one, and is above the other, isn't below it
+abbrev pub later : Option Bytes → Option Bytes → Option Bytes
+later None past = past
+later (Some low) None = Some low
+later (Some low) (Some past) = if is_lt (key_cmp past low) then Some low else Some past
+
+-- whether a key is this one, where there is one
+abbrev pub is_at : Option Bytes → Bytes → Bool
+is_at None key = false
+is_at (Some past) key = is_eq (key_cmp key past)
+
+-- whether a record has this key
+abbrev pub stands_at : Option Bytes → Option Record → Bool
+stands_at past None = false
+stands_at past (Some r) = is_at past r.0
+
+-- One segment or two that stand side by side were read, in ascending order and once each, and nothing was written: also where
+-- no bytes are told.
+pub record ReadsNear {A : Type 0} (start : Option Bytes) (k : KeptRegion) (result : Result A StoreFault) (a b : View) : Type 0 where
+  pub from : ℕ
+  pub to : ℕ
+  pub travel : b.travel ≡ after_walk k.layout k.region from to a.travel
+  pub some : from < to
+  pub two : to ≤ from + 2
+  -- they are segments of the store, so that in one of height 0 it is one
+  pub within : to ≤ 2 ^ k.height
+  -- the first is that to which the bound belongs
+  pub own : Told a → from ≡ first_for start (array_of a.held)
+  -- damage is that of the segment that was read last, by the count that is kept for it
+  pub causes : IfErr result (IsDamageAt (to - 1) k.counts)
+
+-- The first of ascending records that isn't below a bound and has another key than `past` stands at this place: those before
+-- it are below the bound, but for one with that key.
+pub record PlacedPast (start past : Option Bytes) (records : List Record) (place : ℕ) : Type 0 where
+  pub from : ℕ
+  pub before : T (are_before start (take from records))
+  pub behind : T (are_from start (drop from records))
+  pub place_is : place ≡ (if stands_at past (slice_get (drop from records) 0) then from + 1 else from)
+
+-- none of these records is ahead of a lower bound and `past`, whatever lower bound the look began with
+abbrev pub NoneAhead : Option Bytes → Option Bytes → Option Bytes → List Record → Type 0
+NoneAhead start past high records = (low : Option Bytes) → start ≡ later low past → where_key key_cmp (is_ahead low past high) records ≡ []
+
+-- the first record, where it is below a bound
+abbrev pub first_below : Option Bytes → List Record → Option Record
+first_below high [] = None
+first_below high (r ∷ rs) = if is_below high r.0 then Some r else None
+
+-- A reader amid such a look: it reads in the region from the first segment on, to an end at two segments further at most.
+pub record IsNear (layout : Layout) (region height first : ℕ) (r : ReaderView) : Type 0 where
+  pub layout_is : r.layout ≡ layout
+  pub region_is : r.region ≡ region
+  pub onward : first ≤ r.next
+  pub upto : r.next ≤ r.end
+  pub some : first < r.end
+  pub two : r.end ≤ first + 2
+  pub within : r.end ≤ 2 ^ height
+  pub reached : r.end < first + 2 → r.end ≡ 2 ^ height
+  pub unfaulted : r.faulted ≡ false

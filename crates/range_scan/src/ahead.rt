@@ -1,0 +1,124 @@
+//! The first record behind a key, by a look at the segment to which it belongs, and at the next one where it needs it.
+
+ghost use Rattle.std.specs.Prelude.{◌≡◌, ◌<◌, ◌≤◌, ◌+◌, ◌^◌, Option, IfOk, IfErr, IsErrOf, length, drop};
+ghost use Rattle.std.specs.Option.{option_map};
+ghost use Rattle.std.specs.FinMap.{entries};
+ghost use Rattle.station.specs.Bytes.{Same};
+ghost use Rattle.station.specs.View.{Told, Rose};
+ghost use Rattle.station.specs.Steps.{Steps};
+ghost use Rattle.header_gate.specs.Places.{IsLayout, file_length, height_limit};
+ghost use Rattle.key_slot.specs.Row.{record_of};
+ghost use Rattle.key_slot.specs.Record.{Bytes};
+ghost use Rattle.map_model.specs.Cursors.{first_ahead};
+ghost use Rattle.map_model.specs.Image.{map_of, array_of};
+ghost use Rattle.map_model.specs.Standing.{StandsBalanced};
+ghost use Rattle.range_scan.specs.Seeking.{later, first_below, PlacedPast, ReadsNear};
+ghost use Rattle.range_scan.specs.Sweeping.{first_for};
+
+use crate::counted::{next_counted, segment_count};
+use crate::held_page::HeldPage;
+use crate::reader::RegionReader;
+use crate::sweep::start_in;
+use header_gate::Layout;
+use key_slot::{Key, Row};
+use segment::{SegmentView, StoreFault};
+use station::Station;
+use window_tally::Tally;
+
+/// The bound from which a look must begin for the first record that isn't below `low` and is above `past`.
+pub fn start_bound(low: Option<Key>, past: Option<Key>) -> Option<Key>
+    ensures { result ≡ later low past }
+{
+    match (low, past) {
+        (Some(low), Some(past)) => Some(if past < low { low } else { past }),
+        (Some(low), None) => Some(low),
+        (None, past) => past,
+    }
+}
+
+/// The record of a region with the least key that isn't below a lower bound, is above `past` and is below `high`.
+///
+/// It looks for it from segment `first` on, to which the later of the lower bound and `past` belongs: `start` is that bound.
+/// At most two segments are read, one after another, into the page.
+pub fn first_ahead_in<S: Station>(
+    station: &mut S,
+    layout: Layout,
+    region: u32,
+    tally: &Tally,
+    page: &mut HeldPage,
+    first: u32,
+    start: &Option<Key>,
+    past: &Option<Key>,
+    high: &Option<Key>,
+) -> Result<Option<Row>, StoreFault>
+    requires layout { IsLayout layout }
+    requires region { region < 2 }
+    requires height { tally.now.height ≤ height_limit layout }
+    requires first { first < 2 ^ tally.now.height }
+    requires reach { file_length layout ≤ (S.view station.old).fixed.reach }
+    requires stands { Told (S.view station.old) → StandsBalanced layout region tally.now.height tally.now.counts (S.view station.old).held }
+    requires begins { Told (S.view station.old) → first ≡ first_for start.now (array_of (S.view station.old).held) }
+    ensures row { IfOk result (λ row. Told (S.view station.old) → (low : Option Bytes) → start.now ≡ later low past.now → option_map record_of row ≡ first_ahead low past.now high.now (entries (map_of (S.view station.old).held))) }
+    ensures damaged { IfErr result (λ fault. Told (S.view station.old) → fault ≡ StoreFault.Failed) }
+    ensures failed { IsErrOf result StoreFault.Failed → Rose (S.view station.old).disk_faults (S.view station.new).disk_faults }
+    ensures steps { Steps Same (S.view station.old) (S.view station.new) }
+    ensures reads { ReadsNear start.now (record { layout = layout; region = region; height = tally.now.height; counts = tally.now.counts }) result (S.view station.old) (S.view station.new) }
+{
+    let mut reader = RegionReader::new(
+        layout,
+        region,
+        first,
+        end_near(first, segment_count(tally)),
+    );
+    while next_counted(&mut reader, tally, station, page)? {
+        let rows = page.rows();
+        let place = place_past(&rows, start, past);
+        if place < rows.len() {
+            return Ok(row_below(&rows, place, high));
+        }
+    }
+    Ok(None)
+}
+
+// Two segments behind the first, or where the segments end.
+fn end_near(first: u32, segments: u32) -> u32
+    requires { first < segments }
+    ensures some { first < result }
+    ensures two { result ≤ first + 2 }
+    ensures within { result ≤ segments }
+    ensures reached { result < first + 2 → result ≡ segments }
+{
+    if segments - first < 2 {
+        segments
+    } else {
+        first + 2
+    }
+}
+
+// The place of the first record that isn't below a bound and has another key than `past`.
+fn place_past(rows: &SegmentView<'_>, start: &Option<Key>, past: &Option<Key>) -> u32
+    ensures within { result ≤ length rows.now }
+    ensures place { PlacedPast start.now past.now rows.now result }
+{
+    let place = start_in(rows, start);
+    if place == rows.len() {
+        return place;
+    }
+    match past {
+        Some(past) if rows.key(place) == *past => place + 1,
+        _ => place,
+    }
+}
+
+// The record at a place, where it is below a bound.
+fn row_below(rows: &SegmentView<'_>, place: u32, high: &Option<Key>) -> Option<Row>
+    requires { place < length rows.now }
+    ensures { option_map record_of result ≡ first_below high.now (drop place rows.now) }
+{
+    if let Some(high) = high {
+        if !(rows.key(place) < *high) {
+            return None;
+        }
+    }
+    Some(rows.row(place))
+}
