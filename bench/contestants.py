@@ -43,23 +43,51 @@ def build():
     return there
 
 
+def known(program, folder):
+    """Which of the words that came later this program knows: cursors and quick."""
+    file, found = str(folder / "probe"), set()
+    subprocess.run([program, "create", file, "0"], check=True)
+    done = subprocess.run([program, "run", file], input=b"open c * *\n", stdout=subprocess.PIPE, check=True)
+    if done.stdout == b"opened\n":
+        found.add("cursors")
+    os.unlink(file)
+    nothing = subprocess.DEVNULL
+    if subprocess.run([program, "create-indexed", file, "0"], stdout=nothing).returncode == 0:
+        if subprocess.run([program, "quick", file], stdin=nothing, stdout=nothing).returncode == 0:
+            found.add("quick")
+        os.unlink(file)
+    return found
+
+
 class Contestant:
     def __init__(self, name, command, file, settings, height=None, journal=None):
         self.name, self.words, self.file, self.settings = name, command, pathlib.Path(file), settings
         self.height, self.journal = height, journal
+        self.indexed = self.file.with_name(name + "-indexed")
+        self.text = {"lmdb": "lmdb", "nothing": "nothing"}.get(name, "records")  # the form of its load text
 
-    def command(self, file=None):
+    def command(self, file=None, word="run"):
         file = str(file or self.file)
         if self.height is not None:
-            return [self.words[0], "run", file]
+            return [self.words[0], word, file]
         return [self.words[0], file, *self.words[1:]]
 
-    def make(self, file=None):
+    def bulk(self, word, file=None):
+        """The command that loads a text into the store or dumps it; none where its tool isn't there."""
+        file = str(file or self.file)
+        if self.height is not None:
+            return self.command(file, word)
+        if self.name == "lmdb":
+            tool = shutil.which(f"mdb_{word}")
+            return tool and [tool, "-n", file]
+        return [self.words[0], file, *(self.words[1:] or [""]), word]
+
+    def make(self, file=None, word="create"):
         file = pathlib.Path(file or self.file)
         self.clear(file)
         if self.height is not None:
             journal = [] if self.journal is None else [str(self.journal)]
-            subprocess.run([self.words[0], "create", str(file), str(self.height), *journal], check=True)
+            subprocess.run([self.words[0], word, str(file), str(self.height), *journal], check=True)
 
     def files(self, file=None):
         file = pathlib.Path(file or self.file)
@@ -110,15 +138,18 @@ def contestants(there, program, workloads, folder):
     if 2**height > 1024:
         add("pma-1024", [program], f"HEIGHT {height}, JOURNAL 1024", height, 1024)
     if "sqlite" in there:
-        driver, table = str(OUT / "sqlite"), "prepared statements, `WITHOUT ROWID`, `synchronous=FULL`, journal mode "
+        driver = str(OUT / "sqlite")
+        table = "prepared statements, `WITHOUT ROWID`, `synchronous=FULL`, a load in one transaction, journal mode "
         add("sqlite-delete", [driver, "delete"], table + "`delete`")
         add("sqlite-wal", [driver, "wal"], table + "`wal`")
         if large:
             add("sqlite-wal-cache", [driver, f"wal,{cache}"], table + f"`wal`, cache of {cache} MiB")
     if "lmdb" in there:
-        add("lmdb", [str(OUT / "lmdb")], "map of 4 GiB, read transaction and cursor renewed, no flags that weaken a commit")
+        add("lmdb", [str(OUT / "lmdb")], "map of 4 GiB, read transaction and cursor renewed, no flags that weaken a commit, "
+            "`mdb_load` and `mdb_dump`")
     if "leveldb" in there:
-        driver, table = str(OUT / "leveldb"), "`sync`, bloom filter of 10 bits, a get before each put, for its reply"
+        driver = str(OUT / "leveldb")
+        table = "`sync`, bloom filter of 10 bits, a get before each put, for its reply, a load in batches of 1000"
         add("leveldb", [driver], table)
         if large:
             add("leveldb-cache", [driver, str(cache)], table + f", cache of {cache} MiB")
@@ -144,10 +175,13 @@ class Bench:
         with open(self.script, "wb") as file:
             file.writelines(lines)
 
-    def run(self, command, to=os.devnull, tool="timed"):
-        """The numbers of the report of a run on the script that was written last."""
-        with open(self.script, "rb") as script, open(to, "wb") as replies:
-            done = subprocess.run([str(OUT / tool), str(self.report), *command], stdin=script, stdout=replies)
+    def run(self, command, to=os.devnull, tool="timed", of=None):
+        """The numbers of the report of a run on this file, or on the script that was written last."""
+        with open(of or self.script, "rb") as script, open(to, "wb") as replies:
+            words = [str(OUT / tool), str(self.report), *command]
+            # mdb_load tells of a line that it doesn't know, and that mdb_dump wrote.
+            errors = subprocess.DEVNULL if "mdb_load" in command[0] else None
+            done = subprocess.run(words, stdin=script, stdout=replies, stderr=errors)
         if done.returncode:
             raise Missing(f"{' '.join(command)} ended with {done.returncode}")
         return [float(n) for n in self.report.read_text().split()]

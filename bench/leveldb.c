@@ -1,5 +1,6 @@
 /* LevelDB behind the program's script language. Setting: the cache in MiB, 8 where there is none.
-   As its manual advises: writes with `sync`, and a bloom filter of 10 bits a key. */
+   As its manual advises: writes with `sync`, a bloom filter of 10 bits a key, a load in batches of 1000. A cursor is an
+   iterator: it sees the store as it was when it was made, and is left before each update. */
 #include "script.h"
 #include <leveldb/c.h>
 #include <stdio.h>
@@ -11,6 +12,10 @@ static leveldb_writeoptions_t *synced;
 static leveldb_readoptions_t *reading;
 static leveldb_cache_t *cache;
 static leveldb_filterpolicy_t *filter;
+static leveldb_writebatch_t *batch;
+static leveldb_iterator_t *cursors[CURSORS];
+static int is_batch;
+const unsigned long store_bulk = 1000;
 
 static void want(char *error)
 {
@@ -34,6 +39,7 @@ void store_open(const char *file, const char *setting)
     synced = leveldb_writeoptions_create();
     leveldb_writeoptions_set_sync(synced, 1);
     reading = leveldb_readoptions_create();
+    batch = leveldb_writebatch_create();
 }
 
 static int is_there(struct bytes key)
@@ -46,11 +52,28 @@ static int is_there(struct bytes key)
     return value != NULL;
 }
 
+void store_begin(void)
+{
+    is_batch = 1;
+}
+
+void store_commit(void)
+{
+    char *error = NULL;
+    leveldb_write(store, synced, batch, &error);
+    want(error);
+    leveldb_writebatch_clear(batch);
+    is_batch = 0;
+}
+
 int store_put(struct bytes key, struct bytes value)
 {
     char *error = NULL;
     int was_there = is_there(key);
-    leveldb_put(store, synced, key.at, key.count, value.at, value.count, &error);
+    if (is_batch)
+        leveldb_writebatch_put(batch, key.at, key.count, value.at, value.count);
+    else
+        leveldb_put(store, synced, key.at, key.count, value.at, value.count, &error);
     want(error);
     return was_there;
 }
@@ -60,9 +83,17 @@ int store_remove(struct bytes key)
     char *error = NULL;
     if (!is_there(key))
         return 0;
-    leveldb_delete(store, synced, key.at, key.count, &error);
+    if (is_batch)
+        leveldb_writebatch_delete(batch, key.at, key.count);
+    else
+        leveldb_delete(store, synced, key.at, key.count, &error);
     want(error);
     return 1;
+}
+
+void store_append(struct bytes key, struct bytes value)
+{
+    leveldb_writebatch_put(batch, key.at, key.count, value.at, value.count);
 }
 
 int store_get(struct bytes key)
@@ -94,8 +125,36 @@ void store_range(struct bytes low, const struct bytes *high, unsigned long limit
     leveldb_iter_destroy(walk);
 }
 
+static int seen(int cursor, struct record *found)
+{
+    if (!leveldb_iter_valid(cursors[cursor]))
+        return 0;
+    found->key.at = leveldb_iter_key(cursors[cursor], &found->key.count);
+    found->value.at = leveldb_iter_value(cursors[cursor], &found->value.count);
+    return 1;
+}
+
+int store_seek(int cursor, struct bytes low, struct record *found)
+{
+    cursors[cursor] = leveldb_create_iterator(store, reading);
+    leveldb_iter_seek(cursors[cursor], low.at, low.count);
+    return seen(cursor, found);
+}
+
+int store_step(int cursor, struct record *found)
+{
+    leveldb_iter_next(cursors[cursor]);
+    return seen(cursor, found);
+}
+
+void store_leave(int cursor)
+{
+    leveldb_iter_destroy(cursors[cursor]);
+}
+
 void store_close(void)
 {
+    leveldb_writebatch_destroy(batch);
     leveldb_close(store);
     leveldb_options_destroy(options);
     leveldb_filterpolicy_destroy(filter);

@@ -1,15 +1,17 @@
 """The CSVs of a folder, and how a number is written."""
 import csv
 
-READS = ["readrandom", "readmissing", "seekrandom 10", "seekrandom 100", "readseq"]
-UPDATES = ["fillrandom", "fillseq", "overwrite", "deleterandom"]
-OPEN = "open, one get"
-MEMORY = "memory of open, one get"
-WORKLOADS = [*UPDATES, *READS, "half and half", "mostly scans", OPEN]
+READS = ["readrandom", "readmissing", "seekrandom 10", "seekrandom 100", "readseq", "cursor", "cursor, by range"]
+BATCH = "batch of 16"
+UPDATES = ["fillrandom", "fillseq", "overwrite", "deleterandom", BATCH, "batch of 16, by puts"]
+OPEN, QUICK = "open, one get", "open, one get by quick"
+MEMORY, QUICK_MEMORY = "memory of open, one get", "memory of open, one get by quick"
+BULK = ["bulk, load", "bulk, dump"]
+WORKLOADS = [*UPDATES, *READS, "half and half", "mostly scans", *BULK, OPEN, QUICK]
 CONTESTANTS = [
     "pma", "pma-1024", "sqlite-delete", "sqlite-wal", "sqlite-wal-cache", "lmdb", "leveldb", "leveldb-cache", "nothing",
 ]
-TABLES = ["times", "pauses", "sizes", "puts", "blocks", "contestants", "setup"]
+TABLES = ["times", "pauses", "sizes", "puts", "charges", "blocks", "contestants", "setup"]
 
 
 def number(text):
@@ -21,7 +23,7 @@ def number(text):
 
 
 def unit(workload):
-    return "ms" if workload in ("readseq", OPEN) else "us"
+    return "ms" if workload in ("readseq", OPEN, QUICK, *BULK) else "us"
 
 
 def where(rows, **same):

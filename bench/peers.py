@@ -4,9 +4,10 @@
 Usage: peers.py [--records N[,N..]] [--program PROGRAM] [--csv FOLDER] [--memory FOLDER] [--disk FOLDER] [--rounds N]
 
 For each number of records the stores are filled in memory, one command sent at a time, and what each reply took is kept.
-Then the replies to every script are compared byte by byte, and only then is anything timed: contestants take turns, in each
-round another one first. At the greatest number the stores are copied to the disk and timed by the clock, and the blocks of a
-search are counted. Ends with 1 where replies differ, or where a compiler or every peer is missing.
+Then the replies to every script are compared byte by byte, and so are the dumps, and only then is anything timed: contestants
+take turns, in each round another one first. At the greatest number the stores are copied to the disk and timed by the clock,
+and the blocks of a search and the charges of updates are counted. Ends with 1 where replies differ, or where a compiler or
+every peer is missing.
 """
 import argparse
 import csv
@@ -20,8 +21,8 @@ import subprocess
 import sys
 import tempfile
 
-from contestants import HERE, OUT, Bench, Missing, build, contestants, version
-from workloads import Workloads, odd_lines
+from contestants import HERE, OUT, Bench, Missing, build, contestants, known, version
+from workloads import BATCH, ITEMS, Workloads, charged, odd_lines, orders
 
 TRACED = 400  # commands of which the system calls are counted
 
@@ -36,13 +37,16 @@ def turned(all_of, turn):
 
 
 class Run:
-    def __init__(self, folder, there, program, records, rounds):
+    def __init__(self, folder, there, program, words, records, rounds):
         self.work, self.records, self.rounds = Workloads(records, rounds), records, rounds
         self.folder = folder / str(records)
         self.folder.mkdir()
         self.bench = Bench(self.folder)
         self.all = contestants(there, program, self.work, self.folder)
         self.stores = [c for c in self.all if c.name != "nothing"]
+        self.loaders = [c for c in self.all if c.bulk("load") and c.bulk("dump")]
+        self.cursors = "cursors" in words
+        self.indexed = [c for c in self.all if c.height is not None] if "quick" in words else []
 
     def filled(self):
         """Fills the stores: rows of the pauses, and of sizes and memory."""
@@ -58,49 +62,105 @@ class Run:
             print(f"{self.records:>8} {one.name:16} filled in {seconds:.2f} s of processor time", flush=True)
         return pauses, sizes
 
-    def same(self, name, lines, make=False):
-        """Runs each store on these lines; the replies must be the same."""
+    def same(self, name, lines, commands=None):
+        """Runs each store on these lines, or these commands, by name; the replies must be the same."""
         self.bench.write(lines)
         first = None
-        for one in self.stores:
-            file = self.folder / f"odd-{one.name}" if make else one.file
-            replies = self.folder / f"replies-{one.name}"
-            if make:
-                one.make(file)
-            self.bench.run(one.command(file), to=replies)
-            if make:
-                one.clear(file)
+        for who, command in (commands or {one.name: one.command() for one in self.stores}).items():
+            replies = self.folder / f"replies-{who}"
+            self.bench.run(command, to=replies)
             if first and not filecmp.cmp(first, replies, shallow=False):
                 raise Missing(f"REPLIES DIFFER: {name}: {first.name}, {replies.name}")
+            if first:
+                replies.unlink()
             first = first or replies
-        for one in self.stores:
-            (self.folder / f"replies-{one.name}").unlink()
+        first.unlink()
+
+    def odd(self):
+        files = {one: self.folder / f"odd-{one.name}" for one in self.stores}
+        for one, file in files.items():
+            one.make(file)
+        lines = odd_lines(60 if self.work.small else 5000, self.cursors)
+        self.same("odd lines", lines, {one.name: one.command(file) for one, file in files.items()})
+        for one, file in files.items():
+            one.clear(file)
+
+    def text(self, one):
+        return self.folder / f"text-{one.text}"
+
+    def bulk(self):
+        """Keeps each form of load text; all dumps of one form must be the same, and all stores that are made of them."""
+        scan = [b"range * *\n"]
+        for form in dict.fromkeys(one.text for one in self.loaders):
+            of_form = [one for one in self.loaders if one.text == form]
+            self.same("dump", [], {one.name: one.bulk("dump") for one in of_form})
+            self.bench.run(of_form[0].bulk("dump"), to=self.text(of_form[0]))
+        for one in self.loaders:
+            if one in self.stores:
+                new = self.loaded(one)
+                self.same("load", scan, {one.name: one.command(), f"{one.name}-new": one.command(new)})
+                one.clear(new)
+
+    def loaded(self, one, took=None):
+        """A new store of the load text; what the load took is added."""
+        new = self.folder / f"new-{one.name}"
+        one.make(new)
+        numbers = self.bench.run(one.bulk("load", new), of=self.text(one))
+        if took is not None:
+            took.append(numbers[0] * 1e3)
+        return new
+
+    def with_index(self):
+        """Stores of the same records with an index in the file, which a run has left; they must answer as those without."""
+        lines = [b"range * *\n", *(b"get %s\n" % k for k in self.work.keys[:1000])]
+        for one in self.indexed:
+            one.make(one.indexed, "create-indexed")
+            self.bench.run(one.command(one.indexed, "load"), of=self.text(one))
+            self.bench.run(one.command(one.indexed), of=os.devnull)
+            self.same("quick", lines, {one.name: one.command(), f"{one.name}-quick": one.command(one.indexed, "quick")})
 
     def compared(self):
-        self.same("odd lines", odd_lines(60 if self.work.small else 5000), make=True)
+        self.odd()
         self.same("fill", [b"range * *\n"])
-        for name, lines in self.work.turn(0):
+        for name, lines in self.work.turn(0, self.cursors):
             self.same(name or "restored", lines)
+        self.bulk()
+        self.with_index()
+
+    def opened(self, turn, took):
+        """Adds what a program takes that is started for one get, and the memory that it takes."""
+        self.bench.write([b"get %s\n" % self.work.keys[0]])
+        words = [("open, one get", one, one.command()) for one in turned(self.all, turn)]
+        words += [("open, one get by quick", one, one.command(one.indexed, "quick")) for one in self.indexed]
+        for name, one, command in words:
+            runs = [self.bench.run(command) for _ in range(3 if self.records > 100000 else 10)]
+            took.setdefault((name, one.name, "ms"), []).append(statistics.median(r[0] for r in runs) * 1e3)
+            took.setdefault((f"memory of {name}", one.name, "MiB"), []).append(runs[0][2] / 1024)
+
+    def moved(self, turn, took):
+        """Adds what a load and a dump take, each a program of its own."""
+        for one in turned(self.loaders, turn):
+            one.clear(self.loaded(one, took.setdefault(("bulk, load", one.name, "ms"), [])))
+            seconds = self.bench.run(one.bulk("dump"), of=os.devnull)[0]
+            took.setdefault(("bulk, dump", one.name, "ms"), []).append(seconds * 1e3)
 
     def timed(self):
-        """Rows of processor time: microseconds a command, the opening subtracted; of an opening, milliseconds."""
+        """Rows of processor time: microseconds a command, the opening subtracted; milliseconds of an opening, load and dump."""
         took = {}
         for turn in range(1, self.rounds + 1):
             opening = {}
-            self.bench.write([b"get %s\n" % self.work.keys[0]])
-            for one in turned(self.all, turn):
-                runs = [self.bench.run(one.command()) for _ in range(3 if self.records > 100000 else 10)]
-                took.setdefault(("open, one get", one.name, "ms"), []).append(statistics.median(r[0] for r in runs) * 1e3)
-                took.setdefault(("memory of open, one get", one.name, "MiB"), []).append(runs[0][2] / 1024)
+            self.opened(turn, took)
+            self.moved(turn, took)
             self.bench.write([])
             for one in turned(self.all, turn):
                 opening[one.name] = statistics.median(self.bench.run(one.command())[0] for _ in range(3))
-            for name, lines in self.work.turn(turn):
+            for name, lines in self.work.turn(turn, self.cursors):
                 self.bench.write(lines)
                 for one in turned(self.all, turn):
                     seconds = self.bench.run(one.command())[0] - opening[one.name]
                     if name:
-                        took.setdefault((name, one.name, "us"), []).append(seconds / len(lines) * 1e6)
+                        each = seconds / self.work.counted(name, lines) * 1e6
+                        took.setdefault((name, one.name, "us"), []).append(each)
         self.same("the store after all rounds", [b"range * *\n"])
         order = [one.name for one in self.all]
         rows = [[self.records, *what, *spread(values)] for what, values in took.items()]
@@ -108,32 +168,39 @@ class Run:
         return sorted(rows, key=lambda row: (works.index(row[1]), order.index(row[2])))
 
     def traced(self):
-        """(Contestant, workload) -> bytes written and syncs of a put, the median of three runs."""
+        """(Contestant, workload) -> bytes written and syncs of an update, the median of three runs."""
         found, turn = {}, self.rounds + 1
-        scripts = {"overwrite": self.work.overwrite, "fillrandom": self.work.fillrandom}
         for one in self.stores:
             for again in range(3):
-                for name, script in scripts.items():
-                    self.bench.write(script(turn + (1000 * again if name == "overwrite" else 0))[:TRACED])
-                    found.setdefault((one.name, name), []).append(self.bench.traced(one.command(), one.file))
+                scripts = {
+                    "overwrite": self.work.overwrite(turn + 1000 * again)[:TRACED],
+                    "fillrandom": self.work.fillrandom(turn)[:TRACED],
+                    BATCH: self.work.batches(turn + 1000 * again)[:TRACED // ITEMS],
+                }
+                for name, lines in scripts.items():
+                    self.bench.write(lines)
+                    updates = self.work.counted(name, lines) / len(lines)
+                    numbers = self.bench.traced(one.command(), one.file)
+                    found.setdefault((one.name, name), []).append([n / updates for n in numbers])
                 if not self.work.small:
                     self.bench.write(self.work.deleterandom(turn, TRACED))
                     self.bench.run(one.command())
         return {what: [f"{statistics.median(column):.4g}" for column in zip(*runs)] for what, runs in found.items()}
 
     def on_disk(self, disk, commands, traced):
-        """Rows of durable commands a second by the clock, with bytes and syncs; so many commands over all rounds, each sent
+        """Rows of durable updates a second by the clock, with bytes and syncs; so many updates over all rounds, each command sent
         when the reply before it is there, so that an opening isn't in the time."""
         each, took, rows = max(2, commands // self.rounds), {}, []
         files = {one.name: one.copied(disk) for one in self.stores}
         for turn in range(self.rounds + 2, 2 * self.rounds + 2):
             scripts = [("overwrite", self.work.overwrite(turn)[:each]), ("fillrandom", self.work.fillrandom(turn)[:each])]
             scripts += [] if self.work.small else [("deleterandom", self.work.deleterandom(turn, each))]
+            scripts += [(BATCH, self.work.batches(turn)[:max(2, each // ITEMS)])]
             for name, lines in scripts:
                 self.bench.write(lines)
                 for one in turned(self.stores, turn):
                     microseconds = self.bench.run(one.command(files[one.name]), tool="pauses")[4]
-                    took.setdefault((name, one.name), []).append(len(lines) / microseconds * 1e6)
+                    took.setdefault((name, one.name), []).append(self.work.counted(name, lines) / microseconds * 1e6)
         for one in self.stores:
             one.clear(files[one.name])
         for name in dict.fromkeys(name for name, _ in took):
@@ -159,9 +226,27 @@ class Run:
                          max(searched), f"{statistics.mean(searched):.2f}"])
         return rows
 
+    def charges(self):
+        """Rows of the charge of an update over so many puts into an empty store, by their order, beside the proved bound."""
+        marks = [10**n for n in range(2, 7) if 10**n <= self.records] or [self.records]
+        rows, pma, new, replies = [], self.all[0], self.folder / "charges", self.folder / "costs"
+        for order, numbers in orders(marks[-1]):
+            pma.make(new)
+            self.bench.write(charged(numbers, marks))
+            self.bench.run(pma.command(new), to=replies)
+            with open(replies) as lines:
+                costs = [[int(w.split("=")[1]) for w in line.split()[1:]] for line in lines if line.startswith("cost ")]
+            rows += [[order, updates, f"{charge / updates:.2f}", f"{bound / updates:.2f}"] for updates, charge, bound in costs]
+        pma.clear(new)
+        replies.unlink()
+        return rows
+
     def cleared(self):
         for one in self.all:
             one.clear()
+            one.clear(one.indexed)
+        for form in {one.text for one in self.loaders}:
+            (self.folder / f"text-{form}").unlink()
 
 
 def binary_blocks(segment, count, size):
@@ -199,6 +284,7 @@ HEADS = {
     "pauses": "records,contestant,median_us,of_99_in_100_us,greatest_us",
     "sizes": "records,contestant,length_bytes,taken_bytes,memory_kib,fill_s",
     "puts": "records,workload,contestant,a_second,least,greatest,bytes_a_put,syncs_a_put",
+    "charges": "order,updates,charge,bound",
     "blocks": "records,nodes,block_nodes,most,mean,bound,binary_most,binary_mean",
     "contestants": "contestant,version,settings",
     "setup": "what,value",
@@ -220,8 +306,15 @@ def measured(arguments, there, folder, disk):
     can_trace = shutil.which("strace") is not None
     if not can_trace:
         print("left out: bytes and syncs, since strace isn't there (Debian: strace)")
+    words = known(arguments.program, folder)
+    for word, what in (("cursors", "cursor"), ("quick", "open, one get by quick")):
+        if word not in words:
+            print(f"left out: {what}, since this program doesn't know {word}")
+    for tool in ("mdb_load", "mdb_dump"):
+        if "lmdb" in there and not shutil.which(tool):
+            print(f"left out: bulk of lmdb, since {tool} isn't there (Debian: lmdb-utils)")
     for records in sizes:
-        run = Run(folder, there, arguments.program, records, arguments.rounds)
+        run = Run(folder, there, arguments.program, words, records, arguments.rounds)
         pauses, taken = run.filled()
         run.compared()
         print(f"{records:>8} the replies are the same", flush=True)
@@ -232,6 +325,7 @@ def measured(arguments, there, folder, disk):
         if records == sizes[-1]:
             tables["puts"] = run.on_disk(disk, 2000 if records > 100000 else 100, traced)
             tables["blocks"] = run.blocks()
+            tables["charges"] = run.charges()
             tables["contestants"] = [[one.name, version(one, arguments.program), one.settings] for one in run.all]
         run.cleared()
     tables["setup"] = setup(arguments, disk, "" if arguments.records == EVERY else arguments.records)

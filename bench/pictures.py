@@ -3,7 +3,7 @@ import csv
 import re
 import subprocess
 
-from numbers_of_runs import READS, by_contestant, number, unit, where
+from numbers_of_runs import BATCH, READS, by_contestant, number, unit, where
 
 COLOURS = {
     "pma": "#b5302a",
@@ -64,22 +64,23 @@ def lines(all_of):
 
 
 def draw_reads(numbers):
-    times = {work: numbers.time(numbers.greatest, work) for work in READS}
+    all_times = {work: numbers.time(numbers.greatest, work) for work in READS}
+    times = {work: values for work, values in all_times.items() if values}
     rows = [[work, name, unit(work), number(value)] for work, values in times.items() for name, value in values.items()]
     write_rows(numbers.folder / "reads.csv", ["workload", "contestant", "unit", "median"], rows)
     all_of = [bars(work, f"{unit(work)}, processor time", values) for work, values in times.items()]
-    panels(numbers.folder / "reads.svg", "1500,420", all_of)
+    panels(numbers.folder / "reads.svg", f"{300 * len(all_of)},420", all_of)
 
 
 def draw_puts(numbers):
     all_of = []
-    for work in ("overwrite", "fillrandom"):
+    for work in ("overwrite", "fillrandom", BATCH):
         rows = where(numbers.puts, workload=work)
         syncs = by_contestant(rows, "syncs_a_put")
         rates = by_contestant(rows, "a_second")
         notes = [f"{syncs[name]:.1f}" if name in syncs else "" for name in rates]
         all_of.append(bars(work + ", with the syncs of a put", "durable puts a second, by the clock", rates, notes))
-    panels(numbers.folder / "puts.svg", "1000,420", all_of)
+    panels(numbers.folder / "puts.svg", "1500,420", all_of)
 
 
 def draw_growth(numbers):
@@ -97,6 +98,19 @@ def draw_growth(numbers):
     draw(numbers.folder / "growth.svg", "1200,420", "set multiplot layout 1,3\n" + "".join(all_of) + "unset multiplot\n")
 
 
+def draw_charges(numbers):
+    head = "set logscale xy\nset key center right\nset xlabel 'updates'\nset ylabel 'charge of an update'\nset yrange [1:*]\n"
+    head += "set format x '10^{%L}'\n"
+    colours = {"random": "#1f4e79", "ascending": "#b5302a", "descending": "#e08a5f", "one place": "#6b4c9a"}
+    drawn = [(points(where(numbers.charges, order=order), "charge"), colour, order) for order, colour in colours.items()]
+    drawn.append((points(where(numbers.charges, order="random"), "bound"), "#888888", "proved bound"))
+    draw(numbers.folder / "charges.svg", "720,460", head + GRID + lines(drawn))
+
+
+def points(rows, column):
+    return [(row["updates"], row[column]) for row in rows]
+
+
 def draw_blocks(numbers):
     head = "set logscale x\nset key top right\nset xlabel 'nodes in a block (B)'\nset ylabel 'blocks that a search touches'\n"
     columns = [
@@ -112,7 +126,11 @@ def draw_blocks(numbers):
 
 def draw_all(numbers):
     for rows, picture in (
-        (numbers.times, draw_reads), (numbers.times, draw_growth), (numbers.puts, draw_puts), (numbers.blocks, draw_blocks),
+        (numbers.times, draw_reads),
+        (numbers.times, draw_growth),
+        (numbers.puts, draw_puts),
+        (numbers.charges, draw_charges),
+        (numbers.blocks, draw_blocks),
     ):
         if rows:
             picture(numbers)

@@ -8,7 +8,8 @@ import pathlib
 import shutil
 import sys
 
-from numbers_of_runs import CONTESTANTS, MEMORY, OPEN, READS, UPDATES, WORKLOADS, Numbers, by_contestant, number, unit, where
+from numbers_of_runs import BATCH, CONTESTANTS, MEMORY, OPEN, QUICK, QUICK_MEMORY, READS, UPDATES, WORKLOADS
+from numbers_of_runs import Numbers, by_contestant, number, unit, where
 from pictures import draw_all
 
 BEGIN, END = "<!-- numbers of docs/bench: begin -->", "<!-- numbers of docs/bench: end -->"
@@ -42,9 +43,11 @@ def lost(what, unit_of, values, cause, more=False):
 
 def lost_on_disk(numbers):
     rows = []
-    for work in ("overwrite", "fillrandom", "deleterandom"):
+    causes = dict.fromkeys(("overwrite", "fillrandom", "deleterandom"), "four syncs, one after the other")
+    causes[BATCH] = "each item has its own syncs, and the batch three more"
+    for work, cause in causes.items():
         rates = by_contestant(where(numbers.puts, workload=work), "a_second")
-        rows += lost(f"durable commands on a disk, {work}", "a second", rates, "four syncs, one after the other", more=True)
+        rows += lost(f"durable updates on a disk, {work}", "a second", rates, cause, more=True)
     put = where(numbers.puts, workload="overwrite")
     syncs, written = by_contestant(put, "syncs_a_put"), by_contestant(put, "bytes_a_put")
     rows += lost("syncs of a put, overwrite", "syncs", syncs, "the journal, its gate, the segment, the gate")
@@ -58,19 +61,31 @@ def lost_space(numbers):
         ("bytes of the file that are taken", "taken_bytes", "two regions, and gaps among the records"),
     ):
         rows += lost(what, "MB", {name: value / 1e6 for name, value in by_contestant(sizes, column).items()}, cause)
-    memory = numbers.time(numbers.greatest, MEMORY)
-    rows += lost("memory of a run for one get", "MiB", memory, "the journal's pages and the index")
+    for memory in (MEMORY, QUICK_MEMORY):
+        rows += lost(memory, "MiB", beside_opening(numbers, memory, MEMORY), "the journal's pages and the index")
     pauses = by_contestant(where(numbers.pauses, records=numbers.greatest), "greatest_us")
     return rows + lost("the greatest pause of a put while a store is filled", "us", pauses, "a growth writes the whole array")
 
 
+def beside_opening(numbers, work, opening):
+    """What the program takes in this work, beside what the peers take in an opening: `quick` is the program's own."""
+    values = numbers.time(numbers.greatest, work)
+    return values and numbers.time(numbers.greatest, opening) | values
+
+
 def lost_time(numbers):
-    cause = "an opening reads the whole region and makes the index"
-    rows = lost("processor time of opening and one get", "ms", numbers.time(numbers.greatest, OPEN), cause)
+    rows = []
+    for work, cause in (
+        (OPEN, "an opening reads the whole region and makes the index"),
+        (QUICK, "an opening reads the index of the file, and the run writes it anew"),
+    ):
+        rows += lost(f"processor time, {work}", "ms", beside_opening(numbers, work, OPEN), cause)
     reads = "each segment is read by a system call and judged whole"
     updates = "a segment is judged and edited whole, and written twice"
     causes = {work: reads for work in READS} | {work: updates for work in UPDATES}
-    causes |= {"half and half": updates, "mostly scans": reads}
+    causes |= {"half and half": updates, "mostly scans": reads, BATCH: "each item is an update with its own writes"}
+    causes |= {"cursor": "each `next` looks for its key anew, in a segment that is read and judged whole"}
+    causes |= {"bulk, load": "records are packed and then spread, so each segment is written twice", "bulk, dump": reads}
     causes["fillseq"] = "ascending keys all come into one segment, whose window is spread again and again"
     for work, cause in causes.items():
         rows += lost(f"processor time, {work}", unit(work), numbers.time(numbers.greatest, work), cause)
@@ -83,35 +98,19 @@ def losses(numbers):
         "## Where `pma` loses",
         f"At {numbers.greatest} records, beside the best of the peers in each row:",
         table(["what", "unit", "`pma`", "with a JOURNAL of 1024", "take instead", "the cause"], rows),
-        "`pma` doesn't read backwards: SQLite, LMDB and LevelDB do.",
+        "A batch of `pma` is one command in a crash, and no faster than its puts: where updates come in batches, take one of the "
+        "peers, whose transactions are synced once. `pma` doesn't read backwards: SQLite, LMDB and LevelDB do.",
     ]
 
 
 # ---- tables ----
 
 
-WHAT = [
-    ["fillrandom, fillseq", "puts of new keys: at random, and ascending above all others"],
-    ["overwrite, deleterandom", "puts of present keys, removals of present keys, at random"],
-    ["readrandom, readmissing", "gets of present keys, and of absent ones"],
-    ["seekrandom 10, seekrandom 100", "ranges from a present key on, with that LIMIT"],
-    ["readseq", "`range * *`"],
-    ["half and half", "gets and puts by turns, of present keys of which some come often (their ranks by Zipf's law)"],
-    ["mostly scans", "of twenty commands nineteen ranges of 1 to 100 records, and a put of a new key"],
-    [OPEN, "the program is started for a single get"],
-]
-
-
 def described(numbers):
     return [
         "## Beside peers",
-        "`make bench-peers` fills each store, compares the replies to every script byte by byte, and then times: contestants "
-        "take turns, in each round another one first. The peers read the program's script language by one shared file, in the "
-        "same pieces as the program, and make each update durable before its reply. Keys have 16 bytes and values 32.",
-        table(["workload", "what it is"], WHAT),
+        "What each workload is, and how the peers are run, stands below under [how peers are run](#how-peers-are-run).",
         table(["what", ""], [[row["what"], row["value"]] for row in numbers.setup]),
-        "Each peer runs as its manual advises; where no cache is named, as shipped. LMDB's memory counts the pages of its map "
-        "that were touched.",
         table(["contestant", "version", "settings"], [list(row.values()) for row in numbers.contestants]),
         "![Processor time of reads and scans](bench/reads.svg)",
         "![Processor time of get, put and a range of 100 against the number of records](bench/growth.svg)",
@@ -125,10 +124,12 @@ def processor_time(numbers, records):
     for work in WORKLOADS:
         three = [numbers.time(records, work, column) for column in ("median", "least", "greatest")]
         if three[0]:
-            cells = ["{} ({} to {})".format(*(number(values[name]) for values in three)) for name in who]
-            rows.append([f"{work}, {unit(work)}", *cells])
-    text = ("A command's, the median of the rounds with the least and the greatest, the opening subtracted; an opening's by "
-            "itself. `nothing` keeps no record and answers alike: so much the script language costs.")
+            cells = [[number(values[name]) for values in three if name in values] for name in who]
+            texts = ["{} ({} to {})".format(*cell) if cell else "" for cell in cells]
+            rows.append([f"{work}, {unit(work)}", *texts])
+    text = ("A command's, the median of the rounds with the least and the greatest, the opening subtracted; of a batch an "
+            "item's, of a cursor and the range beside it a record's; an opening's, a load's and a dump's by itself. `nothing` "
+            "keeps no record and answers alike: so much the script language costs.")
     if int(records) < 1000:
         text += (" Each put of a new key is followed by its removal, and the two are two commands. LevelDB keeps what was "
                  "removed until it compacts, and its ranges pass over that.")
@@ -139,8 +140,9 @@ def durable(numbers):
     numeric = ["a_second", "least", "greatest", "bytes_a_put", "syncs_a_put"]
     rows = columns(numbers.puts, ["workload", "contestant"], numeric)
     return [
-        f"### Durable commands by the clock, on a disk, at {numbers.puts[0]['records']} records",
-        "Bytes and syncs are those of a command, by `strace`; a write through a descriptor opened with `O_DSYNC` is a sync too. "
+        f"### Durable updates by the clock, on a disk, at {numbers.puts[0]['records']} records",
+        "Bytes and syncs are those of an update, in a batch of an item, by `strace`; a write through a descriptor opened with "
+        "`O_DSYNC` is a sync too. "
         "What a store does in the background meanwhile is in them: LevelDB's compactions, SQLite's checkpoints.",
         "![Durable puts a second with their syncs](bench/puts.svg)",
         table(["workload", "contestant", "a second", "least", "greatest", "bytes written", "syncs"], rows),
@@ -165,6 +167,17 @@ def sized(numbers):
     return ["### Files after the filling, and what it took", table(head, rows)]
 
 
+def charged(numbers):
+    return [
+        "## Charges of updates",
+        "What an update is charged, by `cost`, over so many puts of new keys into an empty store. A charge counts images of "
+        "segments, of 4096 bytes, that are written. At one place each key comes between the two that were put before it.",
+        "![Charge of an update against the number of updates](bench/charges.svg)",
+        table(["order", "updates", "charge of an update", "proved bound"],
+              columns(numbers.charges, ["order", "updates"], ["charge", "bound"])),
+    ]
+
+
 def touched(numbers):
     first = numbers.blocks[0]
     names = ["block_nodes", "most", "mean", "bound", "binary_most", "binary_mean"]
@@ -183,7 +196,11 @@ def sections(numbers):
     for records in numbers.records:
         text += processor_time(numbers, records)
     for rows, section in (
-        (numbers.puts, durable), (numbers.pauses, paused), (numbers.sizes, sized), (numbers.blocks, touched),
+        (numbers.puts, durable),
+        (numbers.pauses, paused),
+        (numbers.sizes, sized),
+        (numbers.charges, charged),
+        (numbers.blocks, touched),
     ):
         text += section(numbers) if rows else []
     return text or [NO_RUN]

@@ -1,15 +1,16 @@
 /* Reads a script and says its replies, in the same pieces as the program: the script is read in pieces of 4096 bytes, each
    reply is one write, and the records of a range are written in pieces of at most 4096 bytes, with `end` for itself.
-   Usage of a driver: DRIVER FILE [SETTING] <SCRIPT, or without words for the store's version.
+   Usage of a driver: DRIVER FILE [SETTING] <SCRIPT, or without words for the store's version;
+   DRIVER FILE SETTING load <TEXT and DRIVER FILE SETTING dump read and say a load text.
 
-   The commands are put, remove, get and range, with the program's escapes, limits and refusals. */
+   The commands are put, remove, batch, get, range, open, next and close, with the program's escapes, limits and refusals. */
 #include "script.h"
 #include <stdio.h>
 #include <stdlib.h>
 #include <string.h>
 #include <unistd.h>
 
-enum { PIECE = 4096, LINE = 512, KEY = 24, VALUE = 32, WORDS = 5 };
+enum { PIECE = 4096, LINE = 512, KEY = 24, VALUE = 32, ITEMS = 16, WORDS = 65 };
 
 /* ---- replies ---- */
 
@@ -88,15 +89,20 @@ void say_found(struct bytes value)
     say("");
 }
 
-void say_record(struct bytes key, struct bytes value)
+static void add_record(struct bytes key, struct bytes value)
 {
-    if (out_count + 9 + 3 * (key.count + value.count) > PIECE)
-        send_out();
     add("record ");
     add_word(key);
     if (value.count)
         add(" ");
     add_word(value);
+}
+
+void say_record(struct bytes key, struct bytes value)
+{
+    if (out_count + 9 + 3 * (key.count + value.count) > PIECE)
+        send_out();
+    add_record(key, value);
     add("\n");
     ranged++;
 }
@@ -107,7 +113,7 @@ int compare_keys(struct bytes first, struct bytes second)
     return bytes ? bytes : (first.count > second.count) - (first.count < second.count);
 }
 
-/* ---- commands ---- */
+/* ---- words ---- */
 
 static int digit(char c)
 {
@@ -158,6 +164,131 @@ static int sized(struct bytes key, struct bytes second, size_t most, const char 
     return 1;
 }
 
+/* ---- cursors ---- */
+
+struct kept {
+    char at[KEY];
+    size_t count;
+};
+
+/* A cursor of the script. Where the store's own is set, it stands on the record that was given last; an update unsets it, and
+   the next record is then looked for by the key, so that each is one of the store as it is then. */
+struct walk {
+    int is_open, is_set, is_begun, is_bounded;
+    struct kept name, high, from; /* from is the low bound, and behind the first record the key that was given last */
+};
+
+static struct walk walks[CURSORS];
+static int set_count;
+
+static void keep(struct kept *place, struct bytes word)
+{
+    memcpy(place->at, word.at, word.count);
+    place->count = word.count;
+}
+
+static struct bytes kept(const struct kept *place)
+{
+    return (struct bytes){place->at, place->count};
+}
+
+/* The number of the open cursor of this name, -1 where there is none. */
+static int walk_of(struct bytes name)
+{
+    for (int n = 0; n < CURSORS; n++)
+        if (walks[n].is_open && !compare_keys(kept(&walks[n].name), name))
+            return n;
+    return -1;
+}
+
+static int free_walk(void)
+{
+    for (int n = 0; n < CURSORS; n++)
+        if (!walks[n].is_open)
+            return n;
+    return -1;
+}
+
+static void unset(int n)
+{
+    if (walks[n].is_set)
+        store_leave(n);
+    set_count -= walks[n].is_set;
+    walks[n].is_set = 0;
+}
+
+static void unset_all(void)
+{
+    for (int n = 0; set_count && n < CURSORS; n++)
+        unset(n);
+}
+
+/* Sets the store's cursor on the first record from the walk's key on, or behind it where that was given; 0 where none is. */
+static int set(int n, struct record *found)
+{
+    struct walk *walk = &walks[n];
+    walk->is_set = 1;
+    set_count++;
+    int there = store_seek(n, kept(&walk->from), found);
+    if (there && walk->is_begun && !compare_keys(found->key, kept(&walk->from)))
+        there = store_step(n, found);
+    return there;
+}
+
+static void open_walk(struct bytes *words, int count)
+{
+    static char name_place[LINE], low_place[LINE], high_place[LINE];
+    if (count != 4)
+        return say("bad words");
+    struct bytes name = decoded(words[1], name_place);
+    struct bytes low = decoded(words[2], low_place), high = decoded(words[3], high_place);
+    if (is(words[2], "*"))
+        low.count = 0;
+    if (!sized(name, low, KEY, "oversized key 24") || !sized(high, low, KEY, ""))
+        return;
+    if (walk_of(name) >= 0)
+        return say("cursor open");
+    int n = free_walk();
+    if (n < 0)
+        return say("no room 16");
+    walks[n] = (struct walk){.is_open = 1, .is_bounded = !is(words[3], "*")};
+    keep(&walks[n].name, name);
+    keep(&walks[n].from, low);
+    keep(&walks[n].high, high);
+    say("opened");
+}
+
+static void next(struct bytes name)
+{
+    int n = walk_of(name);
+    struct record found;
+    if (n < 0)
+        return say("no cursor");
+    struct walk *walk = &walks[n];
+    int there = walk->is_set ? store_step(n, &found) : set(n, &found);
+    if (!there || (walk->is_bounded && compare_keys(found.key, kept(&walk->high)) >= 0)) {
+        unset(n);
+        walk->is_open = 0;
+        return say("end");
+    }
+    keep(&walk->from, found.key);
+    walk->is_begun = 1;
+    add_record(found.key, found.value);
+    say("");
+}
+
+static void close_walk(struct bytes name)
+{
+    int n = walk_of(name);
+    if (n < 0)
+        return say("no cursor");
+    unset(n);
+    walks[n].is_open = 0;
+    say("closed");
+}
+
+/* ---- commands ---- */
+
 static void put(struct bytes *words, int count)
 {
     static char key_place[LINE], value_place[LINE];
@@ -167,23 +298,121 @@ static void put(struct bytes *words, int count)
     key = decoded(words[1], key_place);
     if (count == 3)
         value = decoded(words[2], value_place);
-    if (sized(key, value, VALUE, "oversized value 32"))
-        say(store_put(key, value) ? "replaced" : "stored");
+    if (!sized(key, value, VALUE, "oversized value 32"))
+        return;
+    unset_all();
+    say(store_put(key, value) ? "replaced" : "stored");
 }
 
-static void of_key(struct bytes *words, int count, int removes)
+static void take_away(struct bytes key)
+{
+    unset_all();
+    say(store_remove(key) ? "removed" : "absent");
+}
+
+static void get(struct bytes key)
+{
+    if (!store_get(key))
+        say("absent");
+}
+
+static void of_key(struct bytes *words, int count, void (*command)(struct bytes key))
 {
     static char place[LINE];
     struct bytes key;
     if (count != 2)
         return say("bad words");
     key = decoded(words[1], place);
-    if (!sized(key, (struct bytes){place, 0}, 0, ""))
+    if (sized(key, (struct bytes){place, 0}, 0, ""))
+        command(key);
+}
+
+struct item {
+    int puts;
+    struct bytes key, value;
+};
+
+/* The item whose words begin at this one, with its escapes; the place behind its end, 0 where they are no item. */
+static int read_item(struct bytes *words, int count, int at, struct item *item)
+{
+    int end = at;
+    while (end < count && !is(words[end], ";"))
+        end++;
+    item->puts = end > at && is(words[at], "put");
+    if (!item->puts && !(end > at && is(words[at], "remove")))
+        return 0;
+    if (end - at != 2 && !(item->puts && end - at == 3))
+        return 0;
+    item->key = words[at + 1];
+    item->value = (struct bytes){"", 0};
+    if (end - at == 3)
+        item->value = words[at + 2];
+    return end + 1;
+}
+
+/* How many items the words behind `batch` are; 0 where they are no batch. */
+static int read_items(struct bytes *words, int count, struct item *items)
+{
+    int at = 1, item_count = 0;
+    while (item_count < ITEMS && count < WORDS) {
+        at = read_item(words, count, at, &items[item_count++]);
+        if (!at)
+            return 0;
+        if (at > count)
+            return item_count;
+    }
+    return 0;
+}
+
+/* Reads the escapes of the items; 0 where one is too long, which is said. */
+static int all_sized(struct item *items, int count)
+{
+    static char place[LINE];
+    char *at = place;
+    for (int i = 0; i < count; i++) {
+        items[i].key = decoded(items[i].key, at);
+        at += items[i].key.count;
+        items[i].value = decoded(items[i].value, at);
+        at += items[i].value.count;
+        if (!sized(items[i].key, items[i].value, VALUE, "oversized value 32"))
+            return 0;
+    }
+    return 1;
+}
+
+static int is_repeated(struct item *items, int count)
+{
+    for (int i = 0; i < count; i++)
+        for (int before = 0; before < i; before++)
+            if (!compare_keys(items[i].key, items[before].key))
+                return 1;
+    return 0;
+}
+
+static void batch(struct bytes *words, int word_count)
+{
+    struct item items[ITEMS];
+    int puts = 0, replaced = 0, removed = 0, count = read_items(words, word_count, items);
+    char reply[96];
+    if (!count)
+        return say("bad words");
+    if (!all_sized(items, count))
         return;
-    if (removes)
-        say(store_remove(key) ? "removed" : "absent");
-    else if (!store_get(key))
-        say("absent");
+    if (is_repeated(items, count))
+        return say("repeated key");
+    unset_all();
+    store_begin();
+    for (int i = 0; i < count; i++) {
+        puts += items[i].puts;
+        if (items[i].puts)
+            replaced += store_put(items[i].key, items[i].value);
+        else
+            removed += store_remove(items[i].key);
+    }
+    store_commit();
+    int stored = puts - replaced, absent = count - puts - removed;
+    snprintf(reply, sizeof reply, "batch stored=%d replaced=%d removed=%d absent=%d", stored, replaced, removed, absent);
+    say(reply);
 }
 
 static void range(struct bytes *words, int count)
@@ -208,7 +437,75 @@ static void range(struct bytes *words, int count)
     say(end);
 }
 
-static void serve(const char *line, size_t length)
+static void serve(struct bytes *words, int count)
+{
+    if (is(words[0], "put"))
+        put(words, count);
+    else if (is(words[0], "get"))
+        of_key(words, count, get);
+    else if (is(words[0], "remove"))
+        of_key(words, count, take_away);
+    else if (is(words[0], "range"))
+        range(words, count);
+    else if (is(words[0], "batch"))
+        batch(words, count);
+    else if (is(words[0], "open"))
+        open_walk(words, count);
+    else if (is(words[0], "next"))
+        of_key(words, count, next);
+    else if (is(words[0], "close"))
+        of_key(words, count, close_walk);
+    else
+        say("bad command");
+}
+
+/* ---- load texts ---- */
+
+static unsigned long loaded;
+static int is_ended;
+
+/* Takes a line of a load text, which has a record or tells their number. */
+static void load(struct bytes *words, int count)
+{
+    static char key_place[LINE], value_place[LINE];
+    unsigned long told;
+    if (!is_ended && count == 2 && is(words[0], "end") && number(words[1], &told) && told == loaded) {
+        is_ended = 1;
+        return;
+    }
+    if (is_ended || count < 2 || count > 3 || !is(words[0], "record"))
+        fail("no load text");
+    if (loaded++ % store_bulk == 0) {
+        if (loaded > 1)
+            store_commit();
+        store_begin();
+    }
+    struct bytes value = count == 3 ? decoded(words[2], value_place) : (struct bytes){value_place, 0};
+    store_append(decoded(words[1], key_place), value);
+}
+
+static void end_load(void)
+{
+    if (!is_ended)
+        fail("no load text");
+    if (loaded)
+        store_commit();
+}
+
+static void dump(void)
+{
+    struct bytes words[] = {{"range", 5}, {"*", 1}, {"*", 1}};
+    range(words, 3);
+}
+
+/* ---- lines ---- */
+
+static char script[PIECE + LINE + 2];
+
+/* What is done with the words of a line. */
+static void (*take)(struct bytes *words, int count) = serve;
+
+static void take_words(const char *line, size_t length)
 {
     struct bytes words[WORDS];
     int count = 0;
@@ -219,58 +516,60 @@ static void serve(const char *line, size_t length)
             words[count++] = (struct bytes){line + at, end - at};
         at = end + 1;
     }
-    if (!count || words[0].at[0] == '#')
-        return;
-    if (is(words[0], "put"))
-        put(words, count);
-    else if (is(words[0], "get") || is(words[0], "remove"))
-        of_key(words, count, words[0].at[0] == 'r');
-    else if (is(words[0], "range"))
-        range(words, count);
-    else
-        say("bad command");
+    if (count && words[0].at[0] != '#')
+        take(words, count);
 }
 
-/* ---- lines ---- */
-
-static char script[PIECE + LINE + 2];
-
-static void serve_line(const char *line, size_t length)
+static void take_line(const char *line, size_t length)
 {
     if (length > LINE)
-        return say("bad line");
-    serve(line, length && line[length - 1] == '\r' ? length - 1 : length);
+        return take == load ? fail("no load text") : say("bad line");
+    take_words(line, length && line[length - 1] == '\r' ? length - 1 : length);
 }
 
-/* Serves the whole lines among these bytes; how many bytes they take. */
-static size_t serve_lines(size_t count)
+/* Takes the whole lines among these bytes; how many bytes they have. */
+static size_t take_lines(size_t count)
 {
     size_t at = 0;
     for (char *feed; (feed = memchr(script + at, '\n', count - at)); at = (size_t)(feed - script) + 1)
-        serve_line(script + at, (size_t)(feed - script) - at);
+        take_line(script + at, (size_t)(feed - script) - at);
     return at;
+}
+
+/* Takes the lines of standard input; 0 where a read of it failed. */
+static int take_all(void)
+{
+    size_t kept_count = 0;
+    ssize_t taken;
+    while ((taken = read(0, script + kept_count, PIECE)) > 0) {
+        size_t count = kept_count + (size_t)taken, done = take_lines(count);
+        kept_count = count - done;
+        memmove(script, script + done, kept_count);
+        if (kept_count > LINE + 1)
+            kept_count = LINE + 1; /* a longer line is answered alike, whatever it has behind */
+    }
+    if (kept_count && !taken)
+        take_line(script, kept_count);
+    return !taken;
 }
 
 int main(int words, char **word)
 {
-    size_t kept = 0;
-    ssize_t taken;
     if (words == 1)
         return say(store_version()), 0;
-    if (words > 3)
+    int loads = words == 4 && !strcmp(word[3], "load"), dumps = words == 4 && !strcmp(word[3], "dump");
+    if (words > 3 && !loads && !dumps)
         return 2;
-    store_open(word[1], words == 3 ? word[2] : "");
-    while ((taken = read(0, script + kept, PIECE)) > 0) {
-        size_t count = kept + (size_t)taken, served = serve_lines(count);
-        kept = count - served;
-        memmove(script, script + served, kept);
-        if (kept > LINE + 1)
-            kept = LINE + 1; /* a longer line is answered alike, whatever it has behind */
-    }
-    if (taken < 0)
+    store_open(word[1], words > 2 ? word[2] : "");
+    if (loads)
+        take = load;
+    if (dumps)
+        dump();
+    else if (!take_all())
         return 5;
-    if (kept)
-        serve_line(script, kept);
+    if (loads)
+        end_load();
+    unset_all();
     store_close();
     return 0;
 }

@@ -1,5 +1,6 @@
 /* SQLite behind the program's script language. Setting: delete or wal, and behind a comma the cache in MiB.
-   As its manual advises: prepared statements, a table without rowid, `synchronous=full`. */
+   As its manual advises: prepared statements, a table without rowid, `synchronous=full`, a load in one transaction. A cursor is
+   a statement that is stepped: it is left before each update, since what it would see of one isn't told. */
 #include "script.h"
 #include <sqlite3.h>
 #include <stdio.h>
@@ -7,7 +8,8 @@
 #include <string.h>
 
 static sqlite3 *store;
-static sqlite3_stmt *insert, *update, *delete, *find, *walk;
+static sqlite3_stmt *begin, *commit, *insert, *update, *delete, *find, *walk, *cursors[CURSORS];
+const unsigned long store_bulk = ~0UL;
 
 static void execute(const char *words)
 {
@@ -36,6 +38,8 @@ void store_open(const char *file, const char *setting)
         execute(words);
     }
     execute("create table if not exists records(key blob primary key, value blob) without rowid");
+    begin = prepared("begin immediate");
+    commit = prepared("commit");
     insert = prepared("insert or ignore into records values(?1, ?2)");
     update = prepared("update records set value = ?2 where key = ?1");
     delete = prepared("delete from records where key = ?1");
@@ -63,6 +67,16 @@ static int done(sqlite3_stmt *statement)
     return sqlite3_changes(store);
 }
 
+void store_begin(void)
+{
+    done(begin);
+}
+
+void store_commit(void)
+{
+    done(commit);
+}
+
 int store_put(struct bytes key, struct bytes value)
 {
     bind(insert, 1, key);
@@ -78,6 +92,13 @@ int store_remove(struct bytes key)
 {
     bind(delete, 1, key);
     return done(delete);
+}
+
+void store_append(struct bytes key, struct bytes value)
+{
+    bind(insert, 1, key);
+    bind(insert, 2, value);
+    done(insert);
 }
 
 int store_get(struct bytes key)
@@ -103,8 +124,33 @@ void store_range(struct bytes low, const struct bytes *high, unsigned long limit
     sqlite3_reset(walk);
 }
 
+int store_seek(int cursor, struct bytes low, struct record *found)
+{
+    if (!cursors[cursor])
+        cursors[cursor] = prepared("select key, value from records where key >= ?1 order by key");
+    sqlite3_bind_blob(cursors[cursor], 1, low.at, (int)low.count, SQLITE_TRANSIENT);
+    return store_step(cursor, found);
+}
+
+int store_step(int cursor, struct record *found)
+{
+    if (sqlite3_step(cursors[cursor]) != SQLITE_ROW)
+        return 0;
+    *found = (struct record){column(cursors[cursor], 0), column(cursors[cursor], 1)};
+    return 1;
+}
+
+void store_leave(int cursor)
+{
+    sqlite3_reset(cursors[cursor]);
+}
+
 void store_close(void)
 {
+    for (int n = 0; n < CURSORS; n++)
+        sqlite3_finalize(cursors[n]);
+    sqlite3_finalize(begin);
+    sqlite3_finalize(commit);
     sqlite3_finalize(insert);
     sqlite3_finalize(update);
     sqlite3_finalize(delete);

@@ -3,6 +3,9 @@ import random
 
 SEED = 7
 KEYS = 10**10  # random keys are numbers below, ascending ones stand above
+ITEMS = 16  # of a batch
+WALKED = 100000  # records that a cursor goes over, where there are so many
+BATCH, BY_PUTS, CURSOR, BY_RANGE = "batch of 16", "batch of 16, by puts", "cursor", "cursor, by range"
 
 
 def key(number):
@@ -11,6 +14,11 @@ def key(number):
 
 def value(n):
     return b"%032x" % (n * 0x9E3779B97F4A7C15F39CC0605CEDC835 % (1 << 128))
+
+
+def short_value(n):
+    """Of 7 bytes: so long they may be for a line to have room for a batch of 16."""
+    return b"%07x" % (n * 0x9E3779B1 % (1 << 28))
 
 
 class Workloads:
@@ -22,6 +30,8 @@ class Workloads:
         self.gets = 100000 if records > 100000 else 20000
         self.updates = 10000 if records > 100000 else 4000 if self.small else 2000
         self.scans = self.gets // 10
+        self.walked = min(WALKED, records)
+        self.walks = max(1, self.gets // self.walked)
         fresh = 2 if self.small else self.updates + self.scans // 20 + 1
         numbers = random.Random(SEED).sample(range(KEYS), records + fresh * (2 * rounds + 3) + 1000)
         self.keys = [key(n) for n in numbers[:records]]
@@ -82,14 +92,39 @@ class Workloads:
                 lines.append(b"range %s * %d\n" % (r.choice(self.keys), r.randint(1, 100)))
         return lines
 
+    def items(self, turn):
+        """Lists of 16 present keys, no two alike in one list."""
+        r = random.Random(SEED + 400 + turn)
+        return [r.sample(self.keys, ITEMS) for _ in range(self.updates // ITEMS)]
+
+    def batches(self, turn):
+        lines = []
+        for n, keys in enumerate(self.items(turn)):
+            puts = [b"put %s %s" % (k, short_value(turn * 1000033 + n + place)) for place, k in enumerate(keys)]
+            lines.append(b"batch " + b" ; ".join(puts) + b"\n")
+        return lines
+
+    def by_puts(self, turn, value_of):
+        keys = [k for some in self.items(turn) for k in some]
+        return [b"put %s %s\n" % (k, value_of(turn * 1000037 + n)) for n, k in enumerate(keys)]
+
+    def walk(self):
+        return ([b"open c * *\n"] + [b"next c\n"] * self.walked + [b"close c\n"]) * self.walks
+
+    def counted(self, name, lines):
+        """How many a script counts as: a batch as its items, a walk and its range as the records; else each line as one."""
+        if name in (CURSOR, BY_RANGE):
+            return self.walks * self.walked
+        return len(lines) * (ITEMS if name == BATCH else 1)
+
     def restored(self, turn):
         """Takes away what `fillseq` and `mostly scans` added."""
         if self.small:
             return [b"remove %s\n" % self.fresh[turn][0]]
         return [b"remove %s\n" % k for k in [key(KEYS + n) for n in range(self.updates)] + self.fresh[turn][self.updates:]]
 
-    def turn(self, turn):
-        """(Name, lines) in order, of one round; what has no name isn't timed."""
+    def turn(self, turn, cursors):
+        """(Name, lines) in order, of one round, with cursors or without; what has no name isn't timed."""
         r = random.Random(SEED + 300 + turn)
         some = [r.choice(self.keys) for _ in range(self.gets)]
         yield "readrandom", [b"get %s\n" % k for k in some]
@@ -97,6 +132,12 @@ class Workloads:
         yield "seekrandom 10", [b"range %s * 10\n" % k for k in some[:self.gets // 5]]
         yield "seekrandom 100", [b"range %s * 100\n" % k for k in some[:self.gets // 20]]
         yield "readseq", [b"range * *\n"] * max(1, 100000 // self.records)
+        if cursors:
+            yield CURSOR, self.walk()
+        yield BY_RANGE, [b"range * * %d\n" % self.walked] * self.walks
+        yield BATCH, self.batches(turn)
+        yield BY_PUTS, self.by_puts(turn, short_value)
+        yield None, self.by_puts(turn, value)
         yield "overwrite", self.overwrite(turn)
         yield "half and half", self.half_and_half(turn)
         yield "mostly scans", self.mostly_scans(turn)
@@ -107,8 +148,23 @@ class Workloads:
         yield None, self.restored(turn)
 
 
-def odd_lines(count):
-    """Escapes, sizes at the limits, and each refused line: what a driver must answer as the program does."""
+def orders(count):
+    """(Name, numbers of keys) of the orders in which so many keys are put: at one place, each comes between the two before it."""
+    yield "random", random.Random(SEED).sample(range(KEYS), count)
+    yield "ascending", range(count)
+    yield "descending", range(count, 0, -1)
+    yield "one place", [KEYS - n // 2 if n % 2 else n // 2 for n in range(count)]
+
+
+def charged(numbers, marks):
+    """Puts of these keys without values, with `cost` behind each count of puts that is marked."""
+    for n, number in enumerate(numbers, 1):
+        yield b"put " + key(number) + (b"\ncost\n" if n in marks else b"\n")
+
+
+def odd_lines(count, cursors):
+    """Escapes, sizes at the limits, and each refused line, of cursors too where they are wanted: what a driver must answer as
+    the program does."""
     r = random.Random(SEED)
     parts = [b"a", b"b", b"%00", b"%2A", b"*", b"#", b"%", b"%4", b"%zz", b"%fF", b"\x80", b"\t", b"~", b"k%20k"]
     limits = [b"", b" 3", b" 0", b" 01", b" 4294967295", b" 4294967296", b" -1", b" x"]
@@ -116,6 +172,22 @@ def odd_lines(count):
     def word(most):
         return b"".join(r.choice(parts) for _ in range(r.randint(1, most)))
 
+    def item():
+        return r.choice([b"put " + word(2), b"put " + word(2) + b" " + word(6), b"remove " + word(2), b"remove " + word(1)])
+
+    def many():
+        return b" ; ".join(b"put k%d" % (n % r.choice([17, 17, 9])) for n in range(r.choice([2, 15, 16, 17])))
+
+    asked = [
+        lambda: b"open " + word(1) + b" " + word(1) + b" " + word(1),
+        lambda: b"open " + word(1) + b" * *",
+        lambda: b"open " + word(1) + b" " + b"k" * r.choice([1, 24, 25]) + b" " + word(1) + r.choice([b"", b" x"]),
+        lambda: b"open " + b"n" * r.randint(20, 25) + b" * " + word(3),
+        lambda: b"open c%d * *" % r.randint(0, 20),
+        lambda: r.choice([b"close ", b"next ", b"next "]) + b"c%d" % r.randint(0, 20),
+        lambda: b"close " + word(1),
+        *[lambda: b"next " + word(1)] * 6,
+    ]
     kinds = [
         lambda: b"put " + word(4) + b" " + word(6),
         lambda: b"put " + word(4),
@@ -129,5 +201,10 @@ def odd_lines(count):
         lambda: b"#" + word(4),
         lambda: b"",
         lambda: b" ".join(word(2) for _ in range(r.randint(1, 6))),
+        lambda: b"batch " + b" ; ".join(item() for _ in range(r.randint(1, 4))),
+        lambda: b"batch " + b" ".join(r.choice([b"put", b"remove", b";", b"a"]) for _ in range(r.choice([2, 3, 5, 80]))),
+        lambda: b"batch put " + b"k" * r.choice([23, 24, 25]) + b" " + b"v" * r.choice([31, 32, 33]) + b" ; remove ;",
+        lambda: b"batch " + many(),
     ]
+    kinds += asked if cursors else []
     return [r.choice(kinds)() + r.choice([b"", b"", b"\r"]) + b"\n" for _ in range(count)] + [b"get a\r"]
