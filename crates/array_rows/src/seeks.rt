@@ -1,11 +1,11 @@
 //! The next record behind a key is looked for: which is found, how many segments are read for it, and a look that fails.
 
-ghost use Rattle.std.specs.Prelude.{◌≤◌, OnOk, IfOk};
+ghost use Rattle.std.specs.Prelude.{◌≡◌, ◌≤◌, OnOk, IfOk};
 ghost use Rattle.pma_store.specs.Store.{IsOpenOn};
 ghost use Rattle.station.specs.MemStation.{mem_view};
 
-use crate::files::{Counts, FORMATS, file_of, lay, layout_of, place_of, row};
-use crate::untold::UntoldStation;
+use crate::files::{Counts, FORMATS, file_of, layout_of, place_of, row};
+use crate::untold::untold;
 use key_slot::{Key, Row};
 use pma_store::{Metered, Store};
 use range_scan::Seek;
@@ -129,6 +129,20 @@ fn a_look_that_fails_closes_the_store(rt: HostRuntime) -> Result<(), Fail> {
     Ok(())
 }
 
+// Puts zeros over the slot at a place of a station's file.
+fn lose<S: Station>(rt: &impl Abort, station: &mut S, place: u64) -> Result<(), Fail>
+    ensures { (S.view station.new).fixed ≡ (S.view station.old).fixed }
+{
+    let Ok(end) = station.len() else {
+        return Err("no length".into());
+    };
+    assert!(rt; 64 <= end && place <= end - 64);
+    let Ok(()) = station.write_at(place, &[0; 64]) else {
+        return Err("no write".into());
+    };
+    Ok(())
+}
+
 // What a store of two segments answers that is asked for the record behind one of a number, once the last record of a segment,
 // which stood in this slot, is lost.
 fn look_at_loss(
@@ -139,11 +153,11 @@ fn look_at_loss(
     past: u32,
 ) -> Result<(Result<Option<Row>, StoreFault>, bool), Fail> {
     let layout = layout_of(1, 2, 4);
-    let mut station = UntoldStation::new(file_of(rt, alloc, layout, 1, TWO)?);
+    let mut station = untold(rt, alloc, &file_of(rt, alloc, layout, 1, TWO)?)?;
     let mut store = Metered::new(Store::open_on(alloc, &mut station)?);
-    let place = place_of(rt, layout, 0, segment);
+    let place = place_of(rt, layout, 0, segment) as u64;
     assert!(rt; slot < 64 && place < 1000000);
-    lay(rt, &mut station.file, place + 64 * slot as usize, &[0; 64]);
+    lose(rt, &mut station, place + 64 * slot as u64)?;
     let past = row(past, 1)?.key;
     let found = store.first_row(&mut station, None, Some(past), None);
     Ok((found, store.closed()))

@@ -1,96 +1,81 @@
-//! A station that tells nothing, and whose file may become another one behind a store's back.
+//! A station that tells nothing of another one, to which it hands each call.
 
-ghost use Rattle.std.specs.Prelude.{◌≡◌, ◌+◌, ◌-◌, ◌^◌, ◌≤◌, min, IsErr};
+use crate::files::noting;
+use station::{CrashStation, Failed, MemStation, SayFailed, Station, Travel};
+use std::alloc::Global;
+use std::process::Abort;
+use std::test::Fail;
 
-use station::{Failed, SayFailed, Station, Travel};
-
-// The longest file that it serves, in bytes.
-const REACH: usize = 1 << 40;
-
-/// A file that is only read.
+/// A station in memory of which nothing is told, as of the operating system's.
 #[derive(Drop)]
 pub struct UntoldStation {
-    pub file: Vec<u8>,
-    attached: Option<bool>,
-    calls: u64,
-    disk_faults: u64,
-    say_faults: u64,
-    travel: Travel,
-}
-
-impl UntoldStation {
-    pub fn new(file: Vec<u8>) -> UntoldStation {
-        UntoldStation {
-            file,
-            attached: None,
-            calls: 0,
-            disk_faults: 0,
-            say_faults: 0,
-            travel: Travel::START,
-        }
-    }
-
-    // Counts a fault of the disk, and answers it.
-    fn disk_fault<T>(&mut self) -> Result<T, Failed>
-        ensures later { self.old.disk_faults ≤ self.new.disk_faults }
-        ensures counted { self.new ≡ record self.old { disk_faults = min (self.old.disk_faults + 1) (2 ^ 64 - 1) } }
-        ensures failed { IsErr result }
-    {
-        self.disk_faults = self.disk_faults.saturating_add(1);
-        Err(Failed)
-    }
+    /// The station that does what is asked.
+    pub inner: CrashStation,
 }
 
 impl Station for UntoldStation {
-    ghost use Rattle.array_rows.specs.Views.{untold, untold_lawful};
+    ghost use Rattle.station.specs.CrashStation.{crash_view, crash_lawful};
+    ghost use Rattle.array_rows.specs.Untold.{untell, untold_lawful};
 
-    ghost view = { λ s. untold s.attached s.calls s.disk_faults s.say_faults s.travel };
+    ghost view = { λ s. untell (crash_view s.inner) };
 
-    ghost lawful = { λ s. untold_lawful s.attached s.calls s.disk_faults s.say_faults s.travel };
+    ghost lawful = { λ s. untold_lawful (crash_view s.inner) (crash_lawful s.inner) };
 
-    fn attach(&mut self, _name: &str, make: bool) -> Result<(), Failed> {
-        self.calls = self.calls.saturating_add(1);
-        self.attached = Some(make);
-        Ok(())
+    fn attach(&mut self, name: &str, make: bool) -> Result<(), Failed> {
+        self.inner.attach(name, make)
     }
 
     fn len(&mut self) -> Result<u64, Failed> {
-        self.calls = self.calls.saturating_add(1);
-        Ok(self.file.len().min(REACH) as u64)
+        self.inner.len()
     }
 
-    fn set_len(&mut self, _n: u64) -> Result<(), Failed> {
-        self.calls = self.calls.saturating_add(1);
-        self.disk_fault()
+    fn set_len(&mut self, n: u64) -> Result<(), Failed> {
+        self.inner.set_len(n)
     }
 
     fn read_at(&mut self, pos: u64, buf: &mut [u8]) -> Result<(), Failed> {
-        self.travel.add_read(pos, buf.len() as u64);
-        for (k, byte) in buf.iter_mut().enumerate() {
-            *byte = self.file.get(pos as usize + k).copied().unwrap_or(0);
-        }
-        self.calls = self.calls.saturating_add(1);
-        Ok(())
+        self.inner.read_at(pos, buf)
     }
 
-    fn write_at(&mut self, _pos: u64, bytes: &[u8]) -> Result<(), Failed> {
-        self.calls = self.calls.saturating_add(1);
-        self.travel.add_write(bytes.len() as u64);
-        self.disk_fault()
+    fn write_at(&mut self, pos: u64, bytes: &[u8]) -> Result<(), Failed> {
+        self.inner.write_at(pos, bytes)
     }
 
     fn sync(&mut self) -> Result<(), Failed> {
-        self.calls = self.calls.saturating_add(1);
-        Ok(())
+        self.inner.sync()
     }
 
-    fn say(&mut self, _bytes: &[u8]) -> Result<usize, SayFailed> {
-        self.calls = self.calls.saturating_add(1);
-        self.say_faults = self.say_faults.saturating_add(1);
-        Err(SayFailed)
+    fn say(&mut self, bytes: &[u8]) -> Result<usize, SayFailed> {
+        self.inner.say(bytes)
     }
 
     fn travel(&self) -> Travel {
-        self.travel
+        self.inner.travel()
     }
+}
+
+/// A station that holds a file, of which nothing is told.
+pub fn untold(rt: &impl Abort, alloc: Global, file: &[u8]) -> Result<UntoldStation, Fail> {
+    Ok(UntoldStation {
+        inner: noting(rt, alloc, file)?,
+    })
+}
+
+/// One of which besides the call with this number fails, or from it on every call.
+pub fn failing(
+    rt: &impl Abort,
+    alloc: Global,
+    file: &[u8],
+    call: u32,
+    is_last: bool,
+) -> Result<UntoldStation, Fail> {
+    assert!(rt; file.len() < 1000000);
+    let inner = if is_last {
+        MemStation::new(alloc, file, file.len(), 0, &[], Some(call))?
+    } else {
+        MemStation::new(alloc, file, file.len(), 0, &[call], None)?
+    };
+    Ok(UntoldStation {
+        inner: CrashStation::new(alloc, inner, 400, 1000000)?,
+    })
 }

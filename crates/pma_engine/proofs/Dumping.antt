@@ -26,6 +26,7 @@ use Rattle.pma_store.specs.Opens.{IsAllAtRest}
 use Rattle.pma_store.specs.Store.{StoreView}
 use Rattle.pma_engine.specs.Carrying.{Looks}
 use Rattle.pma_engine.specs.Dumping.{DumpsFile, DumpsOpened, IsDumpStatus, SaidFront, dump_text}
+use Rattle.pma_engine.specs.Closing.{IsButClosed, WritesGate}
 use Rattle.pma_engine.specs.Opening.{IsOpened, IsUnopened, Reopens, reopening_cost}
 use Rattle.pma_engine.specs.Outcome.{IsRefused}
 use Rattle.pma_engine.specs.Ranging.{SaysSweep, scan_text}
@@ -34,6 +35,7 @@ use Rattle.pma_engine.specs.Upgrading.{KeepsMeaning}
 use Rattle.pma_engine.specs.declared.fault.ServeFault.{ServeFault}
 use Rattle.pma_engine.specs.declared.fault.ServeFault.TheVariants as serving
 use Rattle.pma_engine.specs.declared.status.TheConstants.{DONE, REFUSED, DISK_FAULT, REPLY_FAULT, OUT_OF_MEMORY}
+use Rattle.pma_engine.proofs.Closing.{but_of}
 use Rattle.pma_engine.proofs.Ending.{run_damaged, last_line, on_done, of_disk, of_reply, no_line}
 use Rattle.pma_engine.proofs.Meant.{opened_map}
 use Rattle.pma_engine.proofs.OutcomeLaws.{damaged_refused, no_map, not_store_refused}
@@ -126,7 +128,7 @@ pub record Comes (status : ℕ) (a b : View) : Type 0 where
 module _ (a b : View) (law : Lawful a) (ab : Steps Reopens (attached_by false a) b) where
   module _ (d : View) where
     -- a file that was not opened isn't refused
-    quiet_file : (fault : OpenFault) → IsUnopened fault a b → (status : ℕ) → (status ≡ DISK_FAULT) ⊎ (status ≡ OUT_OF_MEMORY) → (status ≡ DISK_FAULT → fault ≡ opening.Failed) → (status ≡ OUT_OF_MEMORY → fault ≡ opening.Memory) → Comes status a b
+    quiet_file : (fault : OpenFault) → IsUnopened fault (attached_by false a) b → (status : ℕ) → (status ≡ DISK_FAULT) ⊎ (status ≡ OUT_OF_MEMORY) → (status ≡ DISK_FAULT → fault ≡ opening.Failed) → (status ≡ OUT_OF_MEMORY → fault ≡ opening.Memory) → Comes status a b
     quiet_file fault unopened status is failed memory = record {
       status_is = elim is [ inl e ↦ inr (inr (inl e)) | inr e ↦ inr (inr (inr (inr e))) ];
       attached = ab.frame.attached;
@@ -140,7 +142,7 @@ module _ (a b : View) (law : Lawful a) (ab : Steps Reopens (attached_by false a)
         settled = λ e. absurd (elim e [ inl x ↦ other DONE ((λ y. omega (arith, y)), (λ y. omega (arith, y))) x | inr x ↦ other REPLY_FAULT ((λ y. omega (arith, y)), (λ y. omega (arith, y))) x ]);
         complete = λ told m here calm_disk calm_reply. elim is [ inl e ↦ absurd (calm_disk (unopened.failed (failed e))) | inr e ↦ inr e ];
         unwritten = unopened.unwritten;
-        kept = λ no_disk told rest. elim is [ inl e ↦ absurd (no_disk e) | inr e ↦ (unopened.memory (memory e)).steps.held told ];
+        kept = λ no_disk told rest. elim is [ inl e ↦ absurd (no_disk e) | inr e ↦ but_of (unopened.memory (memory e)).closes told ];
         written = unopened.cost;
       };
       disk = λ e. unopened.failed (failed e);
@@ -151,7 +153,7 @@ module _ (a b : View) (law : Lawful a) (ab : Steps Reopens (attached_by false a)
         other n none e = elim is [ inl x ↦ none.0 (sym e ∙ x) | inr x ↦ none.1 (sym e ∙ x) ]
 
     -- it is refused, and means no map
-    refused_file : (fault : OpenFault) → IsUnopened fault a b → IsRefused a d → {text : List ℕ} → Says text b d → (Told a → IsAllAtRest a.held → b.held ≡ a.held) → (Told a → (m : Map) → MeansMap a.held m → ⊥) → Comes REFUSED a d
+    refused_file : (fault : OpenFault) → IsUnopened fault (attached_by false a) b → IsRefused a d → {text : List ℕ} → Says text b d → (Told a → IsAllAtRest a.held → IsButClosed a.held a.held b.held) → (Told a → (m : Map) → MeansMap a.held m → ⊥) → Comes REFUSED a d
     refused_file fault unopened refused says kept never = record {
       status_is = inr (inl refl);
       attached = says.attached ∙ ab.frame.attached;
@@ -164,15 +166,15 @@ module _ (a b : View) (law : Lawful a) (ab : Steps Reopens (attached_by false a)
         memory = λ e. absurd (omega (arith, e));
         settled = λ e. absurd (elim e [ inl x ↦ omega (arith, x) | inr x ↦ omega (arith, x) ]);
         complete = λ told m here. absurd (never told m here);
-        unwritten = λ told rest. ap (λ (x : Travel). x.written) says.travel ∙ unopened.unwritten told rest;
-        kept = λ other told rest. says.held ∙ kept told rest;
+        unwritten = λ told rest. subst (WritesGate a.held a.travel.written) (sym (ap (λ (x : Travel). x.written) says.travel)) (unopened.unwritten told rest);
+        kept = λ other told rest. subst (IsButClosed a.held a.held) (sym says.held) (kept told rest);
         written = λ told. omega (arith, unopened.cost told, ap (λ (x : Travel). x.written) says.travel);
       };
       disk = λ e. absurd (omega (arith, e));
       reply = λ e. absurd (omega (arith, e));
     }
 
-    pub comes_unopened : (fault : OpenFault) → IsUnopened fault a b → (line_of_opening fault ≡ None → d ≡ b) → Says (line_text (line_of_opening fault)) b d → ((line : Reply) → line_of_opening fault ≡ Some line → SaidTold b → SaysLine line b.said b d)
+    pub comes_unopened : (fault : OpenFault) → IsUnopened fault (attached_by false a) b → (line_of_opening fault ≡ None → d ≡ b) → Says (line_text (line_of_opening fault)) b d → ((line : Reply) → line_of_opening fault ≡ Some line → SaidTold b → SaysLine line b.said b d)
         → Comes (status_of_opening fault) a d
     comes_unopened opening.Memory unopened silent says line = subst (Comes OUT_OF_MEMORY a) (sym (silent refl)) (quiet_file opening.Memory unopened OUT_OF_MEMORY (inr refl) (λ e. absurd (omega (arith, e))) (λ e. refl))
     comes_unopened opening.Failed unopened silent says line = subst (Comes DISK_FAULT a) (sym (silent refl)) (quiet_file opening.Failed unopened DISK_FAULT (inl refl) (λ e. refl) (λ e. absurd (omega (arith, e))))
@@ -184,7 +186,7 @@ module _ (a b : View) (law : Lawful a) (ab : Steps Reopens (attached_by false a)
         (λ told. absurd (unopened.undamaged told)) (λ told. absurd (unopened.undamaged told))
 
   -- of a file that was opened
-  module _ (v : StoreView) (opened : IsOpened v a b) (status : ℕ) (d : View) (dumps : DumpsOpened status b d) where
+  module _ (v : StoreView) (opened : IsOpened v (attached_by false a) b) (status : ℕ) (d : View) (dumps : DumpsOpened status b d) where
     on : Told a → Told b
     on told = ap (λ f. f.tells_held) ab.frame.fixed ∙ told
 
@@ -252,8 +254,8 @@ module _ (a b : View) (law : Lawful a) (ab : Steps Reopens (attached_by false a)
           | inr (inr (inl e)) ↦ absurd (calm_disk (disk e))
           | inr (inr (inr e)) ↦ absurd (calm_reply (cut e))
         ];
-        unwritten = λ told rest. dumps.looks.unwritten ∙ opened.unwritten told rest;
-        kept = λ other told rest. dumps.looks.held (on told) ∙ opened.kept told rest;
+        unwritten = λ told rest. subst (WritesGate a.held a.travel.written) (sym dumps.looks.unwritten) (opened.unwritten told rest);
+        kept = λ other told rest. subst (IsButClosed a.held a.held) (sym (dumps.looks.held (on told))) (opened.kept told rest);
         written = λ told. omega (arith, opened.cost told, dumps.looks.unwritten);
       };
       disk = disk;

@@ -44,6 +44,7 @@ use Rattle.command_text.specs.declared.reply.Reply.TheVariants as reply
 use Rattle.pma_store.specs.Opens.{IsAllAtRest}
 use Rattle.pma_store.specs.Store.{StoreView, IsOpenOn}
 use Rattle.pma_engine.specs.Loading.{AnswersLoad, HasText, IsCutText, IsFileLoaded, IsLoadRefused, IsLoadStatus, IsWrongAt, LoadsFile, LoadsOpened, MayLoad, line_of_load, load_cost, status_of_load}
+use Rattle.pma_engine.specs.Closing.{IsButClosed, WritesGate}
 use Rattle.pma_engine.specs.Opening.{IsOpened, IsUnopened, Reopens, reopening_cost}
 use Rattle.pma_engine.specs.Jobs.{TakesNothing}
 use Rattle.pma_engine.specs.Outcome.{empty_map}
@@ -339,7 +340,7 @@ may_keep s keeps m here = inl (keeps m here)
 
 module _ (most : ℕ) (s : SourceView) (a b : View) (law : Lawful a) (ab : Steps Reopens (attached_by false a) b) (d : View) where
   -- of a file that was not opened, and isn't refused
-  quiet_file : (fault : OpenFault) → IsUnopened fault a b → (status : ℕ) → (status ≡ DISK_FAULT) ⊎ (status ≡ OUT_OF_MEMORY) → (status ≡ DISK_FAULT → fault ≡ opening.Failed) → (status ≡ OUT_OF_MEMORY → fault ≡ opening.Memory) → Comes status most s s a b
+  quiet_file : (fault : OpenFault) → IsUnopened fault (attached_by false a) b → (status : ℕ) → (status ≡ DISK_FAULT) ⊎ (status ≡ OUT_OF_MEMORY) → (status ≡ DISK_FAULT → fault ≡ opening.Failed) → (status ≡ OUT_OF_MEMORY → fault ≡ opening.Memory) → Comes status most s s a b
   quiet_file fault unopened status is failed memory = record {
     status_is = inr (inr is);
     attached = ab.frame.attached;
@@ -392,7 +393,7 @@ module _ (most : ℕ) (s : SourceView) (a b : View) (law : Lawful a) (ab : Steps
     script = λ e. absurd (omega (arith, e));
   }
 
-  pub comes_unopened : (fault : OpenFault) → IsUnopened fault a b → (line_of_opening fault ≡ None → d ≡ b) → Says (line_text (line_of_opening fault)) b d → ((line : Reply) → line_of_opening fault ≡ Some line → SaidTold b → SaysLine line b.said b d)
+  pub comes_unopened : (fault : OpenFault) → IsUnopened fault (attached_by false a) b → (line_of_opening fault ≡ None → d ≡ b) → Says (line_text (line_of_opening fault)) b d → ((line : Reply) → line_of_opening fault ≡ Some line → SaidTold b → SaysLine line b.said b d)
       → Comes (status_of_opening fault) most s s a d
   comes_unopened opening.Memory unopened silent says line = subst (Comes OUT_OF_MEMORY most s s a) (sym (silent refl)) (quiet_file opening.Memory unopened OUT_OF_MEMORY (inr refl) (λ e. absurd (omega (arith, e))) (λ e. refl))
   comes_unopened opening.Failed unopened silent says line = subst (Comes DISK_FAULT most s s a) (sym (silent refl)) (quiet_file opening.Failed unopened DISK_FAULT (inl refl) (λ e. refl) (λ e. absurd (omega (arith, e))))
@@ -400,9 +401,9 @@ module _ (most : ℕ) (s : SourceView) (a b : View) (law : Lawful a) (ab : Steps
       refused_file (record {
         line = λ told. (reply.NotStore reason, tt, from told);
         why = λ told. (reply.NotStore reason, inl (reason, unopened.refused reason refl told, refl), from);
-        recovers = λ told r is. ap (recovered (layout_in a.held)) says.held ∙ unopened.recovers reason refl told;
-        even = λ told r is even. says.held ∙ unopened.even reason refl told even;
-        kept = λ told rest some. (says.held ∙ unopened.even reason refl told rest.rest.gate_even, ap (λ (t : Travel). t.written) says.travel ∙ unopened.unwritten told rest);
+        recovers = λ told r is. subst (λ (x : List ℕ). IsButClosed a.held (recovered (layout_in a.held) a.held) (recovered (layout_in a.held) x)) (sym says.held) (unopened.recovers reason refl told);
+        even = λ told r is even. subst (IsButClosed a.held a.held) (sym says.held) (unopened.even reason refl told even);
+        kept = λ told rest some. (subst (IsButClosed a.held a.held) (sym says.held) (unopened.even reason refl told rest.rest.gate_even), subst (WritesGate a.held a.travel.written) (sym (ap (λ (t : Travel). t.written) says.travel)) (unopened.unwritten told rest));
       }) says (no_map a b ab d reason unopened)
     where
       from : SaidTold a → SaysLine (reply.NotStore reason) a.said a d
@@ -420,7 +421,7 @@ module _ (most : ℕ) (s : SourceView) (a b : View) (law : Lawful a) (ab : Steps
       from told = said_since a b d (reply.Damaged segment why) ab.frame.said (sym ab.frame.say_faults) (line (reply.Damaged segment why) refl (ap (λ f. f.tells_said) ab.frame.fixed ∙ told))
 
 -- of a file that was opened
-module _ (most : ℕ) (s0 s1 : SourceView) (a b : View) (law : Lawful a) (ab : Steps Reopens (attached_by false a) b) (v : StoreView) (opened : IsOpened v a b) where
+module _ (most : ℕ) (s0 s1 : SourceView) (a b : View) (law : Lawful a) (ab : Steps Reopens (attached_by false a) b) (v : StoreView) (opened : IsOpened v (attached_by false a) b) where
   on : Told a → Told b
   on told = ap (λ f. f.tells_held) ab.frame.fixed ∙ told
 
@@ -478,7 +479,7 @@ module _ (most : ℕ) (s0 s1 : SourceView) (a b : View) (law : Lawful a) (ab : S
       even = λ told r is. absurd (none_some (sym (opened.sound told) ∙ is));
       kept = λ told rest some.
           let same = loads.left (omega (arith, some, same_records told)) in
-          (same.0 ∙ opened.kept told rest, same.1 ∙ opened.unwritten told rest);
+          (subst (IsButClosed a.held a.held) (sym same.0) (opened.kept told rest), subst (WritesGate a.held a.travel.written) (sym same.1) (opened.unwritten told rest));
     }
       where
         none_some : {r : Reason} → None ≡ Some r → ⊥

@@ -40,6 +40,7 @@ use Rattle.command_text.specs.Reply.{reply_text}
 use Rattle.command_text.specs.declared.reply.Reply.{Reply}
 use Rattle.command_text.specs.declared.reply.Reply.TheVariants as reply
 use Rattle.pma_store.specs.Store.{StoreView, IsOpenOn}
+use Rattle.pma_engine.specs.Closing.{IsButClosed, WritesGate}
 use Rattle.pma_engine.specs.Opening.{IsOpened, IsUnopened, Reopens, reopening_cost}
 use Rattle.pma_engine.specs.Refusing.{IsRefusal, SaysLine, line_text, line_of_opening, status_of_opening}
 use Rattle.pma_engine.specs.Upgrading.{IsUpgradeStatus, AnswersUpgrade, IsUpgradeRefused, IsUpgraded, KeepsMeaning, next_height, opened_height, UpgradesFile, UpgradesOpened, line_of_upgrade, status_of_upgrade, upgrade_cost}
@@ -278,7 +279,7 @@ module _ (a b : View) (law : Lawful a) (ab : Steps Reopens (attached_by false a)
 
   module _ (d : View) where
     -- it isn't refused
-    quiet : (fault : OpenFault) → IsUnopened fault a b → (status : ℕ) → (status ≡ DISK_FAULT) ⊎ (status ≡ OUT_OF_MEMORY) → (status ≡ DISK_FAULT → fault ≡ opening.Failed) → (status ≡ OUT_OF_MEMORY → fault ≡ opening.Memory) → Comes status a b
+    quiet : (fault : OpenFault) → IsUnopened fault (attached_by false a) b → (status : ℕ) → (status ≡ DISK_FAULT) ⊎ (status ≡ OUT_OF_MEMORY) → (status ≡ DISK_FAULT → fault ≡ opening.Failed) → (status ≡ OUT_OF_MEMORY → fault ≡ opening.Memory) → Comes status a b
     quiet fault unopened status is failed memory = record {
       status_is = inr (inr is);
       attached = ab.frame.attached;
@@ -318,7 +319,7 @@ module _ (a b : View) (law : Lawful a) (ab : Steps Reopens (attached_by false a)
       disk = λ e. absurd (omega (arith, e));
     }
 
-    pub comes_unopened : (fault : OpenFault) → IsUnopened fault a b → (line_of_opening fault ≡ None → d ≡ b) → Says (line_text (line_of_opening fault)) b d → ((line : Reply) → line_of_opening fault ≡ Some line → SaidTold b → SaysLine line b.said b d)
+    pub comes_unopened : (fault : OpenFault) → IsUnopened fault (attached_by false a) b → (line_of_opening fault ≡ None → d ≡ b) → Says (line_text (line_of_opening fault)) b d → ((line : Reply) → line_of_opening fault ≡ Some line → SaidTold b → SaysLine line b.said b d)
         → Comes (status_of_opening fault) a d
     comes_unopened opening.Memory unopened silent says line = subst (Comes OUT_OF_MEMORY a) (sym (silent refl)) (quiet opening.Memory unopened OUT_OF_MEMORY (inr refl) (λ e. absurd (omega (arith, e))) (λ e. refl))
     comes_unopened opening.Failed unopened silent says line = subst (Comes DISK_FAULT a) (sym (silent refl)) (quiet opening.Failed unopened DISK_FAULT (inl refl) (λ e. refl) (λ e. absurd (omega (arith, e))))
@@ -326,10 +327,10 @@ module _ (a b : View) (law : Lawful a) (ab : Steps Reopens (attached_by false a)
         refused_file (reply.NotStore reason) tt (record {
           line = λ told. (reply.NotStore reason, tt, from told);
           why = λ told. (reply.NotStore reason, inl (reason, unopened.refused reason refl told, refl), from);
-          recovers = λ told r is. ap (recovered (layout_in a.held)) says.held ∙ unopened.recovers reason refl told;
-          even = λ told r is even. says.held ∙ unopened.even reason refl told even;
+          recovers = λ told r is. subst (λ (x : List ℕ). IsButClosed a.held (recovered (layout_in a.held) a.held) (recovered (layout_in a.held) x)) (sym says.held) (unopened.recovers reason refl told);
+          even = λ told r is even. subst (IsButClosed a.held a.held) (sym says.held) (unopened.even reason refl told even);
           copy = λ told none. ap live_copy says.held ∙ (ab.held told).copy none;
-          kept = λ told rest. (says.held ∙ unopened.even reason refl told rest.rest.gate_even, ap (λ (t : Travel). t.written) says.travel ∙ unopened.unwritten told rest);
+          kept = λ told rest. (subst (IsButClosed a.held a.held) (sym says.held) (unopened.even reason refl told rest.rest.gate_even), subst (WritesGate a.held a.travel.written) (sym (ap (λ (t : Travel). t.written) says.travel)) (unopened.unwritten told rest));
         }) says unopened.cost (λ told m here. none_some (sym (none_of_means a.held m here.0 here.1) ∙ unopened.refused reason refl told))
       where
         none_some : {r : Reason} → None ≡ Some r → ⊥
@@ -351,7 +352,7 @@ module _ (a b : View) (law : Lawful a) (ab : Steps Reopens (attached_by false a)
         from told = said_since a b d (reply.Damaged segment why) ab.frame.said (sym ab.frame.say_faults) (line (reply.Damaged segment why) refl (ap (λ f. f.tells_said) ab.frame.fixed ∙ told))
 
   -- of a file that was opened
-  module _ (v : StoreView) (opened : IsOpened v a b) where
+  module _ (v : StoreView) (opened : IsOpened v (attached_by false a) b) where
     on : Told a → Told b
     on told = ap (λ f. f.tells_held) ab.frame.fixed ∙ told
 
@@ -402,7 +403,7 @@ module _ (a b : View) (law : Lawful a) (ab : Steps Reopens (attached_by false a)
         recovers = λ told r is. absurd (none_some (sym (opened.sound told) ∙ is));
         even = λ told r is. absurd (none_some (sym (opened.sound told) ∙ is));
         copy = λ told none. ap live_copy (upgrades.kept e (on told)).0 ∙ (ab.held told).copy none;
-        kept = λ told rest. let kept = upgrades.kept e (on told) in (kept.0 ∙ opened.kept told rest, kept.1 ∙ opened.unwritten told rest);
+        kept = λ told rest. let kept = upgrades.kept e (on told) in (subst (IsButClosed a.held a.held) (sym kept.0) (opened.kept told rest), subst (WritesGate a.held a.travel.written) (sym kept.1) (opened.unwritten told rest));
       }
         where
           none_some : {r : Reason} → None ≡ Some r → ⊥

@@ -11,6 +11,7 @@ use Rattle.command_text.specs.Answers.{range_lines}
 use Rattle.command_text.specs.Reply.{reply_text}
 use Rattle.pma_store.specs.Opens.{IsAllAtRest}
 use Rattle.pma_engine.specs.Carrying.{Looks}
+use Rattle.pma_engine.specs.Closing.{IsButClosed, WritesGate}
 use Rattle.pma_engine.specs.Opening.{IsOutOfMemory, reopening_cost}
 use Rattle.pma_engine.specs.Outcome.{IsRefused}
 use Rattle.pma_engine.specs.Refusing.{SaysLastLine}
@@ -41,13 +42,13 @@ pub record DumpsFile (status : ℕ) (a b : View) : Type 0 where
   pub front : (status ≡ REFUSED → ⊥) → Told a → SaidTold a → SaidFront (dump_text (meant_map a.held)) a.said b.said
   -- refused it is as by a run: one line tells the first reason against the file
   pub refused : status ≡ REFUSED → IsRefused a b
-  pub memory : status ≡ OUT_OF_MEMORY → IsOutOfMemory a b
+  pub memory : status ≡ OUT_OF_MEMORY → IsOutOfMemory (attached_by false a) b
   pub settled : (status ≡ DONE) ⊎ (status ≡ REPLY_FAULT) → NothingPending b
   -- of a store: where no call failed, it ends so, or for want of memory
   pub complete : Told a → (m : Map) → MeansMap a.held m → (Rose a.disk_faults b.disk_faults → ⊥) → (Rose a.say_faults b.say_faults → ⊥) → (status ≡ DONE) ⊎ (status ≡ OUT_OF_MEMORY)
-  -- nothing is written but by the opening: where it has nothing to do, nothing at all
-  pub unwritten : Told a → IsAllAtRest a.held → b.travel.written ≡ a.travel.written
-  pub kept : (status ≡ DISK_FAULT → ⊥) → Told a → IsAllAtRest a.held → b.held ≡ a.held
+  -- nothing is written but by the opening: where it has nothing to do, nothing but the gate of an open index
+  pub unwritten : Told a → IsAllAtRest a.held → WritesGate a.held a.travel.written b.travel.written
+  pub kept : (status ≡ DISK_FAULT → ⊥) → Told a → IsAllAtRest a.held → IsButClosed a.held a.held b.held
   pub written : Told a → b.travel.written ≤ a.travel.written + reopening_cost a.held
 
 -- what the dump of an open store came to, on whose station nothing is pending

@@ -25,6 +25,7 @@ use Rattle.bulk_load.specs.declared.fault.Loaded.{Loaded}
 use Rattle.command_text.specs.declared.reply.Reply.{Reply}
 use Rattle.command_text.specs.declared.reply.Reply.TheVariants as reply
 use Rattle.pma_store.specs.Opens.{IsAllAtRest}
+use Rattle.pma_engine.specs.Closing.{IsButClosed, WritesGate}
 use Rattle.pma_engine.specs.Opening.{IsOutOfMemory, reopening_cost}
 use Rattle.pma_engine.specs.Outcome.{IsRest, empty_map}
 use Rattle.pma_engine.specs.Refusing.{IsRefusal, SaysLine}
@@ -118,13 +119,13 @@ IsLoadRefusal old s0 s1 line = ((r : Reason) × (opening_reason old ≡ Some r) 
 
 -- A load was refused, and one line says so. Over a station that tells its bytes it tells the reason or the answer; a file that is
 -- no store recovers to what it recovered to, and where its gate is even, it is as before; and where a store has records, and an
--- opening had nothing to do, every byte is as it was.
+-- opening had nothing to do, every byte is as it was, but that the index may be closed.
 pub record IsLoadRefused (s0 s1 : SourceView) (a b : View) : Type 0 where
   pub line : SaidTold a → (line : Reply) × IsRefusal line × SaysLine line a.said a b
   pub why : Told a → (line : Reply) × IsLoadRefusal a.held s0 s1 line × (SaidTold a → SaysLine line a.said a b)
-  pub recovers : Told a → (r : Reason) → opening_reason a.held ≡ Some r → recovered (layout_in a.held) b.held ≡ recovered (layout_in a.held) a.held
-  pub even : Told a → (r : Reason) → opening_reason a.held ≡ Some r → gate a.held ≡ 0 → b.held ≡ a.held
-  pub kept : Told a → IsAllAtRest a.held → 0 < len (meant_map a.held) → (b.held ≡ a.held) × (b.travel.written ≡ a.travel.written)
+  pub recovers : Told a → (r : Reason) → opening_reason a.held ≡ Some r → IsButClosed a.held (recovered (layout_in a.held) a.held) (recovered (layout_in a.held) b.held)
+  pub even : Told a → (r : Reason) → opening_reason a.held ≡ Some r → gate a.held ≡ 0 → IsButClosed a.held a.held b.held
+  pub kept : Told a → IsAllAtRest a.held → 0 < len (meant_map a.held) → IsButClosed a.held a.held b.held × WritesGate a.held a.travel.written b.travel.written
 
 -- at most so many bytes are written by a load behind the opening, into a file of this layout that then has this height
 abbrev pub load_cost : Layout → ℕ → ℕ
@@ -147,7 +148,7 @@ pub record LoadsFile (status most : ℕ) (s0 s1 : SourceView) (a b : View) : Typ
   -- but for a line of refusal nothing is said
   pub silent : (status ≡ REFUSED → ⊥) → b.said ≡ a.said
   pub refused : status ≡ REFUSED → IsLoadRefused s0 s1 a b
-  pub memory : status ≡ OUT_OF_MEMORY → IsOutOfMemory a b
+  pub memory : status ≡ OUT_OF_MEMORY → IsOutOfMemory (attached_by false a) b
   pub too_long : status ≡ TOO_LONG → source.Told s0 → length s0.left ≡ length s1.left + most
   -- of a store: where no disk call failed, it ends so, or for want of memory, or with the one answer that is due, or for the source
   pub complete : Told a → (m : Map) → MeansMap a.held m → (Rose a.disk_faults b.disk_faults → ⊥) →

@@ -23,6 +23,7 @@ use Rattle.resize_region.specs.declared.outcome.Upgrade.TheVariants.{Done, Alrea
 use Rattle.command_text.specs.declared.reply.Reply.{Reply}
 use Rattle.command_text.specs.declared.reply.Reply.TheVariants as reply
 use Rattle.pma_store.specs.Opens.{IsAllAtRest}
+use Rattle.pma_engine.specs.Closing.{IsButClosed, WritesGate}
 use Rattle.pma_engine.specs.Opening.{IsOutOfMemory, reopening_cost}
 use Rattle.pma_engine.specs.Refusing.{IsRefusal, SaysLine}
 use Rattle.pma_engine.specs.declared.status.TheConstants.{DONE, REFUSED, DISK_FAULT, OUT_OF_MEMORY}
@@ -89,14 +90,14 @@ pub record IsUpgraded (old new : List ℕ) : Type 0 where
 
 -- An upgrade was refused, and one line says so. Over a station that tells its bytes it tells the reason or the answer; a file
 -- that is no store recovers to what it recovered to, and where its gate is even, it is as before; and where an opening had
--- nothing to do, every byte is as it was. The copy that is live is the one that was, where no items are to be applied.
+-- nothing to do, every byte is as it was, but that the index may be closed. The copy that is live is the one that was, where no items are to be applied.
 pub record IsUpgradeRefused (a b : View) : Type 0 where
   pub line : SaidTold a → (line : Reply) × IsRefusal line × SaysLine line a.said a b
   pub why : Told a → (line : Reply) × IsUpgradeRefusal a.held b.held line × (SaidTold a → SaysLine line a.said a b)
-  pub recovers : Told a → (r : Reason) → opening_reason a.held ≡ Some r → recovered (layout_in a.held) b.held ≡ recovered (layout_in a.held) a.held
-  pub even : Told a → (r : Reason) → opening_reason a.held ≡ Some r → gate a.held ≡ 0 → b.held ≡ a.held
+  pub recovers : Told a → (r : Reason) → opening_reason a.held ≡ Some r → IsButClosed a.held (recovered (layout_in a.held) a.held) (recovered (layout_in a.held) b.held)
+  pub even : Told a → (r : Reason) → opening_reason a.held ≡ Some r → gate a.held ≡ 0 → IsButClosed a.held a.held b.held
   pub copy : Told a → has_pending a.held ≡ false → live_copy b.held ≡ live_copy a.held
-  pub kept : Told a → IsAllAtRest a.held → (b.held ≡ a.held) × (b.travel.written ≡ a.travel.written)
+  pub kept : Told a → IsAllAtRest a.held → IsButClosed a.held a.held b.held × WritesGate a.held a.travel.written b.travel.written
 
 -- at most so many bytes are written by the upgrade of a store of this layout and height: the other region's segments, and a flip
 abbrev pub upgrade_cost : Layout → ℕ → ℕ
@@ -111,7 +112,7 @@ pub record UpgradesFile (status : ℕ) (a b : View) : Type 0 where
   -- but for a line of refusal nothing is said
   pub silent : (status ≡ REFUSED → ⊥) → b.said ≡ a.said
   pub refused : status ≡ REFUSED → IsUpgradeRefused a b
-  pub memory : status ≡ OUT_OF_MEMORY → IsOutOfMemory a b
+  pub memory : status ≡ OUT_OF_MEMORY → IsOutOfMemory (attached_by false a) b
   -- of a store: where no disk call failed, it ends so, or for want of memory, or with the one answer that is due
   pub complete : Told a → (m : Map) → MeansMap a.held m → (Rose a.disk_faults b.disk_faults → ⊥) →
       (status ≡ DONE) ⊎ ((status ≡ OUT_OF_MEMORY) ⊎ ((status ≡ REFUSED) × ((line : Reply) × IsUpgradeAnswer a.held b.held line)))

@@ -1,35 +1,84 @@
 //! The file of a job that works on a store: how it is opened, and the end where it isn't.
 
-ghost use Rattle.std.specs.Prelude.{◌≡◌, None, Some, false, IfOk, IfErr};
-ghost use Rattle.station.specs.Steps.{Steps, Says};
-ghost use Rattle.station.specs.View.{SaidTold, NamedBy, attached_by};
-ghost use Rattle.pma_engine.specs.Opening.{IsOpened, IsUnopened, Reopens};
+ghost use Rattle.std.specs.Prelude.{◌≡◌, ◌≤◌, None, Some, true, false};
+ghost use Rattle.station.specs.Steps.{Says};
+ghost use Rattle.station.specs.View.{Told, SaidTold, EachHeld, NothingPending, NamedBy, attached_by};
+ghost use Rattle.header_gate.specs.Places.{file_length};
+ghost use Rattle.index_file.specs.Clean.{IsClean};
+ghost use Rattle.index_file.specs.Opening.{IsQuick};
+ghost use Rattle.recovery.specs.Parts.{Fits, AgreesWith};
+ghost use Rattle.pma_engine.specs.Opening.{OpensStore, TakesParts};
 ghost use Rattle.pma_engine.specs.Refusing.{SaysLine, line_text, line_of_opening, status_of_opening};
 
 use crate::refusing::say_refusal;
 use crate::status::{DISK_FAULT, OUT_OF_MEMORY, REFUSED};
 use command_text::Reply;
+use index_file::{close_clean, close_index, open_quick};
 use pma_store::Store;
-use recovery::OpenFault;
-use station::Station;
+use recovery::{OpenFault, Parts};
+use station::{Failed, Station};
 use std::alloc::Global;
 
-/// Attaches the file of that name, and opens its store: the items of an intent that is to be applied are made.
+/// Attaches the file of that name, and opens its store: by the index in the file where `quick` asks for it and one was left, and
+/// else by its live region. The index is closed before anything else is written, and the items of an intent that is to be applied
+/// are made.
 pub(crate) fn open_file<S: Station>(
     alloc: Global,
     station: &mut S,
     name: &str,
+    quick: bool,
 ) -> Result<Store, OpenFault>
     requires first { (S.view station.old).attached ≡ None }
     requires named { NamedBy name.now (S.view station.old).fixed.name }
-    ensures opened { IfOk result (λ store. IsOpened store (S.view station.old) (S.view station.new)) }
-    ensures unopened { IfErr result (λ fault. IsUnopened fault (S.view station.old) (S.view station.new)) }
-    ensures steps { Steps Reopens (attached_by false (S.view station.old)) (S.view station.new) }
+    requires clean { quick ≡ true → Told (S.view station.old) → IsClean (S.view station.old).held }
+    ensures { OpensStore quick result (attached_by false (S.view station.old)) (S.view station.new) }
 {
     let Ok(()) = station.attach(name, false) else {
         return Err(OpenFault::Failed);
     };
-    Store::open_on(alloc, station)
+    if quick {
+        open_by_index(alloc, station)
+    } else {
+        open_by_region(alloc, station)
+    }
+}
+
+// Opens the store by the index in its file, where one was left, and else by its live region.
+fn open_by_index<S: Station>(alloc: Global, station: &mut S) -> Result<Store, OpenFault>
+    requires clean { Told (S.view station.old) → IsClean (S.view station.old).held }
+    ensures { OpensStore true result (S.view station.old) (S.view station.new) }
+{
+    match open_quick(alloc, station) {
+        Ok(Some(parts)) => open_parts(station, parts),
+        Ok(None) => open_by_region(alloc, station),
+        Err(fault) => Err(fault),
+    }
+}
+
+// Closes the index by which the parts of a store were read, and makes the store.
+fn open_parts<S: Station>(station: &mut S, parts: Parts) -> Result<Store, OpenFault>
+    requires agrees { EachHeld (AgreesWith parts.place parts.tally parts.index) (S.view station.old) }
+    requires fits { Fits parts.place parts.tally parts.index parts.frames.journal }
+    requires none { parts.intent ≡ None }
+    requires quick { Told (S.view station.old) → IsQuick (S.view station.old).held }
+    requires nothing { NothingPending (S.view station.old) }
+    requires reach { file_length parts.place.layout ≤ (S.view station.old).fixed.reach }
+    ensures { TakesParts parts result (S.view station.old) (S.view station.new) }
+{
+    match close_clean(station) {
+        Ok(()) => Ok(Store::from_parts(parts)),
+        Err(Failed) => Err(OpenFault::Failed),
+    }
+}
+
+// Closes the index, and opens the store by its live region.
+fn open_by_region<S: Station>(alloc: Global, station: &mut S) -> Result<Store, OpenFault>
+    ensures { OpensStore false result (S.view station.old) (S.view station.new) }
+{
+    match close_index(station) {
+        Ok(()) => Store::open_on(alloc, station),
+        Err(Failed) => Err(OpenFault::Failed),
+    }
 }
 
 /// Ends a job whose store could not be opened, and says the line where its file is refused.

@@ -2,6 +2,7 @@
 
 ghost use Rattle.std.specs.Prelude.{◌≡◌, None, Some, false};
 ghost use Rattle.station.specs.View.{NamedBy, Rose};
+ghost use Rattle.index_file.specs.Clean.{KeepsClean};
 ghost use Rattle.pma_store.specs.Store.{IsOpenOn};
 ghost use Rattle.pma_engine.specs.Dumping.{DumpsFile, DumpsOpened, IsDumpStatus};
 
@@ -25,11 +26,12 @@ pub(crate) fn dump_file<S: Station>(alloc: Global, station: &mut S, name: &str) 
     requires named { NamedBy name.now (S.view station.old).fixed.name }
     ensures status { IsDumpStatus result }
     ensures attached { (S.view station.new).attached ≡ Some false }
+    ensures clean { KeepsClean (S.view station.old) (S.view station.new) }
     ensures dumped { DumpsFile result (S.view station.old) (S.view station.new) }
     ensures disk { result ≡ DISK_FAULT → Rose (S.view station.old).disk_faults (S.view station.new).disk_faults }
     ensures reply { result ≡ REPLY_FAULT → Rose (S.view station.old).say_faults (S.view station.new).say_faults }
 {
-    match open_file(alloc, station, name) {
+    match open_file(alloc, station, name, false) {
         Ok(store) => dump_opened(station, store),
         Err(fault) => end_unopened(station, fault),
     }

@@ -4,7 +4,9 @@ ghost use Rattle.std.specs.Prelude.{◌≡◌, ◌<◌, None, Some, false, sum};
 ghost use Rattle.station.specs.Steps.{Says};
 ghost use Rattle.station.specs.View.{SaidTold, NamedBy, Rose};
 ghost use Rattle.line_source.specs.SourceView.{Rose as SourceRose, Went};
+ghost use Rattle.index_file.specs.Clean.{KeepsClean};
 ghost use Rattle.pma_store.specs.Store.{IsOpenOn};
+ghost use Rattle.pma_engine.specs.Closing.{StaysShut};
 ghost use Rattle.pma_engine.specs.Jobs.{TakesNothing};
 ghost use Rattle.pma_engine.specs.Loading.{LoadsFile, LoadsOpened, IsLoadStatus, line_of_load, status_of_load};
 ghost use Rattle.pma_engine.specs.Refusing.{SaysLine, line_text};
@@ -36,13 +38,14 @@ pub(crate) fn load_file<I: Source, S: Station>(
     requires named { NamedBy name.now (S.view station.old).fixed.name }
     ensures status { IsLoadStatus result }
     ensures attached { (S.view station.new).attached ≡ Some false }
+    ensures clean { KeepsClean (S.view station.old) (S.view station.new) }
     ensures loaded { LoadsFile result most (I.view source.old) (I.view source.new) (S.view station.old) (S.view station.new) }
     ensures untaken { TakesNothing (Some Load) result (S.view station.old) → source.new ≡ source.old }
     ensures disk { result ≡ DISK_FAULT → Rose (S.view station.old).disk_faults (S.view station.new).disk_faults }
     ensures script { result ≡ SCRIPT_FAULT → SourceRose (I.view source.old) (I.view source.new) }
     ensures went { Went (I.view source.old) (I.view source.new) }
 {
-    match open_file(alloc, station, name) {
+    match open_file(alloc, station, name, false) {
         Ok(store) => load_opened(source, station, store, most),
         Err(fault) => end_unopened(station, fault),
     }
@@ -57,6 +60,7 @@ fn load_opened<I: Source, S: Station>(
 ) -> u8
     requires open { IsOpenOn store (S.view station.old) }
     ensures loads { LoadsOpened result most store.place.layout (sum store.tally.counts) (I.view source.old) (I.view source.new) (S.view station.old) (S.view station.new) }
+    ensures shut { StaysShut (S.view station.old) (S.view station.new) }
     ensures untaken { 0 < sum store.tally.counts → source.new ≡ source.old }
     ensures went { Went (I.view source.old) (I.view source.new) }
 {

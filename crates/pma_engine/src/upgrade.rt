@@ -3,7 +3,9 @@
 ghost use Rattle.std.specs.Prelude.{◌≡◌, None, Some, false};
 ghost use Rattle.station.specs.Steps.{Says};
 ghost use Rattle.station.specs.View.{SaidTold, NamedBy, Rose};
+ghost use Rattle.index_file.specs.Clean.{KeepsClean};
 ghost use Rattle.pma_store.specs.Store.{IsOpenOn};
+ghost use Rattle.pma_engine.specs.Closing.{StaysShut};
 ghost use Rattle.pma_engine.specs.Refusing.{SaysLine, line_text};
 ghost use Rattle.pma_engine.specs.Upgrading.{UpgradesFile, UpgradesOpened, IsUpgradeStatus, line_of_upgrade, status_of_upgrade};
 
@@ -30,10 +32,11 @@ pub(crate) fn upgrade_file<S: Station>(alloc: Global, station: &mut S, name: &st
     requires named { NamedBy name.now (S.view station.old).fixed.name }
     ensures status { IsUpgradeStatus result }
     ensures attached { (S.view station.new).attached ≡ Some false }
+    ensures clean { KeepsClean (S.view station.old) (S.view station.new) }
     ensures upgraded { UpgradesFile result (S.view station.old) (S.view station.new) }
     ensures disk { result ≡ DISK_FAULT → Rose (S.view station.old).disk_faults (S.view station.new).disk_faults }
 {
-    match open_file(alloc, station, name) {
+    match open_file(alloc, station, name, false) {
         Ok(store) => upgrade_opened(station, store),
         Err(fault) => end_unopened(station, fault),
     }
@@ -42,7 +45,8 @@ pub(crate) fn upgrade_file<S: Station>(alloc: Global, station: &mut S, name: &st
 // Upgrades an open store, and says the line where it isn't upgraded.
 fn upgrade_opened<S: Station>(station: &mut S, store: Store) -> u8
     requires open { IsOpenOn store (S.view station.old) }
-    ensures { UpgradesOpened result store.place.layout store.tally.height (S.view station.old) (S.view station.new) }
+    ensures upgrades { UpgradesOpened result store.place.layout store.tally.height (S.view station.old) (S.view station.new) }
+    ensures shut { StaysShut (S.view station.old) (S.view station.new) }
 {
     let mut parts = store.into_parts();
     let copy = parts.place.region;

@@ -17,7 +17,7 @@ use window_tally::Tally;
 /// Parts for a store with this header, of which nothing is known yet: no record is counted, and no fence is set.
 ///
 /// `AllocError` is want of memory; no later call takes any.
-pub(crate) fn make_parts(alloc: Global, header: &Header) -> Result<Parts, AllocError>
+pub fn make_parts(alloc: Global, header: &Header) -> Result<Parts, AllocError>
     requires layout { IsLayout header.now.layout }
     requires live { header.now.live < 2 }
     requires height { header.now.height ≤ height_limit header.now.layout }

@@ -1,9 +1,5 @@
-use Rattle.std.proofs.Common.{◌≡◌, Some, Ok, Err, Result, refl, subst, sym}
-use Rattle.command_text.specs.declared.command.Command.{Command}
-use Rattle.command_text.specs.declared.reply.Reply.{Reply}
-use Rattle.segment.specs.declared.fault.StoreFault.{StoreFault}
-use Rattle.pma_engine.specs.Carrying.{with_cursors, Executes, AnswersLine}
-use Rattle.pma_engine.specs.Replies.{one_line}
+use Rattle.std.proofs.Common.{Err, subst, sym}
+use Rattle.pma_engine.specs.Carrying.{with_cursors, AnswersLine}
 use Rattle.pma_engine.specs.declared.fault.ServeFault.{ServeFault}
 use Rattle.pma_engine.proofs.Answering.{answers_fault, answers_said, answers_cut}
 use Rattle.pma_engine.proofs.Stepping.{asks_one_line}

@@ -1,5 +1,5 @@
 -- What was said of all records, by the parts of the store, and how it was ended.
-use Rattle.std.proofs.Common.{◌≡◌, inl, ap, refl, subst, sym}
+use Rattle.std.proofs.Common.{inl, ap, refl, subst, sym}
 use Rattle.station.specs.View.{Told}
 use Rattle.map_model.specs.Standing.{StandsBalanced}
 use Rattle.pma_engine.specs.Dumping.{DumpsOpened}

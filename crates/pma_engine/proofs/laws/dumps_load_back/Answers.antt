@@ -1,13 +1,10 @@
 use Rattle.std.proofs.Common.{◌≡◌, ◌+◌, ◌∙◌, List, ℕ, ap, arith, length, subst, sym, true}
-use Rattle.std.specs.FinMap.{entries, from_sorted, len, len-entries}
+use Rattle.std.specs.FinMap.{entries, from_sorted, len-entries}
 use Rattle.line_source.specs.Lines.{raw_lines}
-use Rattle.key_slot.specs.Record.{Record}
 use Rattle.map_model.specs.Store.{Map}
 use Rattle.batch_intent.specs.Means.{Means}
 use Rattle.bulk_load.specs.LoadText.{IsLoadText}
 use Rattle.bulk_load.specs.Loading.{loading, reads}
-use Rattle.bulk_load.specs.Loads.{most_records}
-use Rattle.pma_engine.specs.Dumping.{dump_text}
 use Rattle.pma_engine.proofs.laws.dumps_load_back.Goals as goal
 
 pub returns-clause-text : goal.returns-clause-text

@@ -1,6 +1,9 @@
-use Rattle.std.proofs.Common.{◌≡◌, ◌⊎◌, ap, subst, sym, refl, arith}
+use Rattle.std.proofs.Common.{◌≡◌, ◌⊎◌, ap, subst, sym, ◌∙◌, refl, arith}
+use Rattle.station.specs.View.{Fixed, Told}
 use Rattle.pma_engine.specs.Jobs.{TakesNothing}
 use Rattle.pma_engine.proofs.Loading.{Comes, comes_opened, comes_unopened, untaken_of}
+use Rattle.pma_engine.proofs.Closing.{keeps_staying}
+use Rattle.pma_engine.proofs.Opening.{clean_opened, clean_unopened}
 use Rattle.pma_engine.proofs.load.load_file.Goals as goal
 
 pub returns-in-Err : goal.returns-in-Err
@@ -15,6 +18,7 @@ returns-in-Err g c =
     record {
       status = comes.status_is;
       attached = comes.attached;
+      clean = clean_unopened a (g.S.Station.view c.open_file.new.station) d (g.met.S.Station.lawful c.args.station.now) (g.met.S.Station.lawful c.open_file.new.station) c.open_file.ensures.steps c.open_file.ensures.clean c.end_unopened.ensures.says;
       loaded = comes.loaded;
       untaken = λ none. refl;
       disk = comes.disk;
@@ -30,11 +34,14 @@ returns-in-Ok g c =
     let b = g.S.Station.view c.open_file.new.station in
     let d = g.S.Station.view c.load_opened.new.station in
     let law = g.met.S.Station.lawful c.args.station.now in
+    let law_b = g.met.S.Station.lawful c.open_file.new.station in
+    let on : Told b → Told d = λ told. ap (λ (f : Fixed). f.tells_held) (c.load_opened.ensures.loads.run.fixed) ∙ told in
     let comes : Comes c.load_opened.result c.args.most s0 s1 a d =
     comes_opened c.args.most s0 s1 a b law c.open_file.ensures.steps c.in-Ok.store c.in-Ok.ensures.opened c.load_opened.result d c.load_opened.ensures.loads in
     record {
       status = comes.status_is;
       attached = comes.attached;
+      clean = clean_opened a b d (g.met.S.Station.lawful c.args.station.now) law_b c.open_file.ensures.steps c.open_file.ensures.clean c.in-Ok.ensures.opened.store.on.settled (keeps_staying on c.in-Ok.ensures.opened.shut (c.load_opened.ensures.shut));
       loaded = comes.loaded;
       untaken = λ none. c.load_opened.ensures.untaken (untaken_of c.args.most s0 s1 a b law c.open_file.ensures.steps c.in-Ok.store c.in-Ok.ensures.opened c.load_opened.result d c.load_opened.ensures.loads none);
       disk = comes.disk;

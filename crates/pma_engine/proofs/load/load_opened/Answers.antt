@@ -1,14 +1,13 @@
 -- What `load_rows` came to, by the parts of the store and a fresh reader, and how it was ended.
-use Rattle.std.proofs.Common.{◌≡◌, ℕ, ◌<◌, List, ap, refl, subst, sym, sum}
+use Rattle.std.proofs.Common.{◌≡◌, ◌-◌, ◌<◌, ap, subst, sym, sum, arith}
 use Rattle.station.specs.Bytes.{Same}
 use Rattle.station.specs.Steps.{Steps}
 use Rattle.station.proofs.Composition.{no_steps}
-use Rattle.line_source.specs.ReaderView.{ReaderView}
 use Rattle.header_gate.specs.Places.{IsLayout}
 use Rattle.pma_store.specs.Store.{StoreView, IsOpenOn}
 use Rattle.window_tally.specs.View.{TallyView}
 use Rattle.pma_engine.specs.Loading.{LoadsOpened}
-use Rattle.pma_engine.specs.Serving.{fresh_reader}
+use Rattle.pma_engine.proofs.Closing.{spare_gate, stays_said}
 use Rattle.pma_engine.proofs.Loading.{Facts, Laws, facts_from, loaded_of}
 use Rattle.pma_engine.proofs.load.load_opened.Goals as goal
 
@@ -56,6 +55,7 @@ returns g c =
           (subst (λ n. LoadsOpened n c.args.most s.place.layout (sum s.tally.counts) s0 s1 a d) (sym c.end_loaded.ensures.status)
           (loaded_of laws c.args.most s s0 s1 (subst (λ (x : StoreView). IsLayout x.place.layout) (sym same) is.store.layout) a (g.met.S.Station.lawful c.args.station.now) (subst (λ (x : StoreView). IsOpenOn x a) (sym same) c.requires.open) b d c.load_rows-loaded.result facts
           c.end_loaded.ensures.says (λ none. ap g.S.Station.view (c.end_loaded.ensures.silent none)) c.end_loaded.ensures.line));
+      shut = stays_said does.steps (λ d i loads. spare_gate parts.place.layout (1 - parts.place.region) (omega arith) d i loads.touched) c.end_loaded.ensures.says;
       untaken = λ some. (does.untouched (subst (λ (x : TallyView). 0 < sum x.counts) (sym is.tally) some)).1;
       went = does.went;
     }

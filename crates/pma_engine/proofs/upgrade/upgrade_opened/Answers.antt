@@ -1,12 +1,13 @@
 -- What `upgrade` came to, by the parts of the store, and how it was ended.
-use Rattle.std.proofs.Common.{◌≡◌, ap, refl, subst, sym}
+use Rattle.std.proofs.Common.{◌≡◌, ◌-◌, ap, refl, subst, sym, arith}
 use Rattle.pma_engine.specs.Upgrading.{UpgradesOpened}
+use Rattle.pma_engine.proofs.Closing.{spare_gate, stays_said}
 use Rattle.pma_engine.proofs.Upgrading.{seen, upgraded_from}
 use Rattle.pma_engine.proofs.upgrade.upgrade_opened.Goals as goal
 use Rattle.pma_store.specs.Store.{StoreView, IsOpenOn}
 
-pub returns : goal.returns
-returns g c =
+pub returns-clause-upgrades : goal.returns-clause-upgrades
+returns-clause-upgrades g c =
     let a = g.S.Station.view c.args.station.now in
     let b = g.S.Station.view c.upgrade-upgraded.new.station in
     let d = g.S.Station.view c.end_upgraded.new.station in
@@ -32,3 +33,8 @@ returns g c =
       failed = does.failed;
     }) c.end_upgraded.ensures.says
     (λ none. ap g.S.Station.view (c.end_upgraded.ensures.silent none)) c.end_upgraded.ensures.line))
+
+pub returns-clause-shut : goal.returns-clause-shut
+returns-clause-shut g c =
+    let place = c.into_parts-parts.result.place in
+    stays_said c.upgrade-upgraded.ensures.steps (λ d i upgrades. spare_gate place.layout (1 - place.region) (omega arith) d i upgrades.touched) c.end_upgraded.ensures.says

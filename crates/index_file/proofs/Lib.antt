@@ -1,0 +1,17 @@
+pub mod SeatLaws
+pub mod NodeLaws
+pub mod Kept
+pub mod Vectors
+pub mod CleanLaws
+pub mod AreaLaws
+pub mod LeavingLaws
+pub mod Keeping
+pub mod Travelling
+pub mod SoundLaws
+pub mod ReadingLaws
+pub mod CountingLaws
+pub mod JudgingLaws
+pub mod LoadingLaws
+pub mod QuickLaws
+pub mod Answering
+pub mod Indexes

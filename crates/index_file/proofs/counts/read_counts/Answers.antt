@@ -1,0 +1,101 @@
+use Rattle.std.proofs.Common.{◌≡◌, ℕ, ◌+◌, ◌*◌, ◌^◌, List, refl, sym, ap, subst, ◌∙◌, arith}
+use Rattle.density_rule.specs.Marks.{no_marks}
+use Rattle.station.proofs.Composition.{no_steps, same_on, told_on}
+use Rattle.header_gate.specs.declared.layout.Layout.{Layout}
+use Rattle.window_tally.specs.View.{TallyView}
+use Rattle.index_file.specs.Area.{count_place}
+use Rattle.index_file.specs.Reading.{after_part}
+use Rattle.index_file.proofs.Travelling.{counts_on}
+use Rattle.index_file.specs.Counting.{AreCounted, CountFailsAt}
+use Rattle.index_file.proofs.CountingLaws.{count_fails_more}
+use Rattle.index_file.proofs.Indexes.{index_on}
+use Rattle.index_file.proofs.counts.read_counts.Goals as goal
+
+-- the same of another height and another file
+moved : (l : Layout) (h g n : ℕ) (counts f e : List ℕ) → h ≡ g → f ≡ e → AreCounted l h n counts f → AreCounted l g n counts e
+moved l h g n counts f e tall same are = subst (λ (x : List ℕ). AreCounted l g n counts x) same (subst (λ (x : ℕ). AreCounted l x n counts f) tall are)
+
+fails_moved : (l : Layout) (h g n : ℕ) (f e : List ℕ) (place : ℕ) → h ≡ g → f ≡ e → CountFailsAt l h n f place → CountFailsAt l g n e place
+fails_moved l h g n f e place tall same are = subst (λ (x : List ℕ). CountFailsAt l g n x place) same (subst (λ (x : ℕ). CountFailsAt l x n f place) tall are)
+
+pub loop-first-init : goal.loop-first-init
+loop-first-init g c = record {
+  within = omega arith;
+  kept = refl;
+  is_tally = c.requires.uncounted.is_tally;
+  file = c.requires.file;
+  steps = no_steps (g.S.Station.view c.args.station.now);
+  counted = λ told. record { counts_are = λ i lt. absurd (omega (arith, lt)); bounds = λ i lt. absurd (omega (arith, lt)) };
+  travel = refl;
+}
+
+pub read_count_piece-requires-clause-uncounted : goal.read_count_piece-requires-clause-uncounted
+read_count_piece-requires-clause-uncounted g c =
+    let kept = c.loop-first.invariant.kept in
+    record {
+      is_tally = c.loop-first.invariant.is_tally;
+      low = omega (arith, ap (λ (t : TallyView). t.height) kept, c.requires.uncounted.low);
+      unrested = ap (λ (t : TallyView). t.marks) kept ∙ c.requires.uncounted.unrested ∙ ap (λ (t : TallyView). no_marks t.height) (sym kept);
+    }
+
+pub read_count_piece-requires-clause-segments : goal.read_count_piece-requires-clause-segments
+read_count_piece-requires-clause-segments g c =
+    let tall : 2 ^ c.loop-first.tally.height ≡ 2 ^ c.args.tally.now.height = ap (λ (t : TallyView). 2 ^ t.height) c.loop-first.invariant.kept in
+    omega (arith, tall, c.segment_count-end.ensures.count, c.loop-first-test.true)
+
+pub loop-first-preserved : goal.loop-first-preserved
+loop-first-preserved g c =
+    let i = c.loop-first.invariant in
+    let tall : c.loop-first.tally.height ≡ c.args.tally.now.height = ap (λ (t : TallyView). t.height) i.kept in
+    record {
+      within = omega (arith, c.segment_count-end.ensures.count, c.loop-first-test.true);
+      kept = c.read_count_piece.ensures.counts.kept ∙ ap (λ (t : TallyView). record t { counts = c.read_count_piece.new.tally.counts }) i.kept;
+      is_tally = c.read_count_piece.ensures.counts.is_tally;
+      file = index_on i.file c.read_count_piece.ensures.steps;
+      steps = same_on i.steps c.read_count_piece.ensures.steps;
+      counted = λ told.
+          let same = i.steps.held told in
+          moved c.args.layout.now c.loop-first.tally.height c.args.tally.now.height (c.loop-first.first + c.min-count.result) c.read_count_piece.new.tally.counts (g.S.Station.view c.loop-first.station).held (g.S.Station.view c.args.station.now).held tall same
+          (c.in-Ok.ensures.counted (told_on i.steps.frame told)
+          (moved c.args.layout.now c.args.tally.now.height c.loop-first.tally.height c.loop-first.first c.loop-first.tally.counts (g.S.Station.view c.args.station.now).held (g.S.Station.view c.loop-first.station).held (sym tall) (sym same) (i.counted told)));
+      travel = counts_on c.args.layout.now c.loop-first.first c.min-count.result _ _ _ (omega (arith, c.loop-first-test.true)) i.travel c.read_count_piece.ensures.travel;
+    }
+
+pub returns-in-Err-clause-steps : goal.returns-in-Err-clause-steps
+returns-in-Err-clause-steps g c = same_on c.loop-first.invariant.steps c.read_count_piece.ensures.steps
+
+pub returns-in-Err-clause-counts : goal.returns-in-Err-clause-counts
+returns-in-Err-clause-counts g c = record {
+  kept = c.read_count_piece.ensures.counts.kept ∙ ap (λ (t : TallyView). record t { counts = c.read_count_piece.new.tally.counts }) c.loop-first.invariant.kept;
+  is_tally = c.read_count_piece.ensures.counts.is_tally;
+}
+
+pub returns-in-Err-clause-refused : goal.returns-in-Err-clause-refused
+returns-in-Err-clause-refused g c told place e =
+    let i = c.loop-first.invariant in
+    let tall : c.loop-first.tally.height ≡ c.args.tally.now.height = ap (λ (t : TallyView). t.height) i.kept in
+    let same = i.steps.held told in
+    let fails = c.in-Err.ensures.refused (told_on i.steps.frame told)
+    (moved c.args.layout.now c.args.tally.now.height c.loop-first.tally.height c.loop-first.first c.loop-first.tally.counts (g.S.Station.view c.args.station.now).held (g.S.Station.view c.loop-first.station).held (sym tall) (sym same) (i.counted told)) place e in
+    count_fails_more c.args.layout.now c.args.tally.now.height (c.loop-first.first + c.min-count.result) (2 ^ c.args.tally.now.height) (g.S.Station.view c.args.station.now).held place (omega (arith, c.segment_count-end.ensures.count, c.loop-first-test.true))
+    (fails_moved c.args.layout.now c.loop-first.tally.height c.args.tally.now.height (c.loop-first.first + c.min-count.result) (g.S.Station.view c.loop-first.station).held (g.S.Station.view c.args.station.now).held place tall same fails)
+
+pub returns-clause-counted : goal.returns-clause-counted
+returns-clause-counted g c told =
+    let done : c.loop-first.first ≡ 2 ^ c.args.tally.now.height = omega (arith, c.loop-first.invariant.within, c.segment_count-end.ensures.count, c.loop-first-test.false) in
+    subst (λ (n : ℕ). AreCounted c.args.layout.now c.args.tally.now.height n c.loop-first.tally.counts (g.S.Station.view c.args.station.now).held) done (c.loop-first.invariant.counted told)
+
+pub returns-in-Err-clause-front : goal.returns-in-Err-clause-front
+returns-in-Err-clause-front g c = record {
+  bytes = 4 * (c.loop-first.first + c.min-count.result);
+  most = omega (arith, c.segment_count-end.ensures.count, c.loop-first-test.true);
+  now_is = counts_on c.args.layout.now c.loop-first.first c.min-count.result _ _ _ (omega (arith, c.loop-first-test.true)) c.loop-first.invariant.travel c.read_count_piece.ensures.travel;
+}
+
+pub returns-clause-travel : goal.returns-clause-travel
+returns-clause-travel g c =
+    let done : c.loop-first.first ≡ 2 ^ c.args.tally.now.height = omega (arith, c.loop-first.invariant.within, c.segment_count-end.ensures.count, c.loop-first-test.false) in
+    c.loop-first.invariant.travel ∙ ap (λ (n : ℕ). after_part (count_place c.args.layout.now 0) (4 * n) (g.S.Station.view c.args.station.now).travel) done
+
+pub returns-clause-front : goal.returns-clause-front
+returns-clause-front g c = record { bytes = 4 * c.loop-first.first; most = omega (arith, c.loop-first.invariant.within); now_is = c.loop-first.invariant.travel }

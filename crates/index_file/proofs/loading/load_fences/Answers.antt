@@ -1,0 +1,23 @@
+use Rattle.std.proofs.Common.{◌≡◌, ℕ, Some, refl, sym, ap, subst, ◌∙◌}
+use Rattle.header_gate.specs.declared.reason.Reason.TheVariants.{Index}
+use Rattle.veb_index.specs.Nodes.{fence_place}
+use Rattle.index_file.specs.Area.{node_place}
+use Rattle.index_file.specs.Judging.{fences_reason}
+use Rattle.index_file.specs.declared.fault.AreaFault.TheVariants.{Wrong}
+use Rattle.index_file.proofs.LoadingLaws.{fences_none, fences_some, fences_fail}
+use Rattle.index_file.proofs.loading.load_fences.Goals as goal
+
+wrong_one : (p q : ℕ) → Wrong p ≡ Wrong q → p ≡ q
+wrong_one p q e = cc
+
+pub returns-in-None-clause-sound : goal.returns-in-None-clause-sound
+returns-in-None-clause-sound g c told = fences_none c.args.layout.now c.args.h c.read_nodes.new.index.fences (g.S.Station.view c.args.station.now).held (c.in-Ok.ensures.taken told) (c.in-None.ensures.ordered refl c.args.layout.now)
+
+pub returns-in-Some-clause-refused : goal.returns-in-Some-clause-refused
+returns-in-Some-clause-refused g c told place e =
+    let same : node_place c.args.layout.now (fence_place c.args.h c.in-Some.segment) ≡ place = ap (node_place c.args.layout.now) (sym c.fence_position.ensures.place) ∙ wrong_one (node_place c.args.layout.now c.fence_position.result) place (sym c.wrong_node.ensures ∙ e) in
+    subst (λ (p : ℕ). fences_reason c.args.layout.now c.args.h (g.S.Station.view c.args.station.now).held ≡ Some (Index p)) same
+    (fences_some c.args.layout.now c.args.h c.read_nodes.new.index.fences (g.S.Station.view c.args.station.now).held (node_place c.args.layout.now (fence_place c.args.h c.in-Some.segment)) (c.in-Ok.ensures.taken told) (c.in-Some.ensures.misplaced.2 c.args.layout.now))
+
+pub returns-in-Err-clause-refused : goal.returns-in-Err-clause-refused
+returns-in-Err-clause-refused g c told place e = fences_fail c.args.layout.now c.args.h (g.S.Station.view c.args.station.now).held place (c.in-Err.ensures.refused told place e)

@@ -1,0 +1,63 @@
+use Rattle.std.proofs.Common.{◌≡◌, ℕ, ◌-◌, ◌^◌, ◌≤◌, Some, None, sym, ap, subst, ◌∙◌}
+use Rattle.std.specs.Prelude.{Option}
+use Rattle.station.specs.View.{Told}
+use Rattle.station.proofs.Composition.{each_held, nothing_on, told_back}
+use Rattle.density_rule.specs.Marks.{no_marks}
+use Rattle.header_gate.specs.declared.layout.Layout.{Layout}
+use Rattle.header_gate.specs.declared.reason.Reason.{Reason}
+use Rattle.header_gate.specs.declared.reason.Reason.TheVariants.{Index}
+use Rattle.header_gate.specs.Header.{layout_in}
+use Rattle.header_gate.specs.Places.{file_length}
+use Rattle.recovery.specs.Parts.{AgreesWith}
+use Rattle.redo_journal.specs.declared.place.Place.{Place}
+use Rattle.window_tally.specs.View.{TallyView}
+use Rattle.index_file.specs.Judging.{counts_read, area_reason}
+use Rattle.index_file.specs.Reading.{after_area}
+use Rattle.index_file.specs.Writing.{AreNodesOf}
+use Rattle.index_file.proofs.QuickLaws.{quick_agrees, loaded_parts, loaded_marks}
+use Rattle.index_file.proofs.SoundLaws.{left_sound}
+use Rattle.index_file.proofs.quick.load_parts.Goals as goal
+
+pub returns-in-Ok-load_area-clause-opened : goal.returns-in-Ok-load_area-clause-opened
+returns-in-Ok-load_area-clause-opened g c =
+    let parts = c.in-Ok.parts in
+    let layout = ap (λ (p : Place). p.layout) c.in-Ok.ensures.place in
+    let kept = c.load_area.ensures.counts.kept in
+    let next : c.load_area.new.tally.height ≡ c.in-Ok.parts.tally.height = ap (λ (t : TallyView). t.height) kept in
+    let nothing = nothing_on (g.met.S.Station.lawful c.args.station.now) c.requires.known.nothing c.load_area.ensures.steps in
+    let fits = loaded_parts parts.place parts.tally c.load_area.new.tally parts.index c.load_area.new.index parts.frames.journal c.in-Ok.ensures.parts kept c.load_area.ensures.counts.is_tally c.load_area.ensures.fences.hmax c.load_area.ensures.fences.height c.in-Ok-load_area.ensures.balanced in
+    record {
+      agrees = each_held (g.S.Station.view c.load_area.new.station) (AgreesWith c.in-Ok.parts.place c.load_area.new.tally c.load_area.new.index) (g.met.S.Station.lawful c.load_area.new.station) nothing (λ told_b.
+          let told : Told (g.S.Station.view c.args.station.now) = told_back c.load_area.ensures.steps.frame told_b in
+          let header = c.requires.known.header_is told in
+          let own = quick_agrees c.in-Ok.parts.place c.load_area.new.tally c.load_area.new.index (g.S.Station.view c.args.station.now).held (c.requires.left told)
+          (sym header.layout_is ∙ sym (ap (λ (p : Place). p.layout) c.in-Ok.ensures.place))
+          (sym header.live_is ∙ sym (ap (λ (p : Place). p.region) c.in-Ok.ensures.place))
+          (sym header.height_is ∙ sym (ap (λ (t : TallyView). t.height) c.in-Ok.ensures.tally) ∙ sym next)
+          (c.load_area.ensures.fences.height ∙ c.in-Ok.ensures.parts.index_height ∙ sym next)
+          (subst (λ (h : ℕ). AreNodesOf c.in-Ok.parts.place.layout.format c.in-Ok.parts.place.layout h c.load_area.new.index.fences (2 ^ h - 1) (g.S.Station.view c.args.station.now).held) (sym next) (c.in-Ok-load_area.ensures.fenced told))
+          (c.in-Ok-load_area.ensures.counted told ∙ ap (λ (h : ℕ). counts_read c.in-Ok.parts.place.layout h (g.S.Station.view c.args.station.now).held) (sym next))
+          c.in-Ok-load_area.ensures.balanced in
+          subst (AgreesWith c.in-Ok.parts.place c.load_area.new.tally c.load_area.new.index) (sym (c.load_area.ensures.steps.held told)) own);
+      fits = fits;
+      reach = subst (λ (l : Layout). file_length l ≤ (g.S.Station.view c.args.station.now).fixed.reach) (sym layout) c.requires.known.reach;
+      indexed = ap (λ (l : Layout). l.version) layout ∙ c.requires.indexed;
+      unrested = loaded_marks parts.tally c.load_area.new.tally kept (ap (λ (t : TallyView). t.marks) c.in-Ok.ensures.tally ∙ ap (λ (t : TallyView). no_marks t.height) (sym c.in-Ok.ensures.tally));
+      no_intent = c.in-Ok.ensures.intent;
+      travel = c.in-Ok-load_area.ensures.travel ∙ ap (λ (h : ℕ). after_area c.in-Ok.parts.place.layout h (g.S.Station.view c.args.station.now).travel) (sym next);
+    }
+
+none_some : (r : Reason) (o : Option Reason) → o ≡ Some r → o ≡ None → ⊥
+none_some r o is none = absurd cc
+
+pub returns-clause-told : goal.returns-clause-told
+returns-clause-told g c r e told =
+    let header = c.requires.known.header_is told in
+    let found = c.in-Err-Wrong.ensures.refused told c.in-Err-Wrong.place c.in-Err-Wrong.field-0-is in
+    let sound = left_sound (g.S.Station.view c.args.station.now).held (c.requires.left told) in
+    let layout = sym header.layout_is ∙ sym (ap (λ (p : Place). p.layout) c.in-Ok.ensures.place) in
+    let tall = sym header.height_is ∙ sym (ap (λ (t : TallyView). t.height) c.in-Ok.ensures.tally) in
+    let here : area_reason c.in-Ok.parts.place.layout c.in-Ok.parts.tally.height (g.S.Station.view c.args.station.now).held ≡ None =
+    ap (λ (l : Layout). area_reason l c.in-Ok.parts.tally.height (g.S.Station.view c.args.station.now).held) (sym layout)
+    ∙ ap (λ (h : ℕ). area_reason (layout_in (g.S.Station.view c.args.station.now).held) h (g.S.Station.view c.args.station.now).held) (sym tall) ∙ sound in
+    none_some (Index c.in-Err-Wrong.place) (area_reason c.in-Ok.parts.place.layout c.in-Ok.parts.tally.height (g.S.Station.view c.args.station.now).held) found here

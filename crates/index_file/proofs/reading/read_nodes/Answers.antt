@@ -1,0 +1,67 @@
+use Rattle.std.proofs.Common.{◌≡◌, ℕ, ◌+◌, ◌-◌, ◌*◌, ◌^◌, List, refl, sym, ap, subst, ◌∙◌, arith}
+use Rattle.station.proofs.Composition.{no_steps, same_on, told_on}
+use Rattle.index_file.specs.Area.{node_place}
+use Rattle.index_file.specs.Reading.{FailsAt, after_part}
+use Rattle.index_file.proofs.Travelling.{nodes_on}
+use Rattle.index_file.specs.Writing.{AreNodesOf}
+use Rattle.index_file.proofs.ReadingLaws.{fails_more}
+use Rattle.index_file.proofs.Indexes.{index_on}
+use Rattle.index_file.proofs.reading.read_nodes.Goals as goal
+
+pub loop-first-init : goal.loop-first-init
+loop-first-init g c = record {
+  within = omega arith;
+  height = refl;
+  hmax = refl;
+  file = c.requires.file;
+  steps = no_steps (g.S.Station.view c.args.station.now);
+  taken = λ told x lt. absurd (omega (arith, lt));
+  travel = refl;
+}
+
+pub loop-first-preserved : goal.loop-first-preserved
+loop-first-preserved g c =
+    let i = c.loop-first.invariant in
+    record {
+      within = omega (arith, c.node_count-end.ensures, c.loop-first-test.true);
+      height = c.read_node_piece.ensures.fences.height ∙ i.height;
+      hmax = c.read_node_piece.ensures.fences.hmax ∙ i.hmax;
+      file = index_on i.file c.read_node_piece.ensures.steps;
+      steps = same_on i.steps c.read_node_piece.ensures.steps;
+      taken = λ told.
+          let same = i.steps.held told in
+          let next = c.in-Ok.ensures.taken (told_on i.steps.frame told) (subst (λ (f : List ℕ). AreNodesOf c.args.layout.now.format c.args.layout.now c.args.h c.loop-first.index.fences c.loop-first.first f) (sym same) (i.taken told)) in
+          subst (λ (f : List ℕ). AreNodesOf c.args.layout.now.format c.args.layout.now c.args.h c.read_node_piece.new.index.fences (c.loop-first.first + c.min-count.result) f) same next;
+      travel = nodes_on c.args.layout.now c.loop-first.first c.min-count.result _ _ _ (omega (arith, c.loop-first-test.true)) i.travel c.read_node_piece.ensures.travel;
+    }
+
+pub returns-in-Err-clause-steps : goal.returns-in-Err-clause-steps
+returns-in-Err-clause-steps g c = same_on c.loop-first.invariant.steps c.read_node_piece.ensures.steps
+
+pub returns-in-Err-clause-refused : goal.returns-in-Err-clause-refused
+returns-in-Err-clause-refused g c told place e =
+    let i = c.loop-first.invariant in
+    let same = i.steps.held told in
+    let fails = c.in-Err.ensures.refused (told_on i.steps.frame told) (subst (λ (f : List ℕ). AreNodesOf c.args.layout.now.format c.args.layout.now c.args.h c.loop-first.index.fences c.loop-first.first f) (sym same) (i.taken told)) place e in
+    fails_more c.args.layout.now c.args.h (c.loop-first.first + c.min-count.result) (2 ^ c.args.h - 1) (g.S.Station.view c.args.station.now).held place (omega (arith, c.node_count-end.ensures, c.loop-first-test.true))
+    (subst (λ (f : List ℕ). FailsAt c.args.layout.now c.args.h (c.loop-first.first + c.min-count.result) f place) same fails)
+
+pub returns-clause-taken : goal.returns-clause-taken
+returns-clause-taken g c told =
+    let done : c.loop-first.first ≡ 2 ^ c.args.h - 1 = omega (arith, c.loop-first.invariant.within, c.node_count-end.ensures, c.loop-first-test.false) in
+    subst (λ (n : ℕ). AreNodesOf c.args.layout.now.format c.args.layout.now c.args.h c.loop-first.index.fences n (g.S.Station.view c.args.station.now).held) done (c.loop-first.invariant.taken told)
+
+pub returns-in-Err-clause-front : goal.returns-in-Err-clause-front
+returns-in-Err-clause-front g c = record {
+  bytes = 64 * (c.loop-first.first + c.min-count.result);
+  most = omega (arith, c.node_count-end.ensures, c.loop-first-test.true);
+  now_is = nodes_on c.args.layout.now c.loop-first.first c.min-count.result _ _ _ (omega (arith, c.loop-first-test.true)) c.loop-first.invariant.travel c.read_node_piece.ensures.travel;
+}
+
+pub returns-clause-travel : goal.returns-clause-travel
+returns-clause-travel g c =
+    let done : c.loop-first.first ≡ 2 ^ c.args.h - 1 = omega (arith, c.loop-first.invariant.within, c.node_count-end.ensures, c.loop-first-test.false) in
+    c.loop-first.invariant.travel ∙ ap (λ (n : ℕ). after_part (node_place c.args.layout.now 0) (64 * n) (g.S.Station.view c.args.station.now).travel) done
+
+pub returns-clause-front : goal.returns-clause-front
+returns-clause-front g c = record { bytes = 64 * c.loop-first.first; most = omega (arith, c.loop-first.invariant.within); now_is = c.loop-first.invariant.travel }

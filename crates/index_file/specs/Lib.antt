@@ -1,0 +1,10 @@
+pub mod Seats
+pub mod Node
+pub mod Area
+pub mod Writing
+pub mod Clean
+pub mod Judging
+pub mod Reading
+pub mod Leaving
+pub mod Counting
+pub mod Opening

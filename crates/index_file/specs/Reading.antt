@@ -1,0 +1,85 @@
+-- The index in the file while it is read.
+use Rattle.std.specs.Prelude.{◌≡◌, ◌⊎◌, ℕ, ◌+◌, ◌-◌, ◌*◌, ◌^◌, ◌<◌, ◌≤◌, ◌==◌, if◌then◌else◌, List, Bool, true, false}
+use Rattle.station.specs.View.{View, after_read}
+use Rattle.station.specs.declared.travel.Travel.{Travel}
+use Rattle.index_file.specs.Seats.{link_of}
+use Rattle.index_file.specs.Node.{is_node}
+use Rattle.index_file.specs.Area.{node_place, count_place}
+use Rattle.index_file.specs.declared.sizes.TheConstants.{NODE_SIZE, COUNT_SIZE}
+use Rattle.header_gate.specs.declared.layout.Layout.{Layout}
+use Rattle.header_gate.specs.declared.layout.TheConstants.{INDEXED}
+use Rattle.header_gate.specs.Places.{IsLayout, file_length}
+use Rattle.density_rule.specs.Marks.{no_marks}
+use Rattle.veb_index.specs.View.{IndexView}
+use Rattle.window_tally.specs.View.{TallyView, IsTally}
+
+-- whether the node of position x of an index of h levels stands at the place, whatever its fence
+abbrev pub is_node_of : ℕ → ℕ → ℕ → List ℕ → ℕ → Bool
+is_node_of f h x file place = is_node f (link_of h 0 x) (link_of h 1 x) file place
+
+-- a file with an index of this layout, as far as whose end the station reaches
+pub record HasIndex (l : Layout) (v : View) : Type 0 where
+  pub layout : IsLayout l
+  pub indexed : l.version ≡ INDEXED
+  pub reach : file_length l ≤ v.fixed.reach
+
+-- a tally whose counts are to be read, in a file of this layout
+pub record IsUncounted (l : Layout) (t : TallyView) : Type 0 where
+  pub is_tally : IsTally t
+  pub low : t.height ≤ l.hmax
+  pub unrested : t.marks ≡ no_marks t.height
+
+-- it has other counts then, and is else as it was
+pub record TakesCounts (t u : TallyView) : Type 0 where
+  pub kept : u ≡ record t { counts = u.counts }
+  pub is_tally : IsTally u
+
+-- an index whose nodes are to be read: it has this height, in a file of this layout
+pub record IsUnread (l : Layout) (h : ℕ) (index : IndexView) : Type 0 where
+  pub height : h ≡ index.height
+  pub low : h ≤ l.hmax
+
+-- it has other fences then, and is else as it was
+pub record TakesFences (t u : IndexView) : Type 0 where
+  pub hmax : u.hmax ≡ t.hmax
+  pub height : u.height ≡ t.height
+
+-- the travel after one read of so many bytes, or none where there are none
+abbrev pub after_part : ℕ → ℕ → Travel → Travel
+after_part place n t = if n == 0 then t else after_read place n t
+
+-- the travel after the reads of the nodes of an index of h levels, and of its counts
+abbrev pub after_nodes : Layout → ℕ → Travel → Travel
+after_nodes l h t = after_part (node_place l 0) (NODE_SIZE * (2 ^ h - 1)) t
+
+abbrev pub after_counts : Layout → ℕ → Travel → Travel
+after_counts l h t = after_part (count_place l 0) (COUNT_SIZE * 2 ^ h) t
+
+-- the travel after the reads of both
+abbrev pub after_area : Layout → ℕ → Travel → Travel
+after_area l h t = after_counts l h (after_nodes l h t)
+
+-- a front of so many bytes from a place on was read
+pub record IsFrontRead (place size : ℕ) (before now : Travel) : Type 0 where
+  pub bytes : ℕ
+  pub most : bytes ≤ size
+  pub now_is : now ≡ after_part place bytes before
+
+-- a front of the nodes was read, or all of them and a front of the counts
+abbrev pub IsAreaFront : Layout → ℕ → Travel → Travel → Type 0
+IsAreaFront l h before now = IsFrontRead (node_place l 0) (NODE_SIZE * (2 ^ h - 1)) before now ⊎ IsFrontRead (count_place l 0) (COUNT_SIZE * 2 ^ h) (after_nodes l h before) now
+
+-- of so many nodes in a piece, from the one of position first on, that of position x is the first that isn't there
+pub record IsFirstWrong (f h first count : ℕ) (piece : List ℕ) (x : ℕ) : Type 0 where
+  pub from : first ≤ x
+  pub below : x < first + count
+  pub wrong : is_node_of f h x piece (NODE_SIZE * (x - first)) ≡ false
+  pub before : (k : ℕ) → first + k < x → is_node_of f h (first + k) piece (NODE_SIZE * k) ≡ true
+
+-- the place is that of the first of n nodes that isn't there
+pub record FailsAt (l : Layout) (h n : ℕ) (file : List ℕ) (place : ℕ) : Type 0 where
+  pub position : ℕ
+  pub below : position < n
+  pub place_is : place ≡ node_place l position
+  pub wrong : is_node_of l.format h position file (node_place l position) ≡ false
+  pub before : (x : ℕ) → x < position → is_node_of l.format h x file (node_place l x) ≡ true

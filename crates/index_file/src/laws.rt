@@ -1,0 +1,33 @@
+//! What holds of clean images.
+
+ghost use Rattle.std.specs.Prelude.{◌≡◌, ℕ, List, Some, None};
+ghost use Rattle.station.specs.Bytes.{byte, Touched};
+ghost use Rattle.header_gate.specs.Header.{clean_gate, layout_in};
+ghost use Rattle.header_gate.specs.Reasons.{header_reason};
+ghost use Rattle.header_gate.specs.declared.layout.TheConstants.{INDEXED};
+ghost use Rattle.header_gate.specs.declared.reason.Reason.{Reason};
+ghost use Rattle.index_file.specs.Clean.{IsClean, IsCleanPlace, IsLeft, IsShut, version_of};
+ghost use Rattle.index_file.specs.Opening.{IsQuick};
+ghost use Rattle.index_file.specs.Judging.{area_reason};
+ghost use Rattle.map_model.specs.Image.{height_of};
+
+/// A law: what closes an odd clean gate, and what leaves an even one alone, keeps an image clean; and the index of a clean
+/// image that is refused means nothing.
+///
+/// So a word that closes the gate before it writes anything else leaves clean images at every moment.
+pub fn clean_images()
+    ensures shut { (image : List ℕ) → IsShut image → IsClean image }
+    ensures closing { (old new : List ℕ) → IsClean old → clean_gate old ≡ 1 → Touched IsCleanPlace old new → IsClean new }
+    ensures untouched { (old new : List ℕ) → clean_gate old ≡ 0 → byte new 704 ≡ byte old 704 → IsClean new }
+    ensures refused { (image : List ℕ) (r : Reason) → IsClean image → header_reason image ≡ Some r → IsShut image }
+{}
+
+/// A law: nothing is wrong with the index of an image that was left, so a store is always opened by it.
+pub fn left_indexes_are_sound()
+    ensures { (image : List ℕ) → IsLeft image → area_reason (layout_in image) (height_of image) image ≡ None }
+{}
+
+/// A law: a clean file whose clean gate is odd is opened by its index.
+pub fn clean_files_are_quick()
+    ensures { (image : List ℕ) → IsClean image → version_of image ≡ INDEXED → clean_gate image ≡ 1 → IsQuick image }
+{}

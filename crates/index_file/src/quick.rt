@@ -1,0 +1,130 @@
+//! A store is opened by the index in its file.
+
+ghost use Rattle.std.specs.Prelude.{◌≡◌, ◌⊎◌, ◌≤◌, IsOk, OnOk, IfOk, IfErr, IfSome, IsNone, IsErrOf, None, true, false};
+ghost use Rattle.station.specs.Bytes.{Same};
+ghost use Rattle.station.specs.View.{Told, EachHeld, NothingPending, Rose};
+ghost use Rattle.station.specs.Steps.{Steps};
+ghost use Rattle.density_rule.specs.Marks.{no_marks};
+ghost use Rattle.header_gate.specs.Places.{file_length};
+ghost use Rattle.header_gate.specs.Reasons.{header_reason};
+ghost use Rattle.header_gate.specs.declared.layout.TheConstants.{INDEXED};
+ghost use Rattle.index_file.specs.Clean.{IsClean, IsLeft};
+ghost use Rattle.index_file.specs.Opening.{IsQuick, IsQuickFault, IsPageRead, IsQuickFront, IsOpenedQuickly, IsKnown, is_quick, after_quick};
+ghost use Rattle.index_file.specs.Reading.{IsAreaFront};
+ghost use Rattle.recovery.specs.Parts.{Fits, AgreesWith};
+
+use crate::fault::AreaFault;
+use crate::loading::load_area;
+use header_gate::{Header, HeaderFault, INDEXED, Reason, read_header};
+use recovery::{OpenFault, Parts, make_parts};
+use station::Station;
+use std::alloc::Global;
+
+/// Opens the store by the index in its file, where the clean gate is odd and the other gates are even.
+///
+/// It begins with a sync, writes nothing, and reads the header page and the index, and no byte of a region. None where the
+/// file has to be opened by its live region. `NotStore` names the first place of the index that is wrong; it never comes where
+/// the station tells its bytes. `Memory` is want of memory, `Failed` a fault of the disk.
+pub fn open_quick<S: Station>(alloc: Global, station: &mut S) -> Result<Option<Parts>, OpenFault>
+    requires clean { Told (S.view station.old) → IsClean (S.view station.old).held }
+    // The parts of the store, which agree with the file.
+    ensures agrees { IfOk result (λ given. IfSome given (λ parts. EachHeld (AgreesWith parts.place parts.tally parts.index) (S.view station.new))) }
+    ensures fits { IfOk result (λ given. IfSome given (λ parts. Fits parts.place parts.tally parts.index parts.frames.journal)) }
+    ensures reach { IfOk result (λ given. IfSome given (λ parts. file_length parts.place.layout ≤ (S.view station.old).fixed.reach)) }
+    ensures indexed { IfOk result (λ given. IfSome given (λ parts. parts.place.layout.version ≡ INDEXED)) }
+    ensures unrested { IfOk result (λ given. IfSome given (λ parts. parts.tally.marks ≡ no_marks parts.tally.height)) }
+    ensures no_intent { IfOk result (λ given. IfSome given (λ parts. parts.intent ≡ None)) }
+    ensures settled { OnOk result (NothingPending (S.view station.new)) }
+
+    // Which files are opened so, and which aren't.
+    ensures quick { IfOk result (λ given. IfSome given (λ parts. Told (S.view station.old) → IsQuick (S.view station.old).held)) }
+    ensures passed { IfOk result (λ given. IsNone given → Told (S.view station.old) → ¬ IsQuick (S.view station.old).held) }
+    ensures complete { Told (S.view station.old) → ¬ Rose (S.view station.old).disk_faults (S.view station.new).disk_faults →
+        IsOk result ⊎ IsErrOf result OpenFault.Memory }
+
+    // What becomes of the file, and what is read.
+    ensures steps { Steps Same (S.view station.old) (S.view station.new) }
+    ensures unwritten { (S.view station.new).travel.written ≡ (S.view station.old).travel.written }
+    ensures travel { IfOk result (λ given. IfSome given (λ parts. (S.view station.new).travel ≡ after_quick parts.place.layout parts.tally.height (S.view station.old).travel)) }
+    ensures page { IfOk result (λ given. IsNone given → IsPageRead (S.view station.old).travel (S.view station.new).travel) }
+    ensures front { IfErr result (λ e. IsQuickFront (S.view station.old) (S.view station.new).travel) }
+
+    // Causes. Want of memory comes behind the sync and a sound header.
+    ensures memory { IsErrOf result OpenFault.Memory → NothingPending (S.view station.new) × (Told (S.view station.old) → header_reason (S.view station.old).held ≡ None) }
+    ensures causes { IfErr result IsQuickFault }
+    ensures told { IfErr result (λ e. (r : Reason) → e ≡ OpenFault.NotStore r → ¬ Told (S.view station.old)) }
+    ensures failed { IsErrOf result OpenFault.Failed → Rose (S.view station.old).disk_faults (S.view station.new).disk_faults }
+{
+    let Ok(()) = station.sync() else {
+        return Err(OpenFault::Failed);
+    };
+    match read_header(station) {
+        Ok(header) => open_left(alloc, station, &header),
+        Err(HeaderFault::NotStore(_)) => Ok(None),
+        Err(HeaderFault::Failed) => Err(OpenFault::Failed),
+    }
+}
+
+// Opens the store of a file with this header, if it is one that was left.
+fn open_left<S: Station>(
+    alloc: Global,
+    station: &mut S,
+    header: &Header,
+) -> Result<Option<Parts>, OpenFault>
+    requires known { IsKnown header.now (S.view station.old) }
+    requires clean { Told (S.view station.old) → IsClean (S.view station.old).held }
+    ensures opened { IfOk result (λ given. IfSome given (λ parts. IsOpenedQuickly parts (S.view station.old) (S.view station.new))) }
+    ensures quick { IfOk result (λ given. IfSome given (λ parts. is_quick header.now ≡ true)) }
+    ensures passed { IfOk result (λ given. IsNone given → (is_quick header.now ≡ false) × ((S.view station.new).travel ≡ (S.view station.old).travel)) }
+    ensures steps { Steps Same (S.view station.old) (S.view station.new) }
+    ensures front { IfErr result (λ e. IsAreaFront header.now.layout header.now.height (S.view station.old).travel (S.view station.new).travel) }
+    ensures causes { IfErr result IsQuickFault }
+    ensures told { IfErr result (λ e. (r : Reason) → e ≡ OpenFault.NotStore r → ¬ Told (S.view station.old)) }
+    ensures failed { IsErrOf result OpenFault.Failed → Rose (S.view station.old).disk_faults (S.view station.new).disk_faults }
+{
+    if !may_open(header) {
+        return Ok(None);
+    }
+    match load_parts(alloc, station, header) {
+        Ok(parts) => Ok(Some(parts)),
+        Err(fault) => Err(fault),
+    }
+}
+
+// Opens the store of a file that was left: its memory is taken, and its index read.
+fn load_parts<S: Station>(
+    alloc: Global,
+    station: &mut S,
+    header: &Header,
+) -> Result<Parts, OpenFault>
+    requires known { IsKnown header.now (S.view station.old) }
+    requires indexed { header.now.layout.version ≡ INDEXED }
+    requires left { Told (S.view station.old) → IsLeft (S.view station.old).held }
+    ensures opened { IfOk result (λ parts. IsOpenedQuickly parts (S.view station.old) (S.view station.new)) }
+    ensures steps { Steps Same (S.view station.old) (S.view station.new) }
+    ensures front { IfErr result (λ e. IsAreaFront header.now.layout header.now.height (S.view station.old).travel (S.view station.new).travel) }
+    ensures causes { IfErr result IsQuickFault }
+    ensures told { IfErr result (λ e. (r : Reason) → e ≡ OpenFault.NotStore r → ¬ Told (S.view station.old)) }
+    ensures failed { IsErrOf result OpenFault.Failed → Rose (S.view station.old).disk_faults (S.view station.new).disk_faults }
+{
+    let Ok(mut parts) = make_parts(alloc, header) else {
+        return Err(OpenFault::Memory);
+    };
+    match load_area(
+        station,
+        &parts.place.layout,
+        &mut parts.tally,
+        &mut parts.index,
+    ) {
+        Ok(()) => Ok(parts),
+        Err(AreaFault::Failed) => Err(OpenFault::Failed),
+        Err(AreaFault::Wrong { place }) => Err(OpenFault::NotStore(Reason::Index { place })),
+    }
+}
+
+// Whether the file has an index, and of the gates the clean one alone is odd.
+fn may_open(header: &Header) -> bool
+    ensures { result ≡ is_quick header.now }
+{
+    header.layout.version == INDEXED && header.clean && !header.gate && !header.intent
+}

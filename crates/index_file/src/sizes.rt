@@ -1,0 +1,27 @@
+//! The sizes of the index in a file, in bytes.
+
+ghost use Rattle.std.specs.Prelude.{◌≡◌, ◌≤◌};
+ghost use Rattle.key_slot.specs.Format.{wide, key_room};
+
+/// How many bytes a node has.
+pub(crate) const NODE_SIZE: usize = 64;
+
+/// Where the fence begins in a node, behind its size.
+pub(crate) const FENCE_AT: usize = 8;
+
+/// Where the two links begin in a node.
+pub(crate) const LINKS_AT: usize = 48;
+
+/// How many bytes a count has.
+pub(crate) const COUNT_SIZE: usize = 4;
+
+/// How many bytes of the index are read or written at once.
+pub(crate) const PIECE: usize = 4096;
+
+/// The most bytes of a fence: 24 in slot format 1, and 40 in format 2.
+pub(crate) fn key_room(format: u32) -> usize
+    requires { format ≤ wide }
+    ensures { result ≡ key_room format }
+{
+    8 + 16 * format as usize
+}

@@ -1,0 +1,215 @@
+-- Files that differ in the clean gate alone: an opening makes the same of them.
+use Rattle.std.proofs.Common.{◌≡◌, ◌⊎◌, inl, inr, ℕ, ◌+◌, ◌-◌, ◌*◌, ◌^◌, ◌%◌, ◌<◌, ◌≤◌, ◌&&◌, nat_le, nat_lt, cond, Bool, List, [], length, take, drop, length-drop, get_or-drop, refl, sym, ap, subst, ◌∙◌, arith, Option, Some, None}
+use Rattle.std.specs.Prelude.{◌==◌}
+use Rattle.std.specs.FinMap.{from_sorted}
+use Rattle.std.proofs.lemmas.Bool.{cases_lt}
+use Rattle.std.proofs.lemmas.List.{ext_get_or, get_or_past}
+use Rattle.station.specs.Bytes.{byte, InRange, Touched}
+use Rattle.density_rule.specs.Marks.{no_marks}
+use Rattle.header_gate.specs.declared.layout.Layout.{Layout}
+use Rattle.header_gate.specs.declared.layout.TheConstants.{INTENT_VERSION}
+use Rattle.header_gate.specs.declared.reason.Reason.{Reason}
+use Rattle.header_gate.specs.declared.reason.Reason.TheVariants.{Length}
+use Rattle.header_gate.specs.Header.{number, gate, intent_gate, live_copy, layout_in, height_in, format_in, segment_in}
+use Rattle.header_gate.specs.Places.{page_size, table_place, image_place, region_place, segment_place, segment_size, copy_place, height_limit, pages_at}
+use Rattle.header_gate.specs.Reasons.{copy_reason, header_reason, identity_reason, or_else}
+use Rattle.header_gate.specs.Recovered.{is_journal, journal_reason, laid_byte, recovered, recovered_byte, table_numbers, table_reason}
+use Rattle.header_gate.proofs.NumberLaws.{number_same}
+use Rattle.header_gate.proofs.Recoveries.{table_same}
+use Rattle.header_gate.proofs.RecoveredBytes.{byte-recovered, length-recovered}
+use Rattle.header_gate.proofs.RecoveredPages.{page_before}
+use Rattle.map_model.specs.Array.{Array, rows}
+use Rattle.map_model.specs.ArrayState.{ArrayState, next_states, opened_state}
+use Rattle.map_model.specs.Batches.{IsUnnamed}
+use Rattle.map_model.specs.Holding.{IsBalancedArray}
+use Rattle.map_model.specs.Image.{Represents, array_from, array_in, array_of, height_of, live_segment, map_of, slot_format}
+use Rattle.map_model.specs.Items.{AreAdmitted, first_full, map_after_items}
+use Rattle.map_model.specs.Reasons.{array_reason, reason_of}
+use Rattle.map_model.specs.Repairing.{repair}
+use Rattle.map_model.specs.Store.{Map, Update}
+use Rattle.map_model.proofs.Unnamed.{unnamed_represents}
+use Rattle.batch_intent.specs.declared.places.TheConstants.{INTENT, INTENT_SIZE}
+use Rattle.batch_intent.specs.Gate.{form_reason, intent_area, reason_at}
+use Rattle.batch_intent.specs.Judging.{wrong_place}
+use Rattle.batch_intent.specs.Means.{Means, MeansMap, full_reason, fullness_reason, has_pending, opened_items_state, opening_reason, pending}
+use Rattle.batch_intent.specs.Spelling.{Spells, items_in}
+use Rattle.batch_intent.proofs.Gates.{area_same}
+use Rattle.recovery.specs.Costs.{opening_cost}
+use Rattle.pma_store.specs.Costing.{updates_cost}
+use Rattle.pma_store.specs.Opens.{IsAllAtRest}
+use Rattle.index_file.specs.Clean.{IsCleanPlace}
+use Rattle.pma_engine.specs.Costs.{most_of_one}
+use Rattle.pma_engine.specs.Opening.{pending_cost}
+
+-- ranges that begin behind the header page
+range_behind : (old new : List ℕ) (at n : ℕ) → page_size ≤ at → Touched IsCleanPlace old new → take n (drop at new) ≡ take n (drop at old)
+range_behind old new at n behind touched =
+    ap (take n)
+    (ext_get_or 0 (drop at new) (drop at old) (length-drop at new ∙ ap (λ (k : ℕ). k - at) touched.size ∙ sym (length-drop at old))
+    (λ i lt. get_or-drop at new i 0 ∙ touched.rest (at + i) (λ here. omega (arith, here, behind)) ∙ sym (get_or-drop at old i 0)))
+
+module _ (old new : List ℕ) (touched : Touched IsCleanPlace old new) where
+  same : (k : ℕ) → (k ≡ 704 → ⊥) → byte new k ≡ byte old k
+  same k other = touched.rest k other
+
+  behind : (k : ℕ) → 705 ≤ k → number new k ≡ number old k
+  behind k low = number_same new old k k (λ n x y lt ex ey. let e : x ≡ y = omega (arith, ex, ey) in same x (λ at. omega (arith, at, ex, low)) ∙ ap (byte old) e)
+
+  pub live_same : live_copy new ≡ live_copy old
+  live_same = ap (λ (b : ℕ). b % 2) (same 0 (λ at. omega (arith, at)))
+
+  pub gate_same : gate new ≡ gate old
+  gate_same = ap (λ (b : ℕ). b % 2) (same 512 (λ at. omega (arith, at)))
+
+  intent_same : intent_gate new ≡ intent_gate old
+  intent_same = ap (λ (b : ℕ). b % 2) (same 640 (λ at. omega (arith, at)))
+
+  pub height_same : height_of new ≡ height_of old
+  height_same = behind (copy_place (live_copy new)) (omega arith) ∙ ap (λ (c : ℕ). height_in c old) live_same
+
+  format_same : format_in (live_copy new) new ≡ format_in (live_copy old) old
+  format_same = behind (copy_place (live_copy new) + 4) (omega arith) ∙ ap (λ (c : ℕ). format_in c old) live_same
+
+  pub layout_same : layout_in new ≡ layout_in old
+  layout_same t = record { hmax = behind 3084 (omega arith) t; journal = behind 3088 (omega arith) t; version = behind 3080 (omega arith) t; format = format_same t }
+
+  pub header_same : header_reason new ≡ header_reason old
+  unfolding header_reason
+  header_same t =
+      cond (nat_lt (touched.size t) page_size) (Some (Length (touched.size t)))
+      (or_else (identity_reason (behind 3072 (omega arith) t) (behind 3076 (omega arith) t) (behind 3080 (omega arith) t) (behind 3084 (omega arith) t) (behind 3088 (omega arith) t))
+      (copy_reason (touched.size t) (layout_same t) (live_same t) (height_same t) (format_same t)))
+
+  -- The recovered image.
+
+  numbers_same : table_numbers new ≡ table_numbers old
+  numbers_same = table_same new old (table_place + 4 + 4 * length (table_numbers old)) (λ k low high. same k (λ at. omega (arith, at, low))) (omega arith)
+
+  image_same : (l : Layout) (k o : ℕ) → byte new (image_place l k + o) ≡ byte old (image_place l k + o)
+  image_same l k o = same (image_place l k + o) (λ at. omega (arith, at))
+
+  byte_same : (l : Layout) (p : ℕ) → (p ≡ 704 → ⊥) → recovered_byte l new p ≡ recovered_byte l old p
+  byte_same l p other t =
+      cond (is_journal l p) 0
+      (cond (gate_same t == 1)
+      (laid_byte (region_place l (live_same t)) (λ k o. image_same l k o t) (same p other t) p 0 (numbers_same t))
+      (same p other t))
+
+  pub recovered_touched : (l : Layout) → Touched IsCleanPlace (recovered l old) (recovered l new)
+  recovered_touched l = record {
+    size = length-recovered l new ∙ touched.size ∙ sym (length-recovered l old);
+    rest = λ p out. elim (cases_lt p (length old)) [
+      | inl lt ↦ byte-recovered l new p (omega (arith, lt, touched.size)) ∙ byte_same l p out ∙ sym (byte-recovered l old p lt)
+      | inr past ↦ get_or_past (recovered l new) p 0 (omega (arith, past, touched.size, length-recovered l new)) ∙ sym (get_or_past (recovered l old) p 0 (omega (arith, past, length-recovered l old)))
+    ];
+  }
+
+  -- The live segments.
+
+  segment_same : (i : ℕ) → live_segment new i ≡ live_segment old i
+  unfolding segment_in
+  segment_same i =
+      let l = layout_in old in
+      let now = recovered l new in
+      let was = recovered l old in
+      let live : live_copy now ≡ live_copy was = ap (λ (b : ℕ). b % 2) ((recovered_touched l).rest 0 (λ at. omega (arith, at))) in
+      let at = segment_place l (live_copy was) i in
+      ap (λ (x : Layout). segment_in x (recovered x new) i) layout_same
+      ∙ ap (λ (c : ℕ). take (segment_place l c i + segment_size l - segment_place l c i) (drop (segment_place l c i) now)) live
+      ∙ range_behind was now at (at + segment_size l - at) (omega (arith, page_before l (live_copy was))) (recovered_touched l)
+
+  segments_same : live_segment new ≡ live_segment old
+  segments_same t i = segment_same i t
+
+  pub array_at : (height : ℕ) → array_in new height ≡ array_in old height
+  unfolding array_in
+  array_at height t = array_from ((layout_same t).format) (segments_same t) (2 ^ height)
+
+  pub array_same : array_of new ≡ array_of old
+  array_same = ap (array_in new) height_same ∙ array_at (height_of old)
+
+  pub map_same : map_of new ≡ map_of old
+  unfolding map_of
+  map_same = ap (λ (a : Array). from_sorted (rows a)) array_same
+
+  -- The reasons against the file.
+
+  journal_same : journal_reason (layout_in new) (height_of new) new ≡ journal_reason (layout_in old) (height_of old) old
+  unfolding journal_reason
+  journal_same t = cond (gate_same t == 1) (table_reason ((layout_same t).journal) (pages_at (layout_same t) (height_same t)) (behind table_place (omega arith) t) (numbers_same t)) None
+
+  reason_same : reason_of new ≡ reason_of old
+  unfolding reason_of
+  reason_same t = or_else (header_same t) (or_else (journal_same t) (array_reason ((layout_same t).format) (segments_same t) (height_same t)))
+
+  -- The intent.
+
+  pub has_same : has_pending new ≡ has_pending old
+  has_same t = nat_le INTENT_VERSION ((layout_same t).version) && (intent_same t == 1)
+
+  intent_area_same : intent_area new ≡ intent_area old
+  intent_area_same = area_same old new (λ k lt. same (INTENT + k) (λ at. omega (arith, at)))
+
+  pending_same : pending new ≡ pending old
+  unfolding pending
+  pending_same t = cond (has_same t) (items_in (intent_area_same t)) []
+
+  form_same : form_reason (layout_in new) new ≡ form_reason (layout_in old) old
+  form_same t = cond (has_same t) (reason_at (wrong_place ((layout_same t).format) (intent_area_same t))) None
+
+  full_same : fullness_reason new ≡ fullness_reason old
+  full_same t = full_reason (intent_area_same t) (first_full (height_limit (layout_same t)) (map_same t) (pending_same t))
+
+  pub opening_same : opening_reason new ≡ opening_reason old
+  unfolding opening_reason
+  opening_same t = or_else (reason_same t) (or_else (form_same t) (full_same t))
+
+  -- What an opening makes of it.
+
+  first_same : opened_state new ≡ opened_state old
+  first_same t = record { map = map_same t; height = height_same t; array = repair (height_same t) (array_same t); marks = no_marks (height_same t) }
+
+  pub state_same : opened_items_state new ≡ opened_items_state old
+  state_same t = next_states (height_limit (layout_same t)) (first_same t) (pending_same t)
+
+  pub cost_same : opening_cost (layout_in new) + pending_cost new ≡ opening_cost (layout_in old) + pending_cost old
+  cost_same t = opening_cost (layout_same t) + cond (has_same t) (updates_cost (layout_same t) (first_same t) (pending_same t) + 1 + most_of_one (layout_same t)) 0
+
+  pub rests : IsAllAtRest old → IsAllAtRest new
+  rests rest = record {
+    rest = record {
+      gate_even = gate_same ∙ rest.rest.gate_even;
+      balanced = λ none. subst (λ (x : ℕ × Array). IsBalancedArray x.0 x.1) (λ t. (sym height_same t, sym array_same t)) (rest.rest.balanced (sym reason_same ∙ none));
+    };
+    no_intent = has_same ∙ rest.no_intent;
+  }
+
+  -- What it means.
+
+  pub clean_unnamed : Touched IsUnnamed old new
+  clean_unnamed = record {
+    size = touched.size;
+    rest = λ k out. touched.rest k (λ is. out (record {
+      on_page = omega (arith, is);
+      selector = λ e. omega (arith, e, is);
+      gate = λ e. omega (arith, e, is);
+      copy = λ copy small r. omega (arith, r.0, is);
+      identity = λ r. omega (arith, r.0, is);
+    }));
+  }
+
+  pub represents_same : (m : Map) (height : ℕ) → Represents old m height → Represents new m height
+  represents_same m height is = unnamed_represents old new m height is clean_unnamed
+
+  means_same : (m : Map) (height : ℕ) → Means old m height → Means new m height
+  means_same m height means =
+      record {
+        base = means.base;
+        represents = represents_same means.base height means.represents;
+        form = λ some. subst (λ (x : Type 0). x) (λ t. Spells ((sym layout_same t).format) (sym pending_same t) (sym intent_area_same t)) (means.form (sym has_same ∙ some));
+        admitted = subst (λ (x : Type 0). x) (λ t. AreAdmitted (height_limit (sym layout_same t)) means.base (sym pending_same t)) means.admitted;
+        map_is = (λ t. map_after_items (height_limit (layout_same t)) means.base (pending_same t)) ∙ means.map_is;
+      }
+
+  pub map_meant : (m : Map) → MeansMap old m → MeansMap new m
+  map_meant m is = (is.0, means_same m is.0 is.1)

@@ -1,0 +1,52 @@
+-- What the closing of an index changes of a file, what keeps one closed, and what the leaving of one comes to.
+use Rattle.std.specs.Prelude.{◌≡◌, ◌⊎◌, ℕ, ◌+◌, ◌*◌, ◌^◌, ◌≤◌, ◌==◌, if◌then◌else◌, List}
+use Rattle.station.specs.Bytes.{Touched}
+use Rattle.station.specs.Steps.{Steps, LeavesOnly}
+use Rattle.station.specs.View.{View, Told, EachHeld, NothingPending, Rose}
+use Rattle.header_gate.specs.Header.{clean_gate}
+use Rattle.header_gate.specs.declared.layout.Layout.{Layout}
+use Rattle.header_gate.specs.declared.layout.TheConstants.{INDEXED}
+use Rattle.recovery.specs.Restores.{LeavesFile}
+use Rattle.index_file.specs.Clean.{IsCleanPlace, IsLeft, IsOpenIndex, IsShut, Leaves}
+use Rattle.pma_store.specs.Store.{StoreView}
+use Rattle.pma_engine.specs.declared.status.TheConstants.{DONE, DISK_FAULT}
+
+-- The new image is the old one, but that the clean gate may have been closed: both come of a file, and without an open index of
+-- that file no byte differs.
+pub record IsButClosed (file old new : List ℕ) : Type 0 where
+  pub touched : Touched IsCleanPlace old new
+  pub kept : (IsOpenIndex file → ⊥) → new ≡ old
+
+-- nothing was written but the clean gate, and that only where the file's index was open
+pub record WritesGate (file : List ℕ) (before after : ℕ) : Type 0 where
+  pub none : (IsOpenIndex file → ⊥) → after ≡ before
+  pub most : after ≤ before + 1
+
+-- at every moment no byte but the clean gate is touched, and that only where the file's index is open
+pub record ClosesAtMost (a b : View) : Type 0 where
+  pub steps : Steps (Touched IsCleanPlace) a b
+  pub kept : Told a → (IsOpenIndex a.held → ⊥) → LeavesFile a b
+  pub most : b.travel.written ≤ a.travel.written + 1
+
+-- an index that means nothing means nothing at every moment, and after it
+pub record StaysShut (a b : View) : Type 0 where
+  pub after : EachHeld IsShut a → EachHeld IsShut b
+  pub moments : EachHeld IsShut a → LeavesOnly (λ image said. IsShut image) a b
+
+-- at most so many bytes are written by the closing of an index: files of version 3 alone have one
+unfoldable pub closing_cost : Layout → ℕ
+closing_cost l = if l.version == INDEXED then 1 else 0
+
+-- and by the leaving of one of this height
+unfoldable pub leaving_cost : Layout → ℕ → ℕ
+leaving_cost l height = if l.version == INDEXED then 68 * 2 ^ height + 1 else 0
+
+-- The index of an open store was left in its file, or its file has none.
+pub record LeavesIndex (status : ℕ) (s : StoreView) (a b : View) : Type 0 where
+  pub status_is : (status ≡ DONE) ⊎ (status ≡ DISK_FAULT)
+  pub steps : Steps (Leaves s.place.layout) a b
+  pub left : status ≡ DONE → Told a → s.place.layout.version ≡ INDEXED → IsLeft b.held × (clean_gate b.held ≡ 1)
+  pub settled : status ≡ DONE → NothingPending b
+  pub cost : b.travel.written ≤ a.travel.written + leaving_cost s.place.layout s.tally.height
+  pub unread : b.travel.read ≡ a.travel.read
+  pub disk : status ≡ DISK_FAULT → Rose a.disk_faults b.disk_faults
