@@ -1,6 +1,9 @@
-# make: proves and builds ./pma.  make demo: makes a store that grows.  make check: the merge gate.
-# make install PREFIX=..: the program and its manual page.  make gate-times: how long the gate's parts take.
-# make dear-goals: which goals of the proofs cost most, after a check.
+# make: proves and builds ./pma; JOBS=.. says how many processors it may use.  make demo: makes a store that grows.
+# make check: the merge gate.  make clean: removes all that was made.
+# make install PREFIX=..: the program, its manual page, manual and format.  make uninstall PREFIX=..: removes them.
+# make gate-times: how long the gate's parts take.  make dear-goals: which goals of the proofs cost most, after a check.
+# make doc-examples: the examples of README, MANUAL and pma(1).  make doc-names: the names in the documents.
+# make trials: wrong bodies of trials/, each of which must be refused.
 # make said-twice: functions of a crate that say the same clauses.  make reading CLAUSE=..: what there is to read behind a
 # clause of run_words.
 # make bench: the processor time of commands beside that of their system calls.
@@ -9,8 +12,10 @@
 # RECORDS isn't given; numbers into the folder CSV, durable commands in the folder DISK.
 # make bench-plots: pictures and tables of docs/BENCHMARKS.md from docs/bench.  make examples: the worked uses of docs/USES.md.
 
-.PHONY: all demo check install gate-times dear-goals said-twice reading bench faults bench-peers bench-plots examples
+.PHONY: all demo check clean install uninstall gate-times dear-goals said-twice reading doc-examples doc-names trials bench faults \
+    bench-peers bench-plots examples
 
+JOBS ?=
 PREFIX ?= /usr/local
 CLAUSE ?= headline
 RECORDS ?=
@@ -19,10 +24,10 @@ DISK ?= bench/out
 
 all: pma
 
-# `rt run` proves the program with all that it stands on, builds it, and lets it make a store; it fails where any of that fails.
+# Proves the program with all that it stands on, builds it, and lets it make a store; it fails where any of that fails.
 pma: $(shell find crates crates.txt -name out -prune -o -type f -print)
-	rm -f pma crates/pma_cli/out/first.pma
-	cd crates/pma_cli && rt run -- create out/first.pma 0
+	rm -f pma
+	tools/prove.py $(JOBS)
 	cp crates/pma_cli/out/pma_cli pma
 
 demo: pma
@@ -33,13 +38,23 @@ demo: pma
 	printf 'check\nrange part-0250 * 3\nprobe part-0250 7\n' | ./pma run demo.pma
 	rm -f demo.pma
 
+# Checkouts that a killed `make` left would be refused.
 check:
+	rm -rf out/make/*/
 	.ci/run
 
+clean:
+	rm -rf pma demo.pma out crates/*/out bench/out bench/__pycache__
+
 install: pma
-	install -d $(DESTDIR)$(PREFIX)/bin $(DESTDIR)$(PREFIX)/share/man/man1
+	install -d $(DESTDIR)$(PREFIX)/bin $(DESTDIR)$(PREFIX)/share/man/man1 $(DESTDIR)$(PREFIX)/share/doc/pma
 	install -m 755 pma $(DESTDIR)$(PREFIX)/bin/pma
 	install -m 644 docs/pma.1 $(DESTDIR)$(PREFIX)/share/man/man1/pma.1
+	install -m 644 docs/MANUAL.md docs/FORMAT.md $(DESTDIR)$(PREFIX)/share/doc/pma
+
+uninstall:
+	rm -f $(DESTDIR)$(PREFIX)/bin/pma $(DESTDIR)$(PREFIX)/share/man/man1/pma.1
+	rm -rf $(DESTDIR)$(PREFIX)/share/doc/pma
 
 gate-times:
 	tools/gate-times.sh
@@ -52,6 +67,15 @@ said-twice:
 
 reading:
 	tools/reading.py . '$(CLAUSE)'
+
+doc-examples: pma
+	tools/doc-examples.py ./pma
+
+doc-names:
+	tools/doc-names.py
+
+trials:
+	tools/trials.sh
 
 bench: pma
 	tools/bench.sh ./pma

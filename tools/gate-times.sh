@@ -4,7 +4,8 @@
 # named. The last line has the sums in minutes. A part that failed has a `!`.
 #
 # It works on a copy of the checkout, in the order of crates.txt, so that the libraries below a crate are there. Some kits
-# begin a check with what other copies on the machine kept; there times from nothing come on a machine without them.
+# begin a check with what other copies on the machine kept; there times from nothing come as a user who can't read what was kept,
+# or on a machine without it.
 set -u
 cd "$(dirname "$0")/.."
 root=$PWD

@@ -22,7 +22,7 @@ COMMENT = re.compile(r"\s*(--|//)")
 ITEM = re.compile(r"^(?:pub(?:\(\w+\))? )?(struct|enum|const|trait) (\w+)", re.M)
 MODEL = r"impl[^\n]* Model for %s\b.*?(    ghost Value = \{([^\n]*)\};)"
 GIVEN = set("""Type Unit record data pub abbrev unfoldable let in if then else where as elim omega λ self Self result old new now
-    u8 u16 u32 u64 usize bool str Option Result Vec String true false Some None Ok Err""".split())
+    u8 u16 u32 u64 u128 usize bool str Option Result Vec String true false Some None Ok Err""".split())
 
 
 class Definition:

@@ -1,4 +1,4 @@
-//! Batches that grow, spread and shrink a store, stopped or failing at every call, and opened again: the file has none of
+//! Batches that grow, spread and shrink a store, or are one commit, stopped or failing at every call, and opened again: the file has none of
 //! their items or all of them.
 
 ghost use Rattle.std.specs.Prelude.{◌≤◌, T, length, IfOk};
@@ -64,7 +64,7 @@ pub fn intent_of(
 /// has taken the first record away, and what it answers.
 type Row = (u32, Counts, &'static [Item], u32, u32, Batch);
 
-const BATCHES: [Row; 3] = [
+const BATCHES: [Row; 5] = [
     // grows to height 1
     (
         0,
@@ -108,6 +108,36 @@ const BATCHES: [Row; 3] = [
             removed: 1,
             absent: 0,
             charge: 6,
+        },
+    ),
+    // is one commit of three segments where the journal holds them
+    (
+        2,
+        [20, 20, 20, 20, 0, 0, 0, 0],
+        &[(true, 81), (false, 1), (true, 30)],
+        80,
+        81,
+        Batch::Done {
+            stored: 1,
+            replaced: 1,
+            removed: 1,
+            absent: 0,
+            charge: 6,
+        },
+    ),
+    // is one commit of two segments, at both formats
+    (
+        2,
+        [20, 20, 20, 20, 0, 0, 0, 0],
+        &[(true, 81), (false, 1)],
+        80,
+        81,
+        Batch::Done {
+            stored: 1,
+            replaced: 0,
+            removed: 1,
+            absent: 0,
+            charge: 4,
         },
     ),
 ];
@@ -308,4 +338,36 @@ fn a_batch_that_shrinks_is_stopped_at_every_call(rt: HostRuntime) -> Result<(), 
 #[test]
 fn a_batch_of_format_2_is_stopped_at_every_call(rt: HostRuntime) -> Result<(), Fail> {
     see_stops(&rt, rt.alloc(), 2, &BATCHES[0])
+}
+
+#[test]
+fn a_failed_call_of_a_batch_of_three_segments(rt: HostRuntime) -> Result<(), Fail> {
+    for format in FORMATS {
+        see_faults(&rt, rt.alloc(), format, &BATCHES[3])?;
+    }
+    Ok(())
+}
+
+#[test]
+fn a_batch_of_three_segments_is_stopped_at_every_call(rt: HostRuntime) -> Result<(), Fail> {
+    see_stops(&rt, rt.alloc(), 1, &BATCHES[3])
+}
+
+#[test]
+fn a_batch_of_three_segments_of_format_2_is_stopped_at_every_call(
+    rt: HostRuntime,
+) -> Result<(), Fail> {
+    see_stops(&rt, rt.alloc(), 2, &BATCHES[3])
+}
+
+#[test]
+fn a_failed_call_of_a_batch_of_two_segments_of_format_2(rt: HostRuntime) -> Result<(), Fail> {
+    see_faults(&rt, rt.alloc(), 2, &BATCHES[4])
+}
+
+#[test]
+fn a_batch_of_two_segments_of_format_2_is_stopped_at_every_call(
+    rt: HostRuntime,
+) -> Result<(), Fail> {
+    see_stops(&rt, rt.alloc(), 2, &BATCHES[4])
 }

@@ -115,10 +115,11 @@ fn the_next_record_is_found(rt: HostRuntime) -> Result<(), Fail> {
     Ok(())
 }
 
-/// The opening of a store of two segments makes six calls, so that the seventh reads segment 0, and the eighth segment 1.
+/// The opening of a store of two segments makes five calls, one of which reads both, so that the sixth reads segment 0, and the
+/// seventh segment 1.
 #[test]
 fn a_look_that_fails_closes_the_store(rt: HostRuntime) -> Result<(), Fail> {
-    for (fails, segments) in [(6, 1), (7, 2)] {
+    for (fails, segments) in [(5, 1), (6, 2)] {
         let (mut store, mut station) = session_over(&rt, rt.alloc(), 1, 1, TWO, fails)?;
         let before = station.travel();
         let found = look(&mut store, &mut station, (None, Some(32), None))?;

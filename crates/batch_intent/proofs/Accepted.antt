@@ -11,7 +11,7 @@ use Rattle.map_model.specs.Store.{Update, bind, unbind}
 use Rattle.map_model.specs.ArrayUpdates.{key_of}
 use Rattle.map_model.specs.Items.{has_item}
 use Rattle.map_model.proofs.Resuming.{none_before}
-use Rattle.batch_intent.specs.Spelling.{item_bytes, fits_item, Spells, key_at, item_at, after_item, items_from, place_from}
+use Rattle.batch_intent.specs.Spelling.{item_bytes, fits_item, Spells, key_field, item_at, after_item, items_from, place_from}
 use Rattle.key_slot.specs.Format.{key_room, value_room}
 use Rattle.batch_intent.specs.Judging.{is_kind, is_item, is_wrong_item, first_wrong, wrong_place}
 use Rattle.batch_intent.proofs.ItemsRead.{reads_item, reads_from, reads_intent, key_of-item_at, ReadsAs}
@@ -92,7 +92,7 @@ module _ (format : ℕ) (items : List Update) (area : List ℕ) (size : length a
       let d : Update = unbind [] in
       let is = item_is_there n d lt in
       let item : is_item format area (place_from area n 1) ≡ true = item_is format (get_or items n d) area (place_from area n 1) (all_at (fits_item format) items n d lt spells.fit) (there n d lt) (le_true (after_item area (place_from area n 1)) INTENT_SIZE is.1) in
-      let key : key_at area (place_from area n 1) ≡ key_of (get_or items n d) = sym (key_of-item_at area (place_from area n 1)) ∙ ap key_of is.0 in
+      let key : key_field area (place_from area n 1) ≡ key_of (get_or items n d) = sym (key_of-item_at area (place_from area n 1)) ∙ ap key_of is.0 in
       let before : items_from area n 1 ≡ take n items = take_from area n (byte area 0) 1 (omega (arith, reads.count, lt)) ∙ ap (take n) reads.items in
       (λ t. not (item t) || has_item (key t) (before t)) ∙ none_before items n d lt spells.intent.distinct
     where

@@ -8,7 +8,7 @@ use Rattle.station.specs.Bytes.{byte}
 use Rattle.map_model.specs.Store.{Update, bind, unbind}
 use Rattle.map_model.specs.ArrayUpdates.{key_of}
 use Rattle.map_model.specs.Items.{has_item}
-use Rattle.batch_intent.specs.Spelling.{item_bytes, intent_bytes, key_at, value_at, item_at, after_item, items_from, place_from}
+use Rattle.batch_intent.specs.Spelling.{item_bytes, intent_bytes, key_field, value_field, item_at, after_item, items_from, place_from}
 use Rattle.batch_intent.proofs.Buffers.{range_is}
 
 -- Places.
@@ -45,8 +45,8 @@ keyed : (b : Bool) (k v : List ℕ) → key_of (cond b (bind k v) (unbind k)) �
 keyed true k v = refl
 keyed false k v = refl
 
-pub key_of-item_at : (bytes : List ℕ) (p : ℕ) → key_of (item_at bytes p) ≡ key_at bytes p
-key_of-item_at bytes p = keyed (byte bytes p == 1) (key_at bytes p) (value_at bytes p)
+pub key_of-item_at : (bytes : List ℕ) (p : ℕ) → key_of (item_at bytes p) ≡ key_field bytes p
+key_of-item_at bytes p = keyed (byte bytes p == 1) (key_field bytes p) (value_field bytes p)
 
 either : (a b : Bool) → a ≡ true → (a || b) ≡ true
 either a b e = ap (λ (c : Bool). c || b) e
@@ -71,14 +71,14 @@ has_item-one q u = no_more (bytes_eq q (key_of u))
     no_more false = refl
 
 -- a key that item i has is found
-pub found_from : (q bytes : List ℕ) (n p i : ℕ) → i < n → bytes_eq q (key_at bytes (place_from bytes i p)) ≡ true → has_item q (items_from bytes n p) ≡ true
+pub found_from : (q bytes : List ℕ) (n p i : ℕ) → i < n → bytes_eq q (key_field bytes (place_from bytes i p)) ≡ true → has_item q (items_from bytes n p) ≡ true
 found_from q bytes zero p i lt is = absurd (omega arith)
 found_from q bytes (suc n) p zero lt is = either (bytes_eq q (key_of (item_at bytes p))) (has_item q (items_from bytes n (after_item bytes p))) (ap (bytes_eq q) (key_of-item_at bytes p) ∙ is)
 found_from q bytes (suc n) p (suc i) lt is =
     ap (λ (b : Bool). bytes_eq q (key_of (item_at bytes p)) || b) (found_from q bytes n (after_item bytes p) i (omega arith) is) ∙ or_true (bytes_eq q (key_of (item_at bytes p)))
 
 -- a key that isn't among the first n, nor that of the next one, isn't among the first n + 1
-pub missed_next : (q bytes : List ℕ) (n p : ℕ) → has_item q (items_from bytes n p) ≡ false → bytes_eq q (key_at bytes (place_from bytes n p)) ≡ false → has_item q (items_from bytes (suc n) p) ≡ false
+pub missed_next : (q bytes : List ℕ) (n p : ℕ) → has_item q (items_from bytes n p) ≡ false → bytes_eq q (key_field bytes (place_from bytes n p)) ≡ false → has_item q (items_from bytes (suc n) p) ≡ false
 missed_next q bytes n p none other =
     ap (has_item q) (items_next bytes n p)
     ∙ has_item-append q (items_from bytes n p) (item_at bytes (place_from bytes n p) ∷ [])
@@ -101,13 +101,13 @@ reads_bind key value bytes p within is =
     let kind : byte bytes p ≡ 1 = at 0 p (omega arith) (omega arith) in
     let a : byte bytes (p + 1) ≡ length key = at 1 (p + 1) refl (omega arith) in
     let b : byte bytes (p + 2) ≡ length value = at 2 (p + 2) refl (omega arith) in
-    let key_is : key_at bytes p ≡ key =
+    let key_is : key_field bytes p ≡ key =
     ap (λ (n : ℕ). slice_range bytes (p + 3) (p + 3 + n)) a
     ∙ range_is bytes key (p + 3) (omega (arith, within, size)) (λ k lt. at (suc (suc (suc k))) (p + 3 + k) (omega arith) (omega (arith, lt, size)) ∙ get_or_append_left key value 0 k lt) in
-    let value_is : value_at bytes p ≡ value =
+    let value_is : value_field bytes p ≡ value =
     (λ t. slice_range bytes (p + 3 + a t) (p + 3 + a t + b t))
     ∙ range_is bytes value (p + 3 + length key) (omega (arith, within, size)) (λ k lt. at (suc (suc (suc (length key + k)))) (p + 3 + length key + k) (omega arith) (omega (arith, lt, size)) ∙ get_or-append-add key value k 0) in
-    (ap (λ (n : ℕ). cond (n == 1) (bind (key_at bytes p) (value_at bytes p)) (unbind (key_at bytes p))) kind ∙ (λ t. bind (key_is t) (value_is t)), omega (arith, a, b, size))
+    (ap (λ (n : ℕ). cond (n == 1) (bind (key_field bytes p) (value_field bytes p)) (unbind (key_field bytes p))) kind ∙ (λ t. bind (key_is t) (value_is t)), omega (arith, a, b, size))
 
 reads_unbind : (key bytes : List ℕ) (p : ℕ) → p + length (item_bytes (unbind key)) ≤ length bytes → ((k : ℕ) → k < length (item_bytes (unbind key)) → byte bytes (p + k) ≡ byte (item_bytes (unbind key)) k)
     → (item_at bytes p ≡ unbind key) × (after_item bytes p ≡ p + length (item_bytes (unbind key)))
@@ -116,10 +116,10 @@ reads_unbind key bytes p within is =
     let kind : byte bytes p ≡ 2 = at 0 p (omega arith) (omega arith) in
     let a : byte bytes (p + 1) ≡ length key = at 1 (p + 1) refl (omega arith) in
     let b : byte bytes (p + 2) ≡ 0 = at 2 (p + 2) refl (omega arith) in
-    let key_is : key_at bytes p ≡ key =
+    let key_is : key_field bytes p ≡ key =
     ap (λ (n : ℕ). slice_range bytes (p + 3) (p + 3 + n)) a
     ∙ range_is bytes key (p + 3) (omega (arith, within)) (λ k lt. at (suc (suc (suc k))) (p + 3 + k) (omega arith) (omega (arith, lt))) in
-    (ap (λ (n : ℕ). cond (n == 1) (bind (key_at bytes p) (value_at bytes p)) (unbind (key_at bytes p))) kind ∙ ap unbind key_is, omega (arith, a, b))
+    (ap (λ (n : ℕ). cond (n == 1) (bind (key_field bytes p) (value_field bytes p)) (unbind (key_field bytes p))) kind ∙ ap unbind key_is, omega (arith, a, b))
 
 pub reads_item : (u : Update) (bytes : List ℕ) (p : ℕ) → p + length (item_bytes u) ≤ length bytes → ((k : ℕ) → k < length (item_bytes u) → byte bytes (p + k) ≡ byte (item_bytes u) k)
     → (item_at bytes p ≡ u) × (after_item bytes p ≡ p + length (item_bytes u))

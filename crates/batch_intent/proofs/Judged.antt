@@ -5,7 +5,7 @@ use Rattle.station.specs.Bytes.{byte}
 use Rattle.map_model.specs.Store.{Update}
 use Rattle.map_model.specs.Items.{has_item}
 use Rattle.batch_intent.specs.declared.intent.TheConstants.{MOST_ITEMS}
-use Rattle.batch_intent.specs.Spelling.{key_at, items_from, place_from}
+use Rattle.batch_intent.specs.Spelling.{key_field, items_from, place_from}
 use Rattle.batch_intent.specs.Judging.{is_item, is_wrong_item, first_wrong, wrong_place}
 
 -- an item by what it was found to be
@@ -20,9 +20,9 @@ right_by true false r is f = refl
 right_by false b r is f = absurd (cc)
 
 -- whether item i is wrong, told by its place and the items before it
-pub wrong_at : (format : ℕ) (bytes : List ℕ) (i p : ℕ) (items : List Update) (b : Bool) → p ≡ place_from bytes i 1 → items ≡ items_from bytes i 1 → (not (is_item format bytes p) || has_item (key_at bytes p) items) ≡ b → is_wrong_item format bytes i ≡ b
+pub wrong_at : (format : ℕ) (bytes : List ℕ) (i p : ℕ) (items : List Update) (b : Bool) → p ≡ place_from bytes i 1 → items ≡ items_from bytes i 1 → (not (is_item format bytes p) || has_item (key_field bytes p) items) ≡ b → is_wrong_item format bytes i ≡ b
 wrong_at format bytes i p items b place are is =
-    (λ t. not (is_item format bytes (sym place t)) || has_item (key_at bytes (sym place t)) (sym are t)) ∙ is
+    (λ t. not (is_item format bytes (sym place t)) || has_item (key_field bytes (sym place t)) (sym are t)) ∙ is
 
 next_by : (before : Option ℕ) (w : Bool) (place : ℕ) → before ≡ None → cond (is_some before) before (cond w (Some place) None) ≡ cond w (Some place) None
 next_by before w place none = ap (λ (o : Option ℕ). cond (is_some o) o (cond w (Some place) None)) none

@@ -76,32 +76,42 @@ some_pending image is = ap (λ (b : Bool). cond b (items_in (intent_area image))
 
 pub means_idle : (image : List ℕ) (m : Map) (height : ℕ) → Represents image m height → has_pending image ≡ false → Means image m height
 means_idle image m height is none =
-    let nothing = none_pending image none in
     record {
       base = m;
+      items = [];
       represents = is;
+      idle = λ _. refl;
       form = λ some. absurd (cc);
-      admitted = subst (AreAdmitted (height_limit (layout_in image)) m) (sym nothing) refl;
-      map_is = ap (map_after_items (height_limit (layout_in image)) m) nothing;
+      admitted = refl;
+      map_is = refl;
     }
 
 pub means_pending : (image : List ℕ) (base : Map) (height : ℕ) (items : List Update) → Represents image base height → has_pending image ≡ true → Spells (slot_format image) items (intent_area image)
     → AreAdmitted (height_limit (layout_in image)) base items → Means image (map_after_items (height_limit (layout_in image)) base items) height
 means_pending image base height items is some spells admitted =
-    let same : pending image ≡ items = some_pending image some ∙ spelled_items (slot_format image) items (intent_area image) (length-intent_area image) spells in
     record {
       base = base;
+      items = items;
       represents = is;
-      form = λ _. subst (λ (us : List Update). Spells (slot_format image) us (intent_area image)) (sym same) spells;
-      admitted = subst (AreAdmitted (height_limit (layout_in image)) base) (sym same) admitted;
-      map_is = ap (map_after_items (height_limit (layout_in image)) base) same;
+      idle = λ none. absurd (cc);
+      form = λ _. spells;
+      admitted = admitted;
+      map_is = refl;
     }
+
+-- the items of the intent are those that are read from it
+pub items_are : (image : List ℕ) (m : Map) (height : ℕ) (means : Means image m height) → means.items ≡ pending image
+items_are image m height means = by_gate (has_pending image) refl
+  where
+    by_gate : (b : Bool) → has_pending image ≡ b → means.items ≡ pending image
+    by_gate true some = sym (some_pending image some ∙ spelled_items (slot_format image) means.items (intent_area image) (length-intent_area image) (means.form some))
+    by_gate false none = means.idle none ∙ sym (none_pending image none)
 
 -- a file means one map
 pub meant_one : (image : List ℕ) (m : Map) (height : ℕ) → Means image m height → (m ≡ meant_map image) × (height ≡ height_of image)
 meant_one image m height means =
     let own = determined image means.base height means.represents in
-    (sym means.map_is ∙ ap (λ (b : Map). map_after_items (height_limit (layout_in image)) b (pending image)) own.0, own.1)
+    (sym means.map_is ∙ (λ t. map_after_items (height_limit (layout_in image)) (own.0 t) (items_are image m height means t)), own.1)
 
 -- The same intent.
 
@@ -215,4 +225,9 @@ intent_whole old new base height items is even version some intent fit intends =
 
 -- an image with an intent that is to be applied is at the beginning of its batch
 pub batch_begun : (image : List ℕ) (m : Map) (height : ℕ) (means : Means image m height) → has_pending image ≡ true → InBatch (layout_in image) means.base (pending image) 0 image
-batch_begun image m height means some = record { some = some; layout_is = refl; spells = means.form some; represents = (height, means.represents) }
+batch_begun image m height means some = record {
+  some = some;
+  layout_is = refl;
+  spells = subst (λ (us : List Update). Spells (slot_format image) us (intent_area image)) (items_are image m height means) (means.form some);
+  represents = (height, means.represents);
+}

@@ -15,7 +15,7 @@ use Rattle.batch_intent.specs.Judging.{wrong_place}
 use Rattle.batch_intent.specs.Gate.{intent_area, reason_at, form_reason}
 use Rattle.batch_intent.specs.Means.{has_pending, pending, Means, meant_map, full_reason, fullness_reason, opening_reason}
 use Rattle.batch_intent.proofs.Gates.{length-intent_area}
-use Rattle.batch_intent.proofs.Meanings.{none_pending, some_pending, means_idle, means_pending}
+use Rattle.batch_intent.proofs.Meanings.{none_pending, some_pending, means_idle, means_pending, items_are}
 use Rattle.batch_intent.proofs.Accepted.{nothing_wrong}
 use Rattle.batch_intent.proofs.Sound.{spells_of_none}
 
@@ -59,13 +59,13 @@ module _ (image : List ℕ) where
   form_none : (m : Map) (height : ℕ) → Means image m height → (b : Bool) → has_pending image ≡ b → form_reason (layout_in image) image ≡ None
   form_none m height means true some =
       ap (λ (b : Bool). cond b form_is None) some
-      ∙ ap reason_at (nothing_wrong (slot_format image) (pending image) (intent_area image) (length-intent_area image) (means.form some))
+      ∙ ap reason_at (nothing_wrong (slot_format image) means.items (intent_area image) (length-intent_area image) (means.form some))
   form_none m height means false idle = ap (λ (b : Bool). cond b form_is None) idle
 
   pub none_of_means : (m : Map) (height : ℕ) → Means image m height → opening_reason image ≡ None
   unfolding opening_reason
   none_of_means m height means =
       let own = determined image means.base height means.represents in
-      let admitted = ap (λ (b : Map). first_full (height_limit (layout_in image)) b (pending image)) (sym own.0) ∙ means.admitted in
+      let admitted = (λ t. first_full (height_limit (layout_in image)) (sym own.0 t) (sym (items_are image m height means) t)) ∙ means.admitted in
       both_none (reason_of image) (or_else (form_reason (layout_in image) image) (fullness_reason image)) (none_of_represents image means.base height means.represents)
       (both_none (form_reason (layout_in image) image) (fullness_reason image) (form_none m height means (has_pending image) refl) (ap (full_reason (intent_area image)) admitted))

@@ -11,7 +11,7 @@ use Rattle.batch_intent.specs.declared.places.TheConstants.{INTENT_SIZE}
 use Rattle.map_model.specs.Store.{Update, bind, unbind}
 use Rattle.map_model.specs.Items.{has_item, are_distinct}
 use Rattle.batch_intent.specs.declared.intent.TheConstants.{MOST_ITEMS}
-use Rattle.batch_intent.specs.Spelling.{item_bytes, intent_bytes, fits_item, Spells, key_at, value_at, item_at, after_item, items_in, items_from, place_from}
+use Rattle.batch_intent.specs.Spelling.{item_bytes, intent_bytes, fits_item, Spells, key_field, value_field, item_at, after_item, items_in, items_from, place_from}
 use Rattle.key_slot.specs.Format.{key_room, value_room}
 use Rattle.batch_intent.specs.Judging.{is_kind, is_item, is_wrong_item, first_wrong, wrong_place}
 use Rattle.batch_intent.proofs.Buffers.{fields_written}
@@ -46,18 +46,18 @@ pub record IsSpelled (format : ℕ) (bytes : List ℕ) (p : ℕ) (u : Update) : 
 
 module _ (format : ℕ) (bytes : List ℕ) (p : ℕ) (long : length bytes ≡ INTENT_SIZE) (within : after_item bytes p ≤ INTENT_SIZE)
     (some : nat_le 1 (byte bytes (p + 1)) ≡ true) (key_most : nat_le (byte bytes (p + 1)) (key_room format) ≡ true) (value_most : nat_le (byte bytes (p + 2)) (value_room format) ≡ true) where
-  key_size : length (key_at bytes p) ≡ byte bytes (p + 1)
+  key_size : length (key_field bytes p) ≡ byte bytes (p + 1)
   key_size = length-slice_range bytes (p + 3) (p + 3 + byte bytes (p + 1)) (omega arith) (omega (arith, within, long)) ∙ omega arith
 
-  value_size : length (value_at bytes p) ≡ byte bytes (p + 2)
+  value_size : length (value_field bytes p) ≡ byte bytes (p + 2)
   value_size = length-slice_range bytes (p + 3 + byte bytes (p + 1)) (p + 3 + byte bytes (p + 1) + byte bytes (p + 2)) (omega arith) (omega (arith, within, long)) ∙ omega arith
 
-  key_there : (k : ℕ) → k < length (key_at bytes p) → byte bytes (p + 3 + k) ≡ byte (key_at bytes p) k
+  key_there : (k : ℕ) → k < length (key_field bytes p) → byte bytes (p + 3 + k) ≡ byte (key_field bytes p) k
   key_there k lt = sym (byte-slice_range bytes (p + 3) (p + 3 + byte bytes (p + 1)) k (omega (arith, lt, key_size)))
 
-  value_there : (k : ℕ) → k < length (value_at bytes p) → byte bytes (p + 3 + length (key_at bytes p) + k) ≡ byte (value_at bytes p) k
+  value_there : (k : ℕ) → k < length (value_field bytes p) → byte bytes (p + 3 + length (key_field bytes p) + k) ≡ byte (value_field bytes p) k
   value_there k lt =
-      let e : p + 3 + length (key_at bytes p) + k ≡ p + 3 + byte bytes (p + 1) + k = omega (arith, key_size) in
+      let e : p + 3 + length (key_field bytes p) + k ≡ p + 3 + byte bytes (p + 1) + k = omega (arith, key_size) in
       ap (byte bytes) e ∙ sym (byte-slice_range bytes (p + 3 + byte bytes (p + 1)) (p + 3 + byte bytes (p + 1) + byte bytes (p + 2)) k (omega (arith, lt, value_size)))
 
   -- the head of an item with these sizes
@@ -67,19 +67,19 @@ module _ (format : ℕ) (bytes : List ℕ) (p : ℕ) (long : length bytes ≡ IN
   head_there x y z a b c (suc (suc zero)) lt = c
   head_there x y z a b c (suc (suc (suc k))) lt = absurd (omega arith)
 
-  bind_spelled : byte bytes p ≡ 1 → IsSpelled format bytes p (bind (key_at bytes p) (value_at bytes p))
+  bind_spelled : byte bytes p ≡ 1 → IsSpelled format bytes p (bind (key_field bytes p) (value_field bytes p))
   bind_spelled kind =
-      let key = key_at bytes p in
-      let value = value_at bytes p in
+      let key = key_field bytes p in
+      let value = value_field bytes p in
       record {
         size = omega (arith, key_size, value_size, length-append key value);
         spelled = λ k lt. fields_written 1 (length key) (length value) key value p bytes bytes bytes bytes (head_there 1 (length key) (length value) kind (sym key_size) (sym value_size)) (λ i out. refl) key_there (λ i out. refl) value_there (λ i out. refl) k (omega (arith, lt, length-append key value));
         fits = three (nat_le 1 (length key)) (nat_le (length key) (key_room format)) (nat_le (length value) (value_room format)) (ap (nat_le 1) key_size ∙ some) (ap (λ (n : ℕ). nat_le n (key_room format)) key_size ∙ key_most) (ap (λ (n : ℕ). nat_le n (value_room format)) value_size ∙ value_most);
       }
 
-  unbind_spelled : byte bytes p ≡ 2 → byte bytes (p + 2) ≡ 0 → IsSpelled format bytes p (unbind (key_at bytes p))
+  unbind_spelled : byte bytes p ≡ 2 → byte bytes (p + 2) ≡ 0 → IsSpelled format bytes p (unbind (key_field bytes p))
   unbind_spelled kind none =
-      let key = key_at bytes p in
+      let key = key_field bytes p in
       let nil : key ++ [] ≡ key = append-nil key in
       record {
         size = omega (arith, key_size, none);
@@ -90,7 +90,7 @@ module _ (format : ℕ) (bytes : List ℕ) (p : ℕ) (long : length bytes ≡ IN
       zero_le : (n : ℕ) → nat_le 0 n ≡ true
       zero_le n = grind (arith, nat_tests)
 
-  by_kind : (b : Bool) → (byte bytes p == 1) ≡ b → is_kind (byte bytes p) (byte bytes (p + 2)) ≡ true → IsSpelled format bytes p (cond b (bind (key_at bytes p) (value_at bytes p)) (unbind (key_at bytes p)))
+  by_kind : (b : Bool) → (byte bytes p == 1) ≡ b → is_kind (byte bytes p) (byte bytes (p + 2)) ≡ true → IsSpelled format bytes p (cond b (bind (key_field bytes p) (value_field bytes p)) (unbind (key_field bytes p)))
   by_kind true e kind = bind_spelled (eqb-true (byte bytes p) 1 e)
   by_kind false e kind =
       let other : ((byte bytes p == 2) && (byte bytes (p + 2) == 0)) ≡ true = sym (ap (λ (c : Bool). c || ((byte bytes p == 2) && (byte bytes (p + 2) == 0))) e) ∙ kind in
@@ -117,7 +117,7 @@ pub record AllRight (format : ℕ) (bytes : List ℕ) (items : List Update) (pla
   pub distinct : are_distinct items ≡ true
   pub fit : T (list_all (fits_item format) items)
 
-more_right : (format : ℕ) (bytes : List ℕ) (items : List Update) (p : ℕ) → length bytes ≡ INTENT_SIZE → AllRight format bytes items p → is_item format bytes p ≡ true → has_item (key_at bytes p) items ≡ false → AllRight format bytes (items ++ item_at bytes p ∷ []) (after_item bytes p)
+more_right : (format : ℕ) (bytes : List ℕ) (items : List Update) (p : ℕ) → length bytes ≡ INTENT_SIZE → AllRight format bytes items p → is_item format bytes p ≡ true → has_item (key_field bytes p) items ≡ false → AllRight format bytes (items ++ item_at bytes p ∷ []) (after_item bytes p)
 more_right format bytes items p long all is other =
     let u = item_at bytes p in
     let found = item_spelled format bytes p long is in
@@ -148,7 +148,7 @@ module _ (format : ℕ) (bytes : List ℕ) (long : length bytes ≡ INTENT_SIZE)
   all_right zero none = record { within = omega arith; size = omega arith; spelled = λ k lt. absurd (omega arith); distinct = refl; fit = tt }
   all_right (suc n) none =
       let parts = none_and (first_wrong format bytes n) (is_wrong_item format bytes n) (place_from bytes n 1) none in
-      let right = neither (is_item format bytes (place_from bytes n 1)) (has_item (key_at bytes (place_from bytes n 1)) (items_from bytes n 1)) parts.1 in
+      let right = neither (is_item format bytes (place_from bytes n 1)) (has_item (key_field bytes (place_from bytes n 1)) (items_from bytes n 1)) parts.1 in
       let more = more_right format bytes (items_from bytes n 1) (place_from bytes n 1) long (all_right n parts.0) right.0 right.1 in
       subst (λ (us : List Update). AllRight format bytes us (place_from bytes (suc n) 1)) (sym (items_next bytes n 1))
       (subst (AllRight format bytes (items_from bytes n 1 ++ item_at bytes (place_from bytes n 1) ∷ [])) (sym (place_next bytes n 1)) more)

@@ -4,7 +4,7 @@ use Rattle.station.specs.Bytes.{byte}
 use Rattle.batch_intent.specs.declared.places.TheConstants.{INTENT_SIZE}
 use Rattle.map_model.specs.Items.{has_item}
 use Rattle.batch_intent.specs.declared.intent.TheConstants.{MOST_ITEMS}
-use Rattle.batch_intent.specs.Spelling.{key_at, after_item, items_from, place_from}
+use Rattle.batch_intent.specs.Spelling.{key_field, after_item, items_from, place_from}
 use Rattle.key_slot.specs.Format.{key_room, value_room}
 
 -- an item's first byte, with the size of its value: none in a remove
@@ -19,7 +19,7 @@ is_item format bytes p =
 
 -- whether item i is wrong: it is none of the format, or has the key of an earlier one
 abbrev pub is_wrong_item : ℕ → List ℕ → ℕ → Bool
-is_wrong_item format bytes i = not (is_item format bytes (place_from bytes i 1)) || has_item (key_at bytes (place_from bytes i 1)) (items_from bytes i 1)
+is_wrong_item format bytes i = not (is_item format bytes (place_from bytes i 1)) || has_item (key_field bytes (place_from bytes i 1)) (items_from bytes i 1)
 
 -- the place of the first of n items that is wrong
 unfoldable pub first_wrong : ℕ → List ℕ → ℕ → Option ℕ

@@ -1,15 +1,16 @@
 -- What a file means: the map that it represents, with the items of its intent made where its gate is odd.
-use Rattle.std.specs.Prelude.{◌≡◌, ℕ, ◌+◌, if◌then◌else◌, Bool, true, List, [], take, Option, Some, None}
+use Rattle.std.specs.Prelude.{◌≡◌, ℕ, ◌+◌, if◌then◌else◌, Bool, true, false, List, [], take, Option, Some, None}
 use Rattle.station.specs.Bytes.{byte, InRange}
 use Rattle.batch_intent.specs.declared.places.TheConstants.{INTENT, INTENT_SIZE}
 use Rattle.header_gate.specs.declared.layout.Layout.{Layout}
+use Rattle.header_gate.specs.declared.layout.TheConstants.{IDENTITY}
 use Rattle.header_gate.specs.declared.reason.Reason.{Reason}
 use Rattle.header_gate.specs.declared.reason.Reason.TheVariants.{Intent}
 use Rattle.header_gate.specs.Header.{intent_gate, layout_in}
 use Rattle.header_gate.specs.Places.{height_limit}
 use Rattle.header_gate.specs.Reasons.{or_else}
-use Rattle.map_model.specs.Store.{Map, Update}
-use Rattle.map_model.specs.Items.{map_after_items, first_full, AreAdmitted}
+use Rattle.map_model.specs.Store.{Map, State, Update}
+use Rattle.map_model.specs.Items.{map_after_items, state_after_items, first_full}
 use Rattle.map_model.specs.Image.{Represents, RepresentsMap, slot_format, map_of}
 use Rattle.map_model.specs.ArrayState.{ArrayState, opened_state, next_states}
 use Rattle.map_model.specs.Reasons.{reason_of}
@@ -24,14 +25,20 @@ has_pending image = has_intent (layout_in image) image
 unfoldable pub pending : List ℕ → List Update
 pending image = if has_pending image then items_in (intent_area image) else []
 
--- the image means this map at this height: it represents a map, the intent that is to be applied is one of the file's slot
--- format, none of its items meets a full store, and this is the map after them
+-- The image means this map at this height: it represents a map, its intent has items, one or more that fit its slot format where
+-- they are to be applied and none else, none of them meets a full store, and this is the map after them.
 pub record Means (image : List ℕ) (m : Map) (height : ℕ) : Type 0 where
   pub base : Map
+  pub items : List Update
   pub represents : Represents image base height
-  pub form : has_pending image ≡ true → Spells (slot_format image) (pending image) (intent_area image)
-  pub admitted : AreAdmitted (height_limit (layout_in image)) base (pending image)
-  pub map_is : map_after_items (height_limit (layout_in image)) base (pending image) ≡ m
+  pub idle : has_intent (layout_in image) image ≡ false → items ≡ []
+  pub form : has_intent (layout_in image) image ≡ true → Spells (slot_format image) items (intent_area image)
+  pub admitted : first_full (height_limit (layout_in image)) base items ≡ None
+  pub map_is : map_after_items (height_limit (layout_in image)) base items ≡ m
+
+-- this map, and the height to which the items lead: what a session on the image begins with
+abbrev pub meant_state : {image : List ℕ} {m : Map} {height : ℕ} → Means image m height → State
+meant_state {image} {m} {height} means = record { map = m; height = (state_after_items (height_limit (layout_in image)) (record { map = means.base; height = height }) means.items).height }
 
 -- the image means this map, at the height that it names
 abbrev pub MeansMap : List ℕ → Map → Type 0
@@ -69,7 +76,7 @@ pub record KeepsIntent (old new : List ℕ) : Type 0 where
 -- a place at which nothing stands that says which items are to be applied, but for the slot format: none of identity, intent
 -- and its gate. All that an update of one key may touch is such.
 pub record IsApart (k : ℕ) : Type 0 where
-  pub identity : InRange 3072 20 k → ⊥
+  pub identity : InRange IDENTITY 20 k → ⊥
   pub intent : IsIntentPlace k → ⊥
 
 -- k of the items were made: the image represents the map after them, and the intent of all of them is to be applied

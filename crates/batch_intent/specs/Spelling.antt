@@ -4,7 +4,7 @@ use Rattle.std.specs.Prelude.{◌≡◌, ℕ, zero, suc, ◌+◌, ◌<◌, ◌�
 use Rattle.std.specs.List.{flat_map, list_all}
 use Rattle.station.specs.Bytes.{byte}
 use Rattle.batch_intent.specs.declared.places.TheConstants.{INTENT_SIZE}
-use Rattle.key_slot.specs.Format.{key_room, value_room}
+use Rattle.key_slot.specs.Record.{is_record}
 use Rattle.map_model.specs.Store.{Update, bind, unbind}
 use Rattle.map_model.specs.ArrayUpdates.{key_of}
 use Rattle.map_model.specs.Items.{are_distinct}
@@ -18,17 +18,17 @@ abbrev pub intent_bytes : List Update → List ℕ
 intent_bytes items = length items ∷ flat_map item_bytes items
 
 -- the value that an item binds; a remove binds none
-abbrev pub value_of : Update → List ℕ
-value_of (bind key value) = value
-value_of (unbind key) = []
+abbrev pub bound_value : Update → List ℕ
+bound_value (bind key value) = value
+bound_value (unbind key) = []
 
 -- whether an item's key and value have sizes up to these
 abbrev pub has_sizes : ℕ → ℕ → Update → Bool
-has_sizes key_size value_size u = nat_le 1 (length (key_of u)) && (nat_le (length (key_of u)) key_size && nat_le (length (value_of u)) value_size)
+has_sizes key_size value_size u = nat_le 1 (length (key_of u)) && (nat_le (length (key_of u)) key_size && nat_le (length (bound_value u)) value_size)
 
--- whether an item fits a slot format: a key and a value have room in its slots
+-- whether an item fits a slot format, with the empty value where it binds none
 abbrev pub fits_item : ℕ → Update → Bool
-fits_item format u = has_sizes (key_room format) (value_room format) u
+fits_item format u = is_record format (key_of u, bound_value u)
 
 -- items that may be an intent: not too many, and no key twice, with a spelling that there is room for
 pub record IsIntent (items : List Update) : Type 0 where
@@ -46,15 +46,15 @@ pub record Spells (format : ℕ) (items : List Update) (bytes : List ℕ) : Type
 -- How bytes are read.
 
 -- the key and the value that stand at a place, by the sizes there
-abbrev pub key_at : List ℕ → ℕ → List ℕ
-key_at bytes p = slice_range bytes (p + 3) (p + 3 + byte bytes (p + 1))
+abbrev pub key_field : List ℕ → ℕ → List ℕ
+key_field bytes p = slice_range bytes (p + 3) (p + 3 + byte bytes (p + 1))
 
-abbrev pub value_at : List ℕ → ℕ → List ℕ
-value_at bytes p = slice_range bytes (p + 3 + byte bytes (p + 1)) (p + 3 + byte bytes (p + 1) + byte bytes (p + 2))
+abbrev pub value_field : List ℕ → ℕ → List ℕ
+value_field bytes p = slice_range bytes (p + 3 + byte bytes (p + 1)) (p + 3 + byte bytes (p + 1) + byte bytes (p + 2))
 
 -- the item that stands there
 abbrev pub item_at : List ℕ → ℕ → Update
-item_at bytes p = if byte bytes p == 1 then bind (key_at bytes p) (value_at bytes p) else unbind (key_at bytes p)
+item_at bytes p = if byte bytes p == 1 then bind (key_field bytes p) (value_field bytes p) else unbind (key_field bytes p)
 
 -- where the next one stands
 abbrev pub after_item : List ℕ → ℕ → ℕ

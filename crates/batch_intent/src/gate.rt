@@ -30,6 +30,7 @@ pub fn write_intent<S: Station>(station: &mut S, intent: &Intent) -> Result<(), 
     ensures holds { OnOk result (Told (S.view station.old) → HoldsItems intent.now (S.view station.new).held) }
     ensures cost { (S.view station.new).travel.written ≤ (S.view station.old).travel.written + (INTENT_SIZE + 1) }
     ensures no_reads { (S.view station.new).travel.read ≡ (S.view station.old).travel.read }
+    ensures calls { (S.view station.new).calls ≤ (S.view station.old).calls + 4 }
     ensures cause { OnErr result (Rose (S.view station.old).disk_faults (S.view station.new).disk_faults) }
 {
     write_synced(station, INTENT, intent.spelling())?;
@@ -47,6 +48,7 @@ pub fn close_intent<S: Station>(station: &mut S) -> Result<(), Failed>
     ensures closed { OnOk result (Told (S.view station.old) → byte (S.view station.new).held 640 ≡ 0) }
     ensures cost { (S.view station.new).travel.written ≤ (S.view station.old).travel.written + 1 }
     ensures no_reads { (S.view station.new).travel.read ≡ (S.view station.old).travel.read }
+    ensures calls { (S.view station.new).calls ≤ (S.view station.old).calls + 2 }
     ensures cause { OnErr result (Rose (S.view station.old).disk_faults (S.view station.new).disk_faults) }
 {
     set_gate(station, Gate::Intent, false)

@@ -6,7 +6,7 @@ ghost use Rattle.header_gate.specs.Places.{IsSlotFormat};
 ghost use Rattle.map_model.specs.Items.{has_item};
 ghost use Rattle.batch_intent.specs.declared.intent.TheConstants.{MOST_ITEMS};
 ghost use Rattle.batch_intent.specs.Spelling as spelling;
-ghost use Rattle.batch_intent.specs.Spelling.{intent_bytes, key_at, after_item, items_in};
+ghost use Rattle.batch_intent.specs.Spelling.{intent_bytes, key_field, after_item, items_in};
 ghost use Rattle.batch_intent.specs.Judging.{is_item, wrong_place};
 
 use crate::intent::{Intent, MOST_ITEMS};
@@ -44,7 +44,7 @@ fn take_item(bytes: &[u8; INTENT_SIZE], p: usize, format: u32, intent: &mut Inte
     requires place { p ≤ INTENT_SIZE }
     requires few { length intent.old < MOST_ITEMS }
     requires end { length (intent_bytes intent.old) ≡ p }
-    ensures right { result ≡ (is_item format bytes.now p && not (has_item (key_at bytes.now p) intent.old)) }
+    ensures right { result ≡ (is_item format bytes.now p && not (has_item (key_field bytes.now p) intent.old)) }
     ensures taken { result ≡ true → intent.new ≡ intent.old ++ spelling.item_at bytes.now p ∷ [] }
     ensures end { result ≡ true → length (intent_bytes intent.new) ≡ after_item bytes.now p }
     ensures within { result ≡ true → after_item bytes.now p ≤ INTENT_SIZE }

@@ -41,6 +41,9 @@ pub fn read_intent<S: Station>(
     ensures reads { (S.view station.new).travel.read ≤ (S.view station.old).travel.read + (1 + INTENT_SIZE) }
     ensures unread { layout.version < INTENT_VERSION → (S.view station.new).travel.read ≡ (S.view station.old).travel.read }
     ensures gate_alone { Told (S.view station.old) → has_intent layout (S.view station.old).held ≡ false → (S.view station.new).travel.read ≤ (S.view station.old).travel.read + 1 }
+    ensures calls { (S.view station.new).calls ≤ (S.view station.old).calls + 2 }
+    ensures no_calls { layout.version < INTENT_VERSION → (S.view station.new).calls ≡ (S.view station.old).calls }
+    ensures one_call { Told (S.view station.old) → has_intent layout (S.view station.old).held ≡ false → (S.view station.new).calls ≤ (S.view station.old).calls + 1 }
     ensures cause { IsErrOf result HeaderFault.Failed → Rose (S.view station.old).disk_faults (S.view station.new).disk_faults }
 {
     if layout.version < INTENT_VERSION {

@@ -9,7 +9,7 @@ ghost use Rattle.map_model.specs.ArrayUpdates.{key_of};
 ghost use Rattle.map_model.specs.Items.{has_item};
 ghost use Rattle.batch_intent.specs.Items.{update_of};
 ghost use Rattle.batch_intent.specs.Spelling as spelling;
-ghost use Rattle.batch_intent.specs.Spelling.{item_bytes, has_sizes, key_at, after_item, place_from};
+ghost use Rattle.batch_intent.specs.Spelling.{item_bytes, has_sizes, key_field, after_item, place_from};
 
 use crate::item::Item;
 use crate::places::INTENT_SIZE;
@@ -84,7 +84,7 @@ pub(crate) fn find_item(bytes: &[u8; INTENT_SIZE], key: Key) -> bool
 // Whether the item that stands at `p` has the key.
 fn has_key(bytes: &[u8; INTENT_SIZE], p: usize, key: &Key) -> bool
     requires { after_item bytes.now p ≤ INTENT_SIZE }
-    ensures { result ≡ bytes_eq key.now (key_at bytes.now p) }
+    ensures { result ≡ bytes_eq key.now (key_field bytes.now p) }
 {
     let value_at = p + HEAD + bytes[p + 1] as usize;
     key.as_bytes() == &bytes[p + HEAD..value_at]

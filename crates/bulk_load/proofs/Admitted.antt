@@ -2,7 +2,7 @@
 use Rattle.std.proofs.Common.{inl, inr, ℕ, ◌<◌, ◌≤◌, List, length, sym, ◌∙◌, arith}
 use Rattle.key_slot.specs.Record.{Record}
 use Rattle.line_source.specs.Lines.{raw_lines}
-use Rattle.line_source.specs.SourceView.{SourceView, Told}
+use Rattle.line_source.specs.SourceView.{SourceView, SourceTold}
 use Rattle.line_source.specs.ReaderView.{ReaderView, rest}
 use Rattle.bulk_load.specs.declared.fault.LoadFault.{LoadFault}
 use Rattle.bulk_load.specs.declared.fault.LoadFault.TheVariants.{NotEmpty, Line, Full, Disk, Damaged, Script, Spent}
@@ -11,7 +11,7 @@ use Rattle.bulk_load.specs.LoadText.{IsLoadText}
 use Rattle.bulk_load.specs.Loading.{IsWrongLine}
 use Rattle.bulk_load.proofs.TextLaws.{text_read, no_wrong, no_full, same_end, true_false}
 
-pub admitted : (format most : ℕ) (r0 : ReaderView) (s0 s : SourceView) (rows : List Record) (fault : LoadFault) → IsLoadText format (raw_lines (rest r0 s0)) rows → length rows ≤ most → Told s0 → length s0.left < r0.room → IsLoadFault format most 0 r0 s0 s fault → IsOutsideFault s0 s fault
+pub admitted : (format most : ℕ) (r0 : ReaderView) (s0 s : SourceView) (rows : List Record) (fault : LoadFault) → IsLoadText format (raw_lines (rest r0 s0)) rows → length rows ≤ most → SourceTold s0 → length s0.left < r0.room → IsLoadFault format most 0 r0 s0 s fault → IsOutsideFault s0 s fault
 admitted format most r0 s0 s rows (NotEmpty n) text few told less is = absurd (omega (arith, is.1))
 admitted format most r0 s0 s rows (Line n) text few told less is = no_line (is.1 told)
   where

@@ -7,7 +7,7 @@ use Rattle.std.proofs.Math.Pow.{pow_pos}
 use Rattle.density_rule.specs.Bounds.{upper_of, lower_of, least_of, IsInBounds}
 use Rattle.density_rule.specs.Spread.{shares, spread_counts}
 use Rattle.density_rule.specs.Windows.{IsBalanced, count_in}
-use Rattle.density_rule.specs.declared.TheConstants.{SEGMENT_SLOTS}
+use Rattle.density_rule.specs.declared.TheConstants.{SEGMENT_RECORDS}
 use Rattle.density_rule.proofs.Bounding.{least_of-some, least_of-le-lower_of}
 use Rattle.density_rule.proofs.Room.{even_inside}
 use Rattle.density_rule.proofs.Shares.{length-shares, sum-shares}
@@ -38,7 +38,7 @@ module _ (n height : ℕ) (low : height ≤ 16) (least : least_of height height 
       let even = even_inside counts h k height 0 (record { low = low; in_store = omega (arith, long); smaller = lt; inside = small there; bounds = record { least_is = omega (arith, whole, least, some); most_is = omega (arith, whole, most) } }) in
       let count : count_in (spread_counts counts height 0) h k ≡ count_in counts h k = ap (λ (ns : List ℕ). count_in ns h k) same in
       let up : 2 ^ h * (4 + h) ≤ 2 ^ h * (4 + height) = mul-le-mul_left (2 ^ h) (omega (arith, lt)) in
-      let down : 2 ^ h * (SEGMENT_SLOTS - height) ≤ 2 ^ h * (SEGMENT_SLOTS - h) = mul-le-mul_left (2 ^ h) (omega (arith, lt)) in
+      let down : 2 ^ h * (SEGMENT_RECORDS - height) ≤ 2 ^ h * (SEGMENT_RECORDS - h) = mul-le-mul_left (2 ^ h) (omega (arith, lt)) in
       record { least_is = omega (arith, least_of-le-lower_of height h, up, even.least_is, count); most_is = omega (arith, down, even.most_is, count) }
     where
       small : k < 2 ^ (height - h) → k / 2 ^ (height - h) ≡ 0

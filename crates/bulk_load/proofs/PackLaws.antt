@@ -9,7 +9,7 @@ use Rattle.key_slot.specs.declared.sizes.TheConstants.{SEGMENT_SLOTS}
 use Rattle.density_rule.proofs.Quotients.{div_rises}
 use Rattle.header_gate.specs.declared.layout.Layout.{Layout}
 use Rattle.header_gate.specs.Places.{IsLayout, height_limit}
-use Rattle.std.proofs.Math.Nat.{pow-le-pow_right}
+use Rattle.std.proofs.Math.Nat.{pow-le-pow_right, le-div_iff_mul-le}
 use Rattle.redo_journal.specs.Frames.{Batch}
 use Rattle.resize_region.specs.Shares.{places}
 use Rattle.map_model.specs.Array.{Array, rows}
@@ -18,7 +18,8 @@ use Rattle.map_model.proofs.Ends.{joined}
 use Rattle.map_model.proofs.Replacing.{segments_fit}
 use Rattle.segment_frames.proofs.Rows.{records-append}
 use Rattle.bulk_load.specs.declared.room.TheConstants.{MOST_FRAMES}
-use Rattle.bulk_load.specs.Packing.{room_in, AreRows, packed_at}
+use Rattle.bulk_load.specs.Packing.{room_in, AreRows, packed_at, WritesRuns}
+use Rattle.segment_frames.specs.Parts.{InParts}
 
 -- the places that are used are there
 pub room_fits : (l : Layout) (b : Batch) → IsLayout l → b.journal ≡ l.journal → room_in l ≤ places l.format b
@@ -101,3 +102,16 @@ cost_on size a b before now next le one two =
     let sum_is : b ≡ a + (b - a) = omega (arith, le) in
     let parts : size * b ≡ size * a + size * (b - a) = ap (λ (k : ℕ). size * k) sum_is ∙ omega arith in
     omega (arith, parts, one, two)
+
+-- runs that were written after others
+pub runs_on : (room from mid to before now next : ℕ) → from ≤ mid → mid ≤ to → WritesRuns room from mid before now → WritesRuns room mid to now next → WritesRuns room from to before next
+runs_on room from mid to before now next one two first second =
+    let both : room * (first.0 + second.0) ≡ room * first.0 + room * second.0 = omega arith in
+    (first.0 + second.0, omega (arith, both, one, two, first.1, second.1), omega (arith, first.2, second.2))
+
+-- they are parts of all that are to be written
+pub runs_parts : (room count to : ℕ) (made : ℕ) → 1 ≤ room → to ≤ count → room * made ≤ to - 0 → InParts room count to made
+runs_parts room count to made some le whole = record {
+  whole = λ lt. omega (arith, whole);
+  few = (le-div_iff_mul-le {k = room} {x = made} {y = count + (room - 1)} some).1 (omega (arith, whole, le));
+}

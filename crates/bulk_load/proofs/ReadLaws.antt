@@ -3,7 +3,7 @@ use Rattle.std.proofs.Common.{◌≡◌, inl, ℕ, ◌+◌, ◌<◌, ◌≤◌, 
 use Rattle.std.specs.Str.Lines.{strip_carriage_return}
 use Rattle.std.proofs.lemmas.Bool.{lt-ltb, le-ltb}
 use Rattle.line_source.specs.Lines.{raw_lines, line_limit}
-use Rattle.line_source.specs.SourceView.{SourceView, Told}
+use Rattle.line_source.specs.SourceView.{SourceView, SourceTold}
 use Rattle.line_source.specs.ReaderView.{ReaderView, rest}
 use Rattle.key_slot.specs.Record.{Record}
 use Rattle.command_text.specs.Load.{load_line, load_line_raw}
@@ -60,7 +60,7 @@ raw_long format raw long = ap (λ b. cond b Bad (load_line format (strip_carriag
 
 -- Why reading ends.
 
-module _ (format most : ℕ) (r0 : ReaderView) (s0 : SourceView) (given : List (List ℕ)) (rows : List Record) (ended : Bool) (loaded : Told s0 → loading format most given ≡ reads rows ended) where
+module _ (format most : ℕ) (r0 : ReaderView) (s0 : SourceView) (given : List (List ℕ)) (rows : List Record) (ended : Bool) (loaded : SourceTold s0 → loading format most given ≡ reads rows ended) where
   -- where no line is given
   pub reading_fault : (r : ReaderView) (s : SourceView) (fault : LoadFault) → IsNextEntry format (Err fault) r0 s0 given r s → IsReadingFault format most r0 s0 s fault
   reading_fault r s (NotEmpty n) next = absurd next
@@ -80,7 +80,7 @@ module _ (format most : ℕ) (r0 : ReaderView) (s0 : SourceView) (given : List (
 
   module _ (k : ℕ) (line : LoadLine) (r : ReaderView) (s : SourceView) (gives : GivesEntry format r0 s0 given line r s) (k_is : k ≡ length given + 1) where
     -- what comes of the lines with the next one
-    pub loaded_more : Told s0 → loading format most (given ++ gives.raw ∷ []) ≡ after_line most k rows ended line
+    pub loaded_more : SourceTold s0 → loading format most (given ++ gives.raw ∷ []) ≡ after_line most k rows ended line
     loaded_more told = loading_more format most k given gives.raw rows ended k_is (loaded told) ∙ ap (after_line most k rows ended) (sym (gives.line_is told))
 
     -- where a line is at fault

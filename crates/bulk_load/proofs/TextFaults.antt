@@ -20,7 +20,7 @@ use Rattle.command_text.specs.ReadsBack.{MayBeRecord}
 use Rattle.command_text.specs.declared.load.LoadLine.{LoadLine}
 use Rattle.command_text.specs.declared.load.LoadLine.TheVariants.{Nothing, Row, End, Bad}
 use Rattle.command_text.proofs.LoadLaws.{dump_reads_back}
-use Rattle.bulk_load.specs.LoadText.{record_in, records_in, IsEntry, IsLoadText, BeginsText, IsFirstWrong, IsUnfinished, IsOneTooMany}
+use Rattle.bulk_load.specs.LoadText.{record_of_line, records_in, IsEntry, IsLoadText, BeginsText, IsFirstWrong, IsUnfinished, IsOneTooMany}
 use Rattle.bulk_load.specs.Loading.{Loading, reads, wrong, full, after_line, load_step, load_from, loading}
 use Rattle.bulk_load.proofs.ReadLaws.{stays_wrong, stays_full, loading_append}
 use Rattle.bulk_load.proofs.TextLaws.{no_wrong, no_full, full_no_wrong, true_false, same_rows, same_end, number_of, AreEntries, Reads, none, start, reads_all, taken, ended_by, entries_of, text_read}
@@ -326,7 +326,7 @@ dumped_rows format [] known all = (none (λ raw. IsEntry (load_line_raw format r
 dumped_rows format (r ∷ rows) known all =
     let rest = dumped_rows format rows known (λ k d lt. all (suc k) d (omega (arith, lt))) in
     let here = dump_reads_back.row format r.0 r.1 known (all 0 r (omega arith)) in
-    (first (subst IsEntry (sym here) (record {})) rest.0, ap (λ (l : LoadLine). cons_option (record_in l) (records_in format (map (λ q. reply_body (row_line q)) rows))) here ∙ ap (λ (l : List Record). r ∷ l) rest.1)
+    (first (subst IsEntry (sym here) (record {})) rest.0, ap (λ (l : LoadLine). cons_option (record_of_line l) (records_in format (map (λ q. reply_body (row_line q)) rows))) here ∙ ap (λ (l : List Record). r ∷ l) rest.1)
   where
     first : IsEntry (load_line_raw format (reply_body (row_line r))) → All (λ raw. IsEntry (load_line_raw format raw)) (map (λ q. reply_body (row_line q)) rows) → All (λ raw. IsEntry (load_line_raw format raw)) (map (λ q. reply_body (row_line q)) (r ∷ rows))
     first is rest zero d lt = is

@@ -12,7 +12,7 @@ use Rattle.map_model.proofs.Ends.{joined, parted}
 use Rattle.command_text.specs.Load.{load_line_raw}
 use Rattle.command_text.specs.declared.load.LoadLine.{LoadLine}
 use Rattle.command_text.specs.declared.load.LoadLine.TheVariants.{Nothing, Row, End, Bad}
-use Rattle.bulk_load.specs.LoadText.{record_in, records_in, IsEntry, IsLoadText}
+use Rattle.bulk_load.specs.LoadText.{record_of_line, records_in, IsEntry, IsLoadText}
 use Rattle.bulk_load.specs.Loading.{Loading, reads, wrong, full, after_line, load_step, load_from, loading}
 use Rattle.bulk_load.proofs.ReadLaws.{stays_wrong, stays_full, loading_append}
 
@@ -74,14 +74,14 @@ one P raw is (suc k) d lt = absurd (omega arith)
 pub none : (P : List ℕ → Type 0) → All P []
 none P k d lt = absurd (omega arith)
 
-records_more : (format : ℕ) (lines : List (List ℕ)) (raw : List ℕ) → records_in format (lines ++ raw ∷ []) ≡ records_in format lines ++ cons_option (record_in (load_line_raw format raw)) []
-records_more format lines raw = filter_map-append (λ r. record_in (load_line_raw format r)) lines (raw ∷ [])
+records_more : (format : ℕ) (lines : List (List ℕ)) (raw : List ℕ) → records_in format (lines ++ raw ∷ []) ≡ records_in format lines ++ cons_option (record_of_line (load_line_raw format raw)) []
+records_more format lines raw = filter_map-append (λ r. record_of_line (load_line_raw format r)) lines (raw ∷ [])
 
 module _ (format : ℕ) (lines : List (List ℕ)) (raw : List ℕ) (rows : List Record) where
   skipped : load_line_raw format raw ≡ Nothing → (ended : Bool) → Reads format lines rows ended → Reads format (lines ++ raw ∷ []) rows ended
   skipped is false so = record {
     entries = All-append (λ r. IsEntry (load_line_raw format r)) lines (raw ∷ []) so.entries (one (λ r. IsEntry (load_line_raw format r)) raw (subst IsEntry (sym is) (record {})));
-    rows_are = records_more format lines raw ∙ ap (λ (l : LoadLine). records_in format lines ++ cons_option (record_in l) []) is ∙ append-nil (records_in format lines) ∙ so.rows_are;
+    rows_are = records_more format lines raw ∙ ap (λ (l : LoadLine). records_in format lines ++ cons_option (record_of_line l) []) is ∙ append-nil (records_in format lines) ∙ so.rows_are;
     ascending = so.ascending;
   }
   skipped is true so = record {
@@ -99,7 +99,7 @@ module _ (format : ℕ) (lines : List (List ℕ)) (raw : List ℕ) (rows : List 
   pub taken : (row : RowData) → load_line_raw format raw ≡ Row row → begins_above (last_key rows) (record_of row ∷ []) ≡ true → AreEntries format lines rows → AreEntries format (lines ++ raw ∷ []) (rows ++ record_of row ∷ [])
   taken row is above so = record {
     entries = All-append (λ r. IsEntry (load_line_raw format r)) lines (raw ∷ []) so.entries (one (λ r. IsEntry (load_line_raw format r)) raw (subst IsEntry (sym is) (record {})));
-    rows_are = records_more format lines raw ∙ ap (λ (l : LoadLine). records_in format lines ++ cons_option (record_in l) []) is ∙ ap (λ (l : List Record). l ++ record_of row ∷ []) so.rows_are;
+    rows_are = records_more format lines raw ∙ ap (λ (l : LoadLine). records_in format lines ++ cons_option (record_of_line l) []) is ∙ ap (λ (l : List Record). l ++ record_of row ∷ []) so.rows_are;
     ascending = joined rows (record_of row ∷ []) so.ascending tt above;
   }
 
@@ -186,14 +186,14 @@ module _ (format most : ℕ) where
       by : ((next : List Record) → IsAscending (next ++ records_in format front) → length (next ++ records_in format front) ≤ most → load_from format most (k + 1) (reads next false) front ≡ reads (next ++ records_in format front) false)
           → (line : LoadLine) → load_line_raw format raw ≡ line → IsEntry (load_line_raw format raw) → load_from format most k (reads rows false) (raw ∷ front) ≡ reads (rows ++ records_in format (raw ∷ front)) false
       by again Nothing is entry =
-          let same : records_in format (raw ∷ front) ≡ records_in format front = ap (λ (l : LoadLine). cons_option (record_in l) (records_in format front)) is in
+          let same : records_in format (raw ∷ front) ≡ records_in format front = ap (λ (l : LoadLine). cons_option (record_of_line l) (records_in format front)) is in
           ap (λ (l : LoadLine). load_from format most (k + 1) (after_line most k rows false l) front) is
           ∙ again rows (subst (λ (l : List Record). IsAscending (rows ++ l)) same up) (omega (arith, few, ap (λ (l : List Record). length (rows ++ l)) same))
           ∙ ap (λ (l : List Record). reads (rows ++ l) false) (sym same)
       by again (Row row) is entry =
           let r = record_of row in
           let rest = records_in format front in
-          let same : records_in format (raw ∷ front) ≡ r ∷ rest = ap (λ (l : LoadLine). cons_option (record_in l) (records_in format front)) is in
+          let same : records_in format (raw ∷ front) ≡ r ∷ rest = ap (λ (l : LoadLine). cons_option (record_of_line l) (records_in format front)) is in
           let joint : (rows ++ r ∷ []) ++ rest ≡ rows ++ r ∷ rest = append_assoc rows (r ∷ []) rest in
           let whole = subst (λ (l : List Record). IsAscending (rows ++ l)) same up in
           let above = head_above (last_key rows) r rest (parted rows (r ∷ rest) whole) in

@@ -8,7 +8,7 @@ use Rattle.bulk_load.specs.declared.fault.LoadFault.{LoadFault}
 use Rattle.bulk_load.specs.declared.fault.LoadFault.TheVariants.{NotEmpty, Line, Full, Disk, Damaged, Script, Spent}
 use Rattle.key_slot.specs.Record.{Record}
 use Rattle.line_source.specs.Lines.{raw_lines}
-use Rattle.line_source.specs.SourceView.{SourceView, Told, Rose}
+use Rattle.line_source.specs.SourceView.{SourceView, SourceTold, SourceRose}
 use Rattle.line_source.specs.ReaderView.{ReaderView, rest}
 use Rattle.line_source.specs.Progress.{IsCutShort}
 use Rattle.bulk_load.specs.Loading.{Loading, reads, wrong, full, loading, IsWrongLine}
@@ -41,11 +41,11 @@ IsLineFault most s Spent = ⊥
 -- Why reading ended before the end, by what comes of the lines, where the source tells them. `Script` comes only where a
 -- read failed, and `Spent` only where all bytes were taken that may be, and the complete lines among them aren't at fault.
 abbrev pub IsReadingFault : ℕ → ℕ → ReaderView → SourceView → SourceView → LoadFault → Type 0
-IsReadingFault format most r0 s0 s (Line n) = Told s0 → IsWrongLine format most (raw_lines (rest r0 s0)) n
-IsReadingFault format most r0 s0 s (Full n) = (n ≡ most) × (Told s0 → loading format most (raw_lines (rest r0 s0)) ≡ full)
+IsReadingFault format most r0 s0 s (Line n) = SourceTold s0 → IsWrongLine format most (raw_lines (rest r0 s0)) n
+IsReadingFault format most r0 s0 s (Full n) = (n ≡ most) × (SourceTold s0 → loading format most (raw_lines (rest r0 s0)) ≡ full)
 IsReadingFault format most r0 s0 s Disk = Unit {0}
-IsReadingFault format most r0 s0 s Script = Rose s0 s
-IsReadingFault format most r0 s0 s Spent = Told s0 → IsSpentIn format most r0 s0 s
+IsReadingFault format most r0 s0 s Script = SourceRose s0 s
+IsReadingFault format most r0 s0 s Spent = SourceTold s0 → IsSpentIn format most r0 s0 s
 IsReadingFault format most r0 s0 s (NotEmpty n) = ⊥
 IsReadingFault format most r0 s0 s (Damaged segment why) = ⊥
 
@@ -79,7 +79,7 @@ IsNoDisk fault = Unit {0}
 abbrev pub IsOutsideFault : SourceView → SourceView → LoadFault → Type 0
 IsOutsideFault s0 s Disk = Unit {0}
 IsOutsideFault s0 s (Damaged segment why) = Unit {0}
-IsOutsideFault s0 s Script = Rose s0 s
+IsOutsideFault s0 s Script = SourceRose s0 s
 IsOutsideFault s0 s (NotEmpty n) = ⊥
 IsOutsideFault s0 s (Line n) = ⊥
 IsOutsideFault s0 s (Full n) = ⊥

@@ -8,13 +8,13 @@ use Rattle.command_text.specs.declared.load.LoadLine.{LoadLine}
 use Rattle.command_text.specs.declared.load.LoadLine.TheVariants.{Nothing, Row, End, Bad}
 
 -- the record of a line, if it has one
-abbrev pub record_in : LoadLine → Option Record
-record_in (Row row) = Some (record_of row)
-record_in _ = None
+abbrev pub record_of_line : LoadLine → Option Record
+record_of_line (Row row) = Some (record_of row)
+record_of_line _ = None
 
 -- the records of lines of a format, in order
 abbrev pub records_in : ℕ → List (List ℕ) → List Record
-records_in format lines = filter_map (λ raw. record_in (load_line_raw format raw)) lines
+records_in format lines = filter_map (λ raw. record_of_line (load_line_raw format raw)) lines
 
 -- a line that is skipped or has a record
 abbrev pub IsEntry : LoadLine → Type 0

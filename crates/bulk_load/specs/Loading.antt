@@ -1,7 +1,7 @@
 -- A load text is read one line at a time.
 use Rattle.std.specs.Prelude.{◌≡◌, ◌⊎◌, ℕ, ◌+◌, ◌==◌, if◌then◌else◌, not, Bool, true, false, List, [], ◌∷◌, ◌++◌, length}
 use Rattle.line_source.specs.Lines.{raw_lines}
-use Rattle.line_source.specs.SourceView.{SourceView, Told}
+use Rattle.line_source.specs.SourceView.{SourceView, SourceTold}
 use Rattle.line_source.specs.ReaderView.{ReaderView, rest}
 use Rattle.key_slot.specs.Record.{Record}
 use Rattle.key_slot.specs.Row.{record_of}
@@ -54,7 +54,7 @@ IsWrongLine format most lines n = (loading format most lines ≡ wrong n) ⊎ ((
 
 -- where the source tells it, all that is to be given comes to these records
 abbrev pub IsTextOf : ℕ → ℕ → ReaderView → SourceView → List Record → Type 0
-IsTextOf format most reader source rows = Told source → loading format most (raw_lines (rest reader source)) ≡ reads rows true
+IsTextOf format most reader source rows = SourceTold source → loading format most (raw_lines (rest reader source)) ≡ reads rows true
 
 -- the reader gave no answer yet, and took nothing
 pub record IsUnread (r : ReaderView) : Type 0 where

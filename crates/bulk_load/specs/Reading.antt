@@ -8,7 +8,7 @@ use Rattle.key_slot.specs.declared.sizes.TheConstants.{SEGMENT_SLOTS}
 use Rattle.key_slot.specs.Record.{Record, is_record}
 use Rattle.key_slot.specs.Row.{record_of}
 use Rattle.map_model.specs.Regions.{Spares}
-use Rattle.line_source.specs.SourceView.{SourceView, Told, Rose}
+use Rattle.line_source.specs.SourceView.{SourceView, SourceTold, SourceRose}
 use Rattle.line_source.specs.ReaderView.{ReaderView}
 use Rattle.line_source.specs.Progress.{HasGiven, GivesAll}
 use Rattle.line_source.specs.declared.reader.LineStep.TheVariants as step
@@ -23,20 +23,20 @@ use Rattle.bulk_load.specs.declared.packing.Taken.{Taken}
 use Rattle.bulk_load.specs.Faults.{IsLineFault}
 use Rattle.bulk_load.specs.Loading.{after_line, reads}
 use Rattle.bulk_load.specs.Loads.{most_records, TextFor}
-use Rattle.bulk_load.specs.Packing.{IsTaken, HasPlace, HasPacked}
+use Rattle.bulk_load.specs.Packing.{IsTaken, HasPlace, HasPacked, WritesRuns, room_in}
 
 -- one line more was given, and it is this
 pub record GivesEntry (format : ℕ) (r0 : ReaderView) (s0 : SourceView) (given : List (List ℕ)) (line : LoadLine) (r : ReaderView) (s : SourceView) : Type 0 where
   pub raw : List ℕ
-  pub line_is : Told s0 → line ≡ load_line_raw format raw
+  pub line_is : SourceTold s0 → line ≡ load_line_raw format raw
   pub more : HasGiven r0 s0 (given ++ raw ∷ []) r s
 
 -- what the answer to the question for the next line says of all lines since r0 and s0
 abbrev pub IsNextEntry : ℕ → Result (Option LoadLine) LoadFault → ReaderView → SourceView → List (List ℕ) → ReaderView → SourceView → Type 0
 IsNextEntry format (Ok (Some line)) r0 s0 given r s = GivesEntry format r0 s0 given line r s
-IsNextEntry format (Ok None) r0 s0 given r s = Told s0 → GivesAll step.End r0 s0 given s
-IsNextEntry format (Err Script) r0 s0 given r s = (Told s0 → GivesAll step.ReadFailed r0 s0 given s) × Rose s0 s
-IsNextEntry format (Err Spent) r0 s0 given r s = Told s0 → GivesAll step.Spent r0 s0 given s
+IsNextEntry format (Ok None) r0 s0 given r s = SourceTold s0 → GivesAll step.End r0 s0 given s
+IsNextEntry format (Err Script) r0 s0 given r s = (SourceTold s0 → GivesAll step.ReadFailed r0 s0 given s) × SourceRose s0 s
+IsNextEntry format (Err Spent) r0 s0 given r s = SourceTold s0 → GivesAll step.Spent r0 s0 given s
 IsNextEntry format (Err (NotEmpty n)) r0 s0 given r s = ⊥
 IsNextEntry format (Err (Line n)) r0 s0 given r s = ⊥
 IsNextEntry format (Err (Full n)) r0 s0 given r s = ⊥
@@ -74,6 +74,7 @@ pub record TakesOn {X : Type 0} (place : Place) (k : ℕ) (line : LoadLine) (res
   pub journal : g.journal ≡ f.journal
   pub steps : Steps (Spares place.layout place.region) a b
   pub cost : OnOk result (b.travel.written ≤ a.travel.written + segment_size place.layout * (new.written - old.written))
+  pub calls : OnOk result (WritesRuns (room_in place.layout) old.written new.written a.calls b.calls)
   pub failed : IsErrOf result Disk → station.Rose a.disk_faults b.disk_faults
 
 -- All lines were read and come to these records. Those that aren't written yet are in the frames.

@@ -13,8 +13,11 @@ use Rattle.segment.specs.declared.fault.StoreFault.{StoreFault}
 use Rattle.segment.specs.declared.fault.StoreFault.TheVariants.{Failed}
 use Rattle.segment_frames.specs.Lists.{page_at}
 use Rattle.segment_frames.specs.Reading.{IsPageFault}
-use Rattle.bulk_load.specs.Packing.{AreRows, HasPacked}
+use Rattle.bulk_load.specs.Packing.{AreRows, HasPacked, room_in}
 use Rattle.bulk_load.specs.declared.packed.Packed.{Packed}
+use Rattle.segment_frames.specs.Parts.{parts}
+use Rattle.resize_region.specs.Source.{copy_calls}
+use Rattle.header_gate.specs.declared.layout.Layout.{Layout}
 
 -- how many segments n packed records use
 abbrev pub used_by : ℕ → ℕ
@@ -78,3 +81,7 @@ pub record ReadsPacked {T : Type 0} (place : Place) (n : ℕ) (result : Result T
   pub damaged : IfErr result (λ fault. Told a → (rows : List Record) → ArePacked place n rows s f a.held → fault ≡ Failed)
   pub cause : IfErr result (HasCause place.layout.format n g)
   pub failed : IsErrOf result Failed → Rose a.disk_faults b.disk_faults
+
+-- the calls that write so many records packed, and spread them over so many segments, and those of a flip
+abbrev pub load_calls : Layout → ℕ → ℕ → ℕ
+load_calls l records segments = parts (room_in l) (used_by records) + copy_calls (room_in l) (used_by records) segments + 4

@@ -39,6 +39,7 @@ pub(crate) fn read_aside<S: Station>(
     ensures rest { frames.new ≡ record frames.old { slots = frames.new.slots } }
     ensures steps { Steps Same (S.view station.old) (S.view station.new) }
     ensures unwritten { (S.view station.new).travel.written ≡ (S.view station.old).travel.written }
+    ensures calls { (S.view station.new).calls ≤ (S.view station.old).calls + 1 }
     ensures fault { IfErr result (λ fault. fault ≡ StoreFault.Failed) }
     ensures failed { IsErrOf result StoreFault.Failed → Rose (S.view station.old).disk_faults (S.view station.new).disk_faults }
 {
@@ -71,6 +72,7 @@ pub(crate) fn write_aside<S: Station>(
         aside_bytes place.now i (S.view station.new).held ≡ aside_bytes place.now i (S.view station.old).held }
     ensures steps { Steps (Spares place.now.layout place.now.region) (S.view station.old) (S.view station.new) }
     ensures cost { (S.view station.new).travel.written ≤ (S.view station.old).travel.written + segment_size place.now.layout * count }
+    ensures calls { (S.view station.new).calls ≤ (S.view station.old).calls + 1 }
     ensures fault { IfErr result (λ fault. fault ≡ StoreFault.Failed) }
     ensures failed { IsErrOf result StoreFault.Failed → Rose (S.view station.old).disk_faults (S.view station.new).disk_faults }
 {

@@ -34,6 +34,7 @@ pub fn sweep_all<'a>(place: &Place, tally: &'a Tally, page: &'a mut HeldPage) ->
         tally,
         page,
         0,
+        (1 << tally.height()) - 1,
         None,
         None,
         u32::MAX,

@@ -6,7 +6,7 @@ ghost use Rattle.std.specs.List.{flat_map};
 ghost use Rattle.std.specs.FinMap.{entries, from_sorted, len};
 ghost use Rattle.line_source.specs.Lines.{raw_lines};
 ghost use Rattle.line_source.specs.ReaderView.{ReaderView, rest};
-ghost use Rattle.line_source.specs.SourceView.{SourceView, Told};
+ghost use Rattle.line_source.specs.SourceView.{SourceView, SourceTold};
 ghost use Rattle.key_slot.specs.Record.{Record};
 ghost use Rattle.map_model.specs.Store.{Map};
 ghost use Rattle.command_text.specs.Answers.{range_lines};
@@ -42,5 +42,5 @@ pub fn dumps_are_load_texts()
 /// disk's, a damaged segment or a failed read.
 pub fn admitted_texts_are_loaded()
     ensures { (format most : ℕ) (reader : ReaderView) (before after : SourceView) (rows : List Record) (fault : LoadFault) → IsLoadText format (raw_lines (rest reader before)) rows → length rows ≤ most →
-        Told before → length before.left < reader.room → IsLoadFault format most 0 reader before after fault → IsOutsideFault before after fault }
+        SourceTold before → length before.left < reader.room → IsLoadFault format most 0 reader before after fault → IsOutsideFault before after fault }
 {}

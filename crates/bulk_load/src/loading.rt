@@ -6,13 +6,14 @@ ghost use Rattle.station.specs.Steps.{Steps};
 ghost use Rattle.header_gate.specs.Places.{IsLayout, file_length, height_limit, segment_size};
 ghost use Rattle.density_rule.specs.Bounds.{upper_of};
 ghost use Rattle.key_slot.specs.Record.{Record};
-ghost use Rattle.line_source.specs.SourceView.{Told as SourceTold, Went};
+ghost use Rattle.line_source.specs.SourceView.{SourceTold, Went};
 ghost use Rattle.map_model.specs.Regions.{Spares};
 ghost use Rattle.segment_frames.specs.Standing.{StandsFor};
 ghost use Rattle.bulk_load.specs.Faults.{IsLoadFault, IsWritingFault, IsNoDamage, IsNoDisk, IsShownBy};
 ghost use Rattle.bulk_load.specs.Loading.{IsUnread};
 ghost use Rattle.bulk_load.specs.Loads.{most_records, TextFor, Loads, IsLeastHeight, IsWrittenOut, IsLoaded};
 ghost use Rattle.bulk_load.specs.Packing.{CanFill};
+ghost use Rattle.bulk_load.specs.Spreading.{load_calls};
 
 use crate::fault::{LoadFault, Loaded, of_file};
 use crate::packing::flush_rest;
@@ -65,6 +66,7 @@ pub fn load_rows<I: Source, S: Station>(
     ensures steps { Steps (Loads place.old (TextFor place.old.layout reader.old (I.view source.old))) (S.view station.old) (S.view station.new) }
     ensures untouched { 0 < sum tally.now.counts → (station.new ≡ station.old) × (source.new ≡ source.old) }
     ensures cost { IfOk result (λ loaded. (S.view station.new).travel.written ≤ (S.view station.old).travel.written + (2 * segment_size place.old.layout * 2 ^ loaded.height + 9)) }
+    ensures calls { IfOk result (λ loaded. (S.view station.new).calls ≤ (S.view station.old).calls + load_calls place.old.layout loaded.records (2 ^ loaded.height)) }
 
     // Why it fails.
     ensures fault { IfErr result (IsLoadFault place.old.layout.format (most_records place.old.layout) (sum tally.now.counts) reader.old (I.view source.old) (I.view source.new)) }
@@ -108,6 +110,7 @@ fn write_text<I: Source, S: Station>(
     ensures fault { IfErr result (IsWritingFault place.now.layout.format (most_records place.now.layout) reader.old (I.view source.old) (I.view source.new)) }
     ensures steps { Steps (Spares place.now.layout place.now.region) (S.view station.old) (S.view station.new) }
     ensures cost { IfOk result (λ loaded. (S.view station.new).travel.written ≤ (S.view station.old).travel.written + 2 * segment_size place.now.layout * 2 ^ loaded.height) }
+    ensures calls { IfOk result (λ loaded. (S.view station.new).calls + 4 ≤ (S.view station.old).calls + load_calls place.now.layout loaded.records (2 ^ loaded.height)) }
     ensures damaged { IfErr result (λ fault. Told (S.view station.old) → IsNoDamage fault) }
     ensures shown { IfErr result (IsShownBy place.now.layout.format frames.new) }
     ensures journal { frames.new.journal ≡ frames.old.journal }

@@ -11,9 +11,10 @@ ghost use Rattle.segment_frames.specs.Lists.{page_at, rows_at};
 ghost use Rattle.segment_frames.specs.Reading.{IsPageFault};
 ghost use Rattle.bulk_load.specs.Packing.{CanFill};
 ghost use Rattle.bulk_load.specs.Spreading.{used_by, packed_count, IsPacked, HoldsPacked, ReadsPacked};
+ghost use Rattle.segment_frames.specs.Parts.{GoesInParts};
 
 use crate::aside::read_aside;
-use density_rule::SEGMENT_SLOTS;
+use density_rule::SEGMENT_RECORDS;
 use redo_journal::{Frames, Place};
 use segment::StoreFault;
 use segment_frames::{judge_frame, make_move};
@@ -36,7 +37,7 @@ pub(crate) fn used_by(records: u32) -> u32
     requires { records ≤ 2 ^ 22 }
     ensures { result ≡ used_by records }
 {
-    (records + (SEGMENT_SLOTS - 1)) / SEGMENT_SLOTS
+    (records + (SEGMENT_RECORDS - 1)) / SEGMENT_RECORDS
 }
 
 /// Reads the last packed segments that aren't read, as many as there are places for, and sees that they are those.
@@ -48,11 +49,12 @@ pub(crate) fn read_packed<S: Station>(
     records: u32,
 ) -> Result<(), StoreFault>
     requires can { CanFill place.now frames.old (S.view station.old) }
-    requires fits { records ≤ SEGMENT_SLOTS * 2 ^ height_limit place.now.layout }
+    requires fits { records ≤ SEGMENT_RECORDS * 2 ^ height_limit place.now.layout }
     requires packed { IsPacked place.now.layout.format records frames.old packed.old }
-    requires none { packed.old.rest ≤ SEGMENT_SLOTS * packed.old.unread }
+    requires none { packed.old.rest ≤ SEGMENT_RECORDS * packed.old.unread }
     requires some { 0 < packed.old.rest }
     ensures reads { ReadsPacked place.now records result packed.old packed.new frames.old frames.new (S.view station.old) (S.view station.new) }
+    ensures calls { OnOk result (GoesInParts packed.old.room (used_by records) (used_by records - packed.old.unread) (used_by records - packed.new.unread) (S.view station.old).calls (S.view station.new).calls) }
     ensures onward { OnOk result (packed.new.unread < packed.old.unread) }
     ensures same { packed.new.rest ≡ packed.old.rest }
     ensures others { OnOk result ((i : ℕ) → packed.old.room ≤ i → i < places place.now.layout.format frames.old →
@@ -101,8 +103,8 @@ fn packed_count(records: u32, segment: u32) -> u32
     ensures { result ≡ packed_count records segment }
 {
     records
-        .saturating_sub(SEGMENT_SLOTS * segment)
-        .min(SEGMENT_SLOTS)
+        .saturating_sub(SEGMENT_RECORDS * segment)
+        .min(SEGMENT_RECORDS)
 }
 
 /// Moves the last packed records, at most so many, out of the last segment that has some to the front of a share, and answers
@@ -116,12 +118,12 @@ pub(crate) fn take_last(
     most: u32,
 ) -> u32
     requires packed { (n : ℕ) × IsPacked format n frames.old packed.old }
-    requires at_hand { SEGMENT_SLOTS * packed.old.unread < packed.old.rest }
+    requires at_hand { SEGMENT_RECORDS * packed.old.unread < packed.old.rest }
     requires behind { packed.old.room ≤ f }
     requires frame { f < places format frames.old }
     requires have { have ≡ length (share_in format f frames.old) }
     requires some { 1 ≤ most }
-    requires room { have + most ≤ SEGMENT_SLOTS }
+    requires room { have + most ≤ SEGMENT_RECORDS }
     ensures packed { (n : ℕ) → IsPacked format n frames.old packed.old → IsPacked format n frames.new packed.new }
     ensures some { 1 ≤ result }
     ensures most { result ≤ most }
@@ -134,8 +136,8 @@ pub(crate) fn take_last(
     ensures others { (i : ℕ) → packed.old.room ≤ i → i ≢ f → share_in format i frames.new ≡ share_in format i frames.old }
     ensures frames { frames.new ≡ record frames.old { slots = frames.new.slots } }
 {
-    let segment = (packed.rest - 1) / SEGMENT_SLOTS;
-    let left = packed.rest - SEGMENT_SLOTS * segment;
+    let segment = (packed.rest - 1) / SEGMENT_RECORDS;
+    let left = packed.rest - SEGMENT_RECORDS * segment;
     let count = left.min(most);
     let step = Move {
         from: segment - packed.unread,

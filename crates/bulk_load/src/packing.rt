@@ -4,17 +4,18 @@ ghost use Rattle.std.specs.Prelude.{◌≡◌, ℕ, ◌+◌, ◌-◌, ◌*◌, �
 ghost use Rattle.station.specs.View.{Told, Rose};
 ghost use Rattle.station.specs.Steps.{Steps};
 ghost use Rattle.header_gate.specs.Places.{height_limit, segment_size};
-ghost use Rattle.density_rule.specs.declared.TheConstants.{SEGMENT_SLOTS};
+ghost use Rattle.density_rule.specs.declared.TheConstants.{SEGMENT_RECORDS};
 ghost use Rattle.key_slot.specs.Record.{Record, is_record};
 ghost use Rattle.key_slot.specs.Row.{record_of};
 ghost use Rattle.map_model.specs.Reasons.{begins_above};
 ghost use Rattle.map_model.specs.Regions.{Spares};
-ghost use Rattle.bulk_load.specs.Packing.{room_in, CanFill, IsTaken, HasPlace, HasPacked, WritesPacked};
+ghost use Rattle.bulk_load.specs.Packing.{room_in, CanFill, IsTaken, HasPlace, HasPacked, WritesPacked, WritesRuns};
 ghost use Rattle.bulk_load.specs.Spreading.{used_by};
+ghost use Rattle.segment_frames.specs.Parts.{GoesInParts};
 
 use crate::packed::used_by;
 use crate::room::room_of;
-use density_rule::SEGMENT_SLOTS;
+use density_rule::SEGMENT_RECORDS;
 use key_slot::{Key, Row};
 use redo_journal::{Frames, Place};
 use resize_region::{clear_shares, put_row, write_shares};
@@ -45,7 +46,7 @@ pub(crate) fn pack<S: Station>(
     requires can { CanFill place.now frames.old (S.view station.old) }
     requires taken { (rows : List Record) × IsTaken place.now.layout taken.old frames.old rows }
     requires place { HasPlace place.now.layout taken.old }
-    requires room { taken.old.records < SEGMENT_SLOTS * 2 ^ height_limit place.now.layout }
+    requires room { taken.old.records < SEGMENT_RECORDS * 2 ^ height_limit place.now.layout }
     requires above { begins_above taken.old.last (record_of row.now ∷ []) ≡ true }
     requires fits { T (is_record place.now.layout.format (record_of row.now)) }
     ensures taken { OnOk result ((rows : List Record) → IsTaken place.now.layout taken.old frames.old rows → IsTaken place.now.layout taken.new frames.new (rows ++ record_of row.now ∷ [])) }
@@ -58,21 +59,22 @@ pub(crate) fn pack<S: Station>(
     ensures journal { frames.new.journal ≡ frames.old.journal }
     ensures steps { Steps (Spares place.now.layout place.now.region) (S.view station.old) (S.view station.new) }
     ensures cost { OnOk result ((S.view station.new).travel.written ≤ (S.view station.old).travel.written + segment_size place.now.layout * (taken.new.written - taken.old.written)) }
+    ensures calls { OnOk result (WritesRuns (room_in place.now.layout) taken.old.written taken.new.written (S.view station.old).calls (S.view station.new).calls) }
     ensures fault { IfErr result (λ fault. fault ≡ StoreFault.Failed) }
     ensures failed { IsErrOf result StoreFault.Failed → Rose (S.view station.old).disk_faults (S.view station.new).disk_faults }
 {
     let all = room_of(&place.layout);
-    let slot = taken.records - SEGMENT_SLOTS * taken.written;
+    let slot = taken.records - SEGMENT_RECORDS * taken.written;
     put_row(
         frames,
         place.layout.format,
-        slot / SEGMENT_SLOTS,
-        slot % SEGMENT_SLOTS,
+        slot / SEGMENT_RECORDS,
+        slot % SEGMENT_RECORDS,
         row,
     );
     taken.records += 1;
     taken.last = Some(row.key);
-    if slot + 1 < SEGMENT_SLOTS * all {
+    if slot + 1 < SEGMENT_RECORDS * all {
         return Ok(());
     }
     flush(station, place, frames, taken, all)
@@ -91,9 +93,10 @@ fn flush<S: Station>(
     requires some { 1 ≤ count }
     requires few { count ≤ room_in place.now.layout }
     requires inside { taken.old.written + count ≤ 2 ^ height_limit place.now.layout }
-    requires all { taken.old.records ≤ SEGMENT_SLOTS * (taken.old.written + count) }
+    requires all { taken.old.records ≤ SEGMENT_RECORDS * (taken.old.written + count) }
     ensures writes { WritesPacked place.now result taken.old taken.new frames.old frames.new (S.view station.old) (S.view station.new) }
     ensures written { OnOk result (taken.new.written ≡ taken.old.written + count) }
+    ensures calls { (S.view station.new).calls ≤ (S.view station.old).calls + 1 }
     ensures cost { (S.view station.new).travel.written ≤ (S.view station.old).travel.written + segment_size place.now.layout * count }
 {
     write_shares(station, place, frames, taken.written, count)?;
@@ -111,13 +114,14 @@ pub(crate) fn flush_rest<S: Station>(
 ) -> Result<(), StoreFault>
     requires can { CanFill place.now frames.old (S.view station.old) }
     requires taken { (rows : List Record) × IsTaken place.now.layout taken.old frames.old rows }
-    requires behind { SEGMENT_SLOTS * taken.old.written ≤ taken.old.records }
-    requires room { taken.old.records ≤ SEGMENT_SLOTS * 2 ^ height_limit place.now.layout }
+    requires behind { SEGMENT_RECORDS * taken.old.written ≤ taken.old.records }
+    requires room { taken.old.records ≤ SEGMENT_RECORDS * 2 ^ height_limit place.now.layout }
     ensures writes { WritesPacked place.now result taken.old taken.new frames.old frames.new (S.view station.old) (S.view station.new) }
     ensures written { OnOk result (taken.new.written ≡ used_by taken.old.records) }
+    ensures calls { OnOk result (GoesInParts (room_in place.now.layout) (used_by taken.old.records) taken.old.written taken.new.written (S.view station.old).calls (S.view station.new).calls) }
     ensures cost { OnOk result ((S.view station.new).travel.written ≤ (S.view station.old).travel.written + segment_size place.now.layout * (taken.new.written - taken.old.written)) }
 {
-    let rest = taken.records - SEGMENT_SLOTS * taken.written;
+    let rest = taken.records - SEGMENT_RECORDS * taken.written;
     if rest == 0 {
         return Ok(());
     }

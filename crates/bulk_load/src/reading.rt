@@ -9,13 +9,13 @@ ghost use Rattle.key_slot.specs.Record.{Record};
 ghost use Rattle.key_slot.specs.Row.{record_of};
 ghost use Rattle.command_text.specs.declared.load.LoadLine.TheVariants as load;
 ghost use Rattle.map_model.specs.Regions.{Spares};
-ghost use Rattle.line_source.specs.SourceView.{SourceView, Told as SourceTold, Went};
+ghost use Rattle.line_source.specs.SourceView.{SourceView, SourceTold, Went};
 ghost use Rattle.line_source.specs.ReaderView.{ReaderView};
 ghost use Rattle.line_source.specs.Progress.{HasGiven};
 ghost use Rattle.bulk_load.specs.Faults.{IsReadingFault};
 ghost use Rattle.bulk_load.specs.Loading.{IsUnread};
 ghost use Rattle.bulk_load.specs.Loads.{most_records};
-ghost use Rattle.bulk_load.specs.Packing.{CanFill, goes_on_by};
+ghost use Rattle.bulk_load.specs.Packing.{CanFill, goes_on_by, WritesRuns, room_in};
 ghost use Rattle.bulk_load.specs.Reading.{IsNextEntry, FitsLine, IsTaking, TakesOn, IsRead};
 
 use crate::fault::{LoadFault, of_file};
@@ -46,6 +46,7 @@ pub(crate) fn read_text<I: Source, S: Station>(
     ensures journal { frames.new.journal ≡ frames.old.journal }
     ensures steps { Steps (Spares place.now.layout place.now.region) (S.view station.old) (S.view station.new) }
     ensures cost { IfOk result (λ taken. (S.view station.new).travel.written ≤ (S.view station.old).travel.written + segment_size place.now.layout * taken.written) }
+    ensures calls { IfOk result (λ taken. WritesRuns (room_in place.now.layout) 0 taken.written (S.view station.old).calls (S.view station.new).calls) }
     ensures failed { IsErrOf result LoadFault.Disk → Rose (S.view station.old).disk_faults (S.view station.new).disk_faults }
     ensures went { Went (I.view source.old) (I.view source.new) }
 {

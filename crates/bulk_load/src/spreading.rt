@@ -5,23 +5,25 @@
 //! segment t begins at record `t * n / m` of `n` that go to `m` segments, which is at most 64 for each segment before it. So
 //! where it is written, every packed segment from t on was read.
 
-ghost use Rattle.std.specs.Prelude.{◌≡◌, ◌≢◌, ℕ, ◌+◌, ◌*◌, ◌/◌, ◌^◌, ◌<◌, ◌≤◌, List, [], length, slice_range, OnOk, IfErr, IsErrOf};
+ghost use Rattle.std.specs.Prelude.{◌≡◌, ◌≢◌, ◌-◌, ℕ, ◌+◌, ◌*◌, ◌/◌, ◌^◌, ◌<◌, ◌≤◌, List, [], length, slice_range, OnOk, IfErr, IsErrOf};
 ghost use Rattle.station.specs.View.{Told, Rose};
 ghost use Rattle.station.specs.Steps.{Steps};
 ghost use Rattle.header_gate.specs.Places.{height_limit, segment_size};
-ghost use Rattle.density_rule.specs.declared.TheConstants.{SEGMENT_SLOTS};
+ghost use Rattle.density_rule.specs.declared.TheConstants.{SEGMENT_RECORDS};
 ghost use Rattle.key_slot.specs.Record.{Record};
 ghost use Rattle.map_model.specs.Array.{segment_at, spread_over};
 ghost use Rattle.map_model.specs.Regions.{Spares};
 ghost use Rattle.resize_region.specs.Aside.{HasWritten};
 ghost use Rattle.resize_region.specs.Shares.{places, HasShares, share_in};
-ghost use Rattle.bulk_load.specs.Packing.{CanFill, AreRows, HasPacked};
+ghost use Rattle.bulk_load.specs.Packing.{CanFill, AreRows, HasPacked, room_in};
 ghost use Rattle.bulk_load.specs.Spreading.{used_by, IsPacked, ArePacked, ReadsPacked, HasCause};
+ghost use Rattle.segment_frames.specs.Parts.{GoesInParts};
+ghost use Rattle.resize_region.specs.Source.{copy_calls};
 
 use crate::aside::write_aside;
 use crate::packed::{Packed, read_packed, take_last, used_by};
 use crate::room::room_of;
-use density_rule::SEGMENT_SLOTS;
+use density_rule::SEGMENT_RECORDS;
 use redo_journal::{Frames, Place};
 use segment::StoreFault;
 use spread_plan::share;
@@ -43,12 +45,13 @@ pub(crate) fn spread_aside<S: Station>(
     requires empty { (i : ℕ) → i < places place.now.layout.format frames.old → share_in place.now.layout.format i frames.old ≡ [] }
     requires some { 1 ≤ segments }
     requires inside { segments ≤ 2 ^ height_limit place.now.layout }
-    requires room { records ≤ SEGMENT_SLOTS * segments }
+    requires room { records ≤ SEGMENT_RECORDS * segments }
     ensures spread { OnOk result (Told (S.view station.old) → (rows : List Record) → AreRows place.now.layout.format rows → length rows ≡ records →
         HasPacked place.now rows (used_by records) (S.view station.old).held → HasWritten place.now (spread_over segments rows) segments (S.view station.new).held) }
     ensures journal { frames.new.journal ≡ frames.old.journal }
     ensures steps { Steps (Spares place.now.layout place.now.region) (S.view station.old) (S.view station.new) }
     ensures cost { (S.view station.new).travel.written ≤ (S.view station.old).travel.written + segment_size place.now.layout * segments }
+    ensures calls { OnOk result ((S.view station.new).calls ≤ (S.view station.old).calls + copy_calls (room_in place.now.layout) (used_by records) segments) }
     ensures damaged { IfErr result (λ fault. Told (S.view station.old) → (rows : List Record) → AreRows place.now.layout.format rows → length rows ≡ records →
         HasPacked place.now rows (used_by records) (S.view station.old).held → fault ≡ StoreFault.Failed) }
     ensures cause { IfErr result (HasCause place.now.layout.format records frames.new) }
@@ -93,14 +96,15 @@ fn fill_places<S: Station>(
     count: u32,
 ) -> Result<(), StoreFault>
     requires can { CanFill place.now frames.old (S.view station.old) }
-    requires fits { records ≤ SEGMENT_SLOTS * 2 ^ height_limit place.now.layout }
+    requires fits { records ≤ SEGMENT_RECORDS * 2 ^ height_limit place.now.layout }
     requires packed { IsPacked place.now.layout.format records frames.old packed.old }
-    requires room { records ≤ SEGMENT_SLOTS * segments }
+    requires room { records ≤ SEGMENT_RECORDS * segments }
     requires inside { low + count ≤ segments }
     requires rest { packed.old.rest ≡ (low + count) * records / segments }
     requires frames { packed.old.room + count ≤ places place.now.layout.format frames.old }
     requires empty { (i : ℕ) → i < count → share_in place.now.layout.format (packed.old.room + i) frames.old ≡ [] }
     ensures reads { ReadsPacked place.now records result packed.old packed.new frames.old frames.new (S.view station.old) (S.view station.new) }
+    ensures calls { OnOk result (GoesInParts packed.old.room (used_by records) (used_by records - packed.old.unread) (used_by records - packed.new.unread) (S.view station.old).calls (S.view station.new).calls) }
     ensures rest { OnOk result (packed.new.rest ≡ low * records / segments) }
     ensures filled { OnOk result (Told (S.view station.old) → (rows : List Record) → ArePacked place.now records rows packed.old frames.old (S.view station.old).held →
         (i : ℕ) → i < count → share_in place.now.layout.format (packed.old.room + i) frames.new ≡ segment_at (spread_over segments rows) (low + i)) }
@@ -133,14 +137,15 @@ fn fill_share<S: Station>(
     share: u32,
 ) -> Result<(), StoreFault>
     requires can { CanFill place.now frames.old (S.view station.old) }
-    requires fits { records ≤ SEGMENT_SLOTS * 2 ^ height_limit place.now.layout }
+    requires fits { records ≤ SEGMENT_RECORDS * 2 ^ height_limit place.now.layout }
     requires packed { IsPacked place.now.layout.format records frames.old packed.old }
     requires behind { packed.old.room ≤ f }
     requires frame { f < places place.now.layout.format frames.old }
     requires none { share_in place.now.layout.format f frames.old ≡ [] }
-    requires few { share ≤ SEGMENT_SLOTS }
+    requires few { share ≤ SEGMENT_RECORDS }
     requires enough { share ≤ packed.old.rest }
     ensures reads { ReadsPacked place.now records result packed.old packed.new frames.old frames.new (S.view station.old) (S.view station.new) }
+    ensures calls { OnOk result (GoesInParts packed.old.room (used_by records) (used_by records - packed.old.unread) (used_by records - packed.new.unread) (S.view station.old).calls (S.view station.new).calls) }
     ensures rest { OnOk result (packed.new.rest + share ≡ packed.old.rest) }
     ensures filled { OnOk result (Told (S.view station.old) → (rows : List Record) → ArePacked place.now records rows packed.old frames.old (S.view station.old).held →
         share_in place.now.layout.format f frames.new ≡ slice_range rows packed.new.rest packed.old.rest) }
@@ -149,7 +154,7 @@ fn fill_share<S: Station>(
 {
     let mut have = 0;
     while have < share {
-        if packed.rest <= SEGMENT_SLOTS * packed.unread {
+        if packed.rest <= SEGMENT_RECORDS * packed.unread {
             read_packed(station, place, frames, packed, records)?;
         } else {
             have += take_last(frames, place.layout.format, packed, f, have, share - have);
@@ -167,6 +172,6 @@ fn clear_places(frames: &mut Frames, format: u32, first: u32, count: u32)
     ensures others { (i : ℕ) → i < first → share_in format i frames.new ≡ share_in format i frames.old }
     ensures rest { frames.new ≡ record frames.old { slots = frames.new.slots } }
 {
-    let size = SEGMENT_SLOTS as usize * format as usize;
+    let size = SEGMENT_RECORDS as usize * format as usize;
     frames.clear_run(size * first as usize, size * count as usize);
 }

@@ -13,7 +13,7 @@ use Rattle.map_model.specs.Store.{Update, bind, unbind}
 use Rattle.map_model.specs.ArrayUpdates.{key_of}
 use Rattle.batch_intent.specs.declared.intent.TheConstants.{MOST_ITEMS}
 use Rattle.batch_intent.specs.declared.places.TheConstants.{INTENT_SIZE}
-use Rattle.batch_intent.specs.Spelling.{intent_bytes, value_of, fits_item}
+use Rattle.batch_intent.specs.Spelling.{intent_bytes, bound_value, fits_item}
 use Rattle.command_text.specs.declared.command.Command.TheVariants.{OversizedKey, OversizedValue}
 use Rattle.command_text.specs.Batch.{is_separator, parts, is_item_form, item_of, items_of, is_batch_form, first_oversized}
 use Rattle.command_text.proofs.WordLaws.{AreWords}
@@ -91,19 +91,19 @@ keys_are (part ∷ ps) are form = (key_is part are.0 (first_of (is_item_form par
 
 -- no size that the format hasn't
 module _ (f : ℕ) where
-  fit_one : (u : Update) → 1 ≤ length (key_of u) → length (key_of u) ≤ key_room f → length (value_of u) ≤ value_room f → fits_item f u ≡ true
-  fit_one u some key value = λ i. (le-leb 1 (length (key_of u)) some i && (le-leb (length (key_of u)) (key_room f) key i && le-leb (length (value_of u)) (value_room f) value i))
+  fit_one : (u : Update) → 1 ≤ length (key_of u) → length (key_of u) ≤ key_room f → length (bound_value u) ≤ value_room f → fits_item f u ≡ true
+  fit_one u some key value = λ i. (le-leb 1 (length (key_of u)) some i && (le-leb (length (key_of u)) (key_room f) key i && le-leb (length (bound_value u)) (value_room f) value i))
 
   -- the first item's sizes, and those of the others
-  sizes_are : (u : Update) (us : List Update) → first_oversized f (u ∷ us) ≡ None → (length (key_of u) ≤ key_room f) × (length (value_of u) ≤ value_room f) × (first_oversized f us ≡ None)
-  sizes_are u us sized = by_tests (nat_lt (key_room f) (length (key_of u))) (nat_lt (value_room f) (length (value_of u))) refl refl sized
+  sizes_are : (u : Update) (us : List Update) → first_oversized f (u ∷ us) ≡ None → (length (key_of u) ≤ key_room f) × (length (bound_value u) ≤ value_room f) × (first_oversized f us ≡ None)
+  sizes_are u us sized = by_tests (nat_lt (key_room f) (length (key_of u))) (nat_lt (value_room f) (length (bound_value u))) refl refl sized
     where
-      by_tests : (a b : Bool) → nat_lt (key_room f) (length (key_of u)) ≡ a → nat_lt (value_room f) (length (value_of u)) ≡ b
+      by_tests : (a b : Bool) → nat_lt (key_room f) (length (key_of u)) ≡ a → nat_lt (value_room f) (length (bound_value u)) ≡ b
           → cond a (Some OversizedKey) (cond b (Some OversizedValue) (first_oversized f us)) ≡ None
-          → (length (key_of u) ≤ key_room f) × (length (value_of u) ≤ value_room f) × (first_oversized f us ≡ None)
+          → (length (key_of u) ≤ key_room f) × (length (bound_value u) ≤ value_room f) × (first_oversized f us ≡ None)
       by_tests true b p q e = absurd cc
       by_tests false true p q e = absurd cc
-      by_tests false false p q e = (ltb-false (key_room f) (length (key_of u)) p, ltb-false (value_room f) (length (value_of u)) q, e)
+      by_tests false false p q e = (ltb-false (key_room f) (length (key_of u)) p, ltb-false (value_room f) (length (bound_value u)) q, e)
 
   pub all_fit : (us : List Update) → HaveKeys us → first_oversized f us ≡ None → T (list_all (fits_item f) us)
   all_fit [] keys sized = tt

@@ -11,16 +11,17 @@ use Rattle.key_slot.specs.Format.{key_room, value_room}
 use Rattle.key_slot.specs.Record.{is_record}
 use Rattle.key_slot.proofs.SlotLaws.{is_record_by_sizes}
 use Rattle.map_model.specs.Store.{Map, Update}
-use Rattle.map_model.specs.ArrayUpdates.{key_of as item_key}
+use Rattle.map_model.specs.ArrayUpdates.{key_of}
 use Rattle.header_gate.specs.declared.layout.Layout.{Layout}
 use Rattle.header_gate.specs.Places.{height_limit}
 use Rattle.map_model.specs.Items.{are_distinct, accepts}
-use Rattle.batch_intent.specs.Spelling.{IsIntent, fits_item, value_of}
+use Rattle.batch_intent.specs.Spelling.{IsIntent, fits_item, bound_value}
 use Rattle.command_text.specs.Batch.{parts, items_of, is_batch_form, first_oversized, if_sized, batch_of}
 use Rattle.command_text.specs.Updates.{updates_asked, updates_made}
 use Rattle.command_text.specs.Words.{words}
 use Rattle.command_text.specs.Number.{number_of, if_positive}
-use Rattle.command_text.specs.Command.{IsKey, IsBound, with_key, with_value, with_bound, with_number, bounded, put_of, key_of, range_of, alone, probe_of, opened_between, open_of, cursor_named, command_of_words, command_of}
+use Rattle.command_text.specs.Command.{IsKey, IsBound, with_key, with_value, with_bound, with_number, put_read, keyed, range_of, alone, probe_of, open_of, cursor_named, command_of_words, command_of}
+use Rattle.command_text.specs.Reading.{bounded, opened_between}
 use Rattle.command_text.specs.declared.command.Command.{Command}
 use Rattle.command_text.specs.declared.command.Command.TheVariants.{Nothing, Put, Remove, Batch, Get, Range, Check, Probe, Cost, Open, Next, Close, OversizedKey, OversizedValue, RepeatedKey, Bad}
 use Rattle.command_text.specs.declared.command.Why.TheVariants as why
@@ -84,7 +85,7 @@ module _ (f n : ℕ) (P : Command → Type 0) (each : OfEachKind f n P) where
   record_is : (key value : List ℕ) → IsKey f key → length value ≤ value_room f → T (is_record f (key, value))
   record_is key value is short = is_record_by_sizes f (key, value) (record { some = is.0; key = is.1; value = short })
 
-  put_holds : (rest : List (List ℕ)) → AreWords rest → span rest ≤ n → P (put_of f rest)
+  put_holds : (rest : List (List ℕ)) → AreWords rest → span rest ≤ n → P (put_read f rest)
   put_holds [] are short = each.bad_words
   put_holds (k ∷ []) are short = of_key k (λ key. Put key []) are.0 (λ key is. each.puts key [] (record_is key [] is (omega arith)) (omega (arith, short, are.0)))
   put_holds (k ∷ v ∷ []) are short =
@@ -92,12 +93,12 @@ module _ (f n : ℕ) (P : Command → Type 0) (each : OfEachKind f n P) where
       of_value v (λ value. Put key value) (λ value fits. each.puts key value (record_is key value is fits) (omega (arith, short, are.0))))
   put_holds (k ∷ v ∷ w ∷ rest) are short = each.bad_words
 
-  remove_holds : (rest : List (List ℕ)) → AreWords rest → span rest ≤ n → P (key_of f Remove rest)
+  remove_holds : (rest : List (List ℕ)) → AreWords rest → span rest ≤ n → P (keyed f Remove rest)
   remove_holds [] are short = each.bad_words
   remove_holds (k ∷ []) are short = of_key k Remove are.0 (λ key is. each.removes key is (omega (arith, short, are.0)))
   remove_holds (k ∷ v ∷ rest) are short = each.bad_words
 
-  key_holds : (next : List ℕ → Command) → ((key : List ℕ) → IsKey f key → P (next key)) → (rest : List (List ℕ)) → AreWords rest → P (key_of f next rest)
+  key_holds : (next : List ℕ → Command) → ((key : List ℕ) → IsKey f key → P (next key)) → (rest : List (List ℕ)) → AreWords rest → P (keyed f next rest)
   key_holds next holds [] are = each.bad_words
   key_holds next holds (k ∷ []) are = of_key k next are.0 holds
   key_holds next holds (k ∷ v ∷ rest) are = each.bad_words
@@ -150,7 +151,7 @@ module _ (f n : ℕ) (P : Command → Type 0) (each : OfEachKind f n P) where
 
   sizes_hold : (us : List Update) → HoldsOf (first_oversized f us)
   sizes_hold [] = tt
-  sizes_hold (u ∷ us) = pick (nat_lt (key_room f) (length (item_key u))) (Some OversizedKey) _ each.oversized_key (pick (nat_lt (value_room f) (length (value_of u))) (Some OversizedValue) _ each.oversized_value (sizes_hold us))
+  sizes_hold (u ∷ us) = pick (nat_lt (key_room f) (length (key_of u))) (Some OversizedKey) _ each.oversized_key (pick (nat_lt (value_room f) (length (bound_value u))) (Some OversizedValue) _ each.oversized_value (sizes_hold us))
     where
       pick : (b : Bool) (x y : Option Command) → HoldsOf x → HoldsOf y → HoldsOf (cond b x y)
       pick true x y first second = first

@@ -10,7 +10,7 @@ use Rattle.map_model.specs.ArrayUpdates.{key_of}
 use Rattle.map_model.specs.Items.{are_distinct}
 use Rattle.batch_intent.specs.declared.intent.TheConstants.{MOST_ITEMS}
 use Rattle.batch_intent.specs.declared.places.TheConstants.{INTENT_SIZE}
-use Rattle.batch_intent.specs.Spelling.{intent_bytes, value_of}
+use Rattle.batch_intent.specs.Spelling.{intent_bytes, bound_value}
 use Rattle.command_text.specs.declared.command.Command.{Command}
 use Rattle.command_text.specs.declared.command.Command.TheVariants.{Batch, OversizedKey, OversizedValue, RepeatedKey, Bad}
 use Rattle.command_text.specs.declared.command.Why.TheVariants as why
@@ -48,7 +48,7 @@ abbrev pub first_oversized : ℕ → List Update → Option Command
 first_oversized f [] = None
 first_oversized f (u ∷ us) =
     if nat_lt (key_room f) (length (key_of u)) then Some OversizedKey
-    else if nat_lt (value_room f) (length (value_of u)) then Some OversizedValue
+    else if nat_lt (value_room f) (length (bound_value u)) then Some OversizedValue
     else first_oversized f us
 
 -- the refusal of a size, or else the items, where no key stands twice

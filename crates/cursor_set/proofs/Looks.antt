@@ -14,7 +14,7 @@ pub near_for : {A B : Type 0} (p : Result A StoreFault) (q : Result B StoreFault
 near_for p q held j r a b stop is near k at =
     let same : j ≡ k = cc in
     subst (λ (c : Cursor). ReadsNear (later c.low c.past) r q a b) same
-    (record { from = near.from; to = near.to; travel = near.travel; some = near.some; two = near.two; within = near.within; own = near.own; causes = stop _ near.causes })
+    (record { from = near.from; to = near.to; travel = near.travel; some = near.some; two = near.two; calls = near.calls; within = near.within; own = near.own; causes = stop _ near.causes })
 
 -- a name has a cursor, or has none
 pub not_both : {A : Type 0} (held : Option Cursor) (j : Cursor) → held ≡ Some j → held ≡ None → A

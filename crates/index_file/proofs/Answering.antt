@@ -1,5 +1,9 @@
 -- What holds of whatever was given.
-use Rattle.std.specs.Prelude.{Result, Ok, Err, Option, Some, None, IfOk, IfErr, IfSome, OnOk}
+use Rattle.std.proofs.Common.{◌≡◌, ℕ, sym, ap, ◌∙◌}
+use Rattle.std.specs.Prelude.{Result, Ok, Err, Option, Some, None, Bool, true, false, IfOk, IfErr, IfSome, OnOk, IsErrOf, is_err}
+use Rattle.std.proofs.lemmas.Bool.{false≢true}
+use Rattle.index_file.specs.declared.fault.AreaFault.{AreaFault}
+use Rattle.index_file.specs.declared.fault.AreaFault.TheVariants.{Failed, Wrong}
 
 pub all_given : {T E : Type 0} (r : Result (Option T) E) (P : Type 0) → P → IfOk r (λ o. IfSome o (λ x. P))
 all_given (Ok (Some x)) P p = p
@@ -22,3 +26,19 @@ on_ok_any (Err e) P p = tt
 pub err_weaker : {T E : Type 0} (r : Result T E) (P Q : E → Type 0) → ((e : E) → P e → Q e) → IfErr r P → IfErr r Q
 err_weaker (Ok x) P Q f p = tt
 err_weaker (Err e) P Q f p = f e p
+
+pub err_any : {T E : Type 0} (r : Result T E) (P : E → Type 0) → ((e : E) → P e) → IfErr r P
+err_any (Ok x) P f = tt
+err_any (Err e) P f = f e
+
+-- an Ok is no fault of the disk, and a wrong place is none
+pub never_failed : {T : Type 0} (v : T) → IsErrOf {T = T} {E = AreaFault} (Ok v) Failed → ⊥
+never_failed {T = T} v is = false≢true (ap (is_err {T = T} {E = AreaFault}) is)
+
+abbrev is_failed : {T : Type 0} → Result T AreaFault → Bool
+is_failed (Ok v) = false
+is_failed (Err Failed) = true
+is_failed (Err (Wrong place)) = false
+
+pub never_wrong : {T : Type 0} (e : AreaFault) (place : ℕ) → e ≡ Wrong place → IsErrOf {T = T} {E = AreaFault} (Err e) Failed → ⊥
+never_wrong {T = T} e place wrong is = false≢true (ap (λ (x : AreaFault). is_failed {T = T} (Err x)) (sym wrong) ∙ ap (is_failed {T = T}) is)

@@ -26,7 +26,7 @@ use Rattle.map_model.proofs.ArrayReasons.{both_none, none_of_each}
 use Rattle.map_model.proofs.Reasonings.{length-array_in}
 use Rattle.veb_layout.specs.Layout.{position_of}
 use Rattle.veb_layout.specs.Links.{link_to}
-use Rattle.veb_index.specs.Nodes.{middle, depth_of, number_of, fence_place}
+use Rattle.veb_index.specs.Nodes.{middle, depth_of, number_in_level, fence_place}
 use Rattle.veb_index.specs.Arrays.{first_key}
 use Rattle.veb_index.proofs.Middles.{middle_of_node, fence_place-middle}
 use Rattle.veb_index.proofs.Arrays.{first_keys_ascend}
@@ -59,8 +59,8 @@ module _ (l : Layout) (h : ℕ) (fence : ℕ → Bytes) (file : List ℕ) (are :
   pub fence_read-is : (i : ℕ) → 1 ≤ i → i < 2 ^ h → fence_read l h file i ≡ fence i
   fence_read-is i some lt =
       let is = middle_of_node h i some lt in
-      let place : fence_place h i ≡ position_of h (depth_of h i) (number_of h i) = ap (fence_place h) (sym is.middle) ∙ fence_place-middle h (depth_of h i) (number_of h i) is.depth in
-      ap (λ (p : ℕ). fence_in file (node_place l p)) place ∙ (are (depth_of h i) (number_of h i) is.depth is.number).fence_is ∙ ap fence is.middle
+      let place : fence_place h i ≡ position_of h (depth_of h i) (number_in_level h i) = ap (fence_place h) (sym is.middle) ∙ fence_place-middle h (depth_of h i) (number_in_level h i) is.depth in
+      ap (λ (p : ℕ). fence_in file (node_place l p)) place ∙ (are (depth_of h i) (number_in_level h i) is.depth is.number).fence_is ∙ ap fence is.middle
 
 -- the first key of a segment that isn't empty
 first_some : (s : List Record) → 1 ≤ length s → key_at s 0 ≡ Some (unwrap_or (key_at s 0) [])

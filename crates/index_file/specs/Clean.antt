@@ -8,7 +8,7 @@ use Rattle.station.specs.Steps.{LeavesOnly}
 use Rattle.header_gate.specs.declared.gate.Gate.TheVariants.{Clean}
 use Rattle.header_gate.specs.declared.layout.Layout.{Layout}
 use Rattle.header_gate.specs.declared.layout.TheConstants.{INDEXED}
-use Rattle.header_gate.specs.Header.{number, gate, intent_gate, clean_gate, layout_in, IsPlaceOf}
+use Rattle.header_gate.specs.Header.{gate, intent_gate, clean_gate, layout_in, IsPlaceOf}
 use Rattle.header_gate.specs.Places.{area_place}
 use Rattle.header_gate.specs.Reasons.{header_reason}
 use Rattle.key_slot.specs.Record.{Bytes}
@@ -20,7 +20,7 @@ use Rattle.index_file.specs.Area.{HasArea}
 
 -- the version that the identity names
 abbrev pub version_of : List ℕ → ℕ
-version_of image = number image 3080
+version_of image = (layout_in image).version
 
 -- the first key of segment i, or nothing where it is empty
 abbrev pub fence_of_segment : Array → ℕ → Bytes

@@ -1,5 +1,5 @@
 -- Which files are opened by their index, and what is read then.
-use Rattle.std.specs.Prelude.{◌≡◌, ◌⊎◌, ℕ, ◌<◌, ◌≤◌, ◌==◌, ◌&&◌, not, Bool, List, None}
+use Rattle.std.specs.Prelude.{◌≡◌, ◌⊎◌, ◌+◌, ℕ, ◌<◌, ◌≤◌, ◌==◌, ◌&&◌, not, Bool, List, None}
 use Rattle.station.specs.View.{View, Told, EachHeld, NothingPending, after_read}
 use Rattle.station.specs.declared.travel.Travel.{Travel}
 use Rattle.density_rule.specs.Marks.{no_marks}
@@ -12,7 +12,7 @@ use Rattle.header_gate.specs.Places.{IsLayout, height_limit, file_length, page_s
 use Rattle.header_gate.specs.Reasons.{header_reason, IsSoundHeader, IsHeader}
 use Rattle.map_model.specs.Image.{height_of}
 use Rattle.index_file.specs.Clean.{version_of}
-use Rattle.index_file.specs.Reading.{IsAreaFront, after_area}
+use Rattle.index_file.specs.Reading.{IsAreaFront, after_area, area_calls}
 use Rattle.recovery.specs.Parts.{Fits, AgreesWith}
 use Rattle.recovery.specs.declared.fault.OpenFault.{OpenFault}
 use Rattle.recovery.specs.declared.fault.OpenFault.TheVariants.{Memory, NotStore, Failed}
@@ -74,3 +74,4 @@ pub record IsOpenedQuickly (parts : Parts) (a b : View) : Type 0 where
   pub unrested : parts.tally.marks ≡ no_marks parts.tally.height
   pub no_intent : parts.intent ≡ None
   pub travel : b.travel ≡ after_area parts.place.layout parts.tally.height a.travel
+  pub calls : b.calls ≤ a.calls + area_calls parts.tally.height

@@ -1,10 +1,14 @@
 -- The index in the file while it is read.
-use Rattle.std.specs.Prelude.{◌≡◌, ◌⊎◌, ℕ, ◌+◌, ◌-◌, ◌*◌, ◌^◌, ◌<◌, ◌≤◌, ◌==◌, if◌then◌else◌, List, Bool, true, false}
-use Rattle.station.specs.View.{View, after_read}
+use Rattle.std.specs.Prelude.{◌≡◌, ◌⊎◌, ℕ, ◌+◌, ◌-◌, ◌*◌, ◌^◌, ◌<◌, ◌≤◌, ◌==◌, if◌then◌else◌, List, Bool, Result, OnOk, IsErrOf, true, false}
+use Rattle.station.specs.Bytes.{Same}
+use Rattle.station.specs.View.{View, Rose, after_read}
+use Rattle.station.specs.Steps.{Steps}
 use Rattle.station.specs.declared.travel.Travel.{Travel}
 use Rattle.index_file.specs.Seats.{link_of}
 use Rattle.index_file.specs.Node.{is_node}
 use Rattle.index_file.specs.Area.{node_place, count_place}
+use Rattle.index_file.specs.declared.fault.AreaFault.{AreaFault}
+use Rattle.index_file.specs.declared.fault.AreaFault.TheVariants.{Failed}
 use Rattle.index_file.specs.declared.sizes.TheConstants.{NODE_SIZE, COUNT_SIZE}
 use Rattle.header_gate.specs.declared.layout.Layout.{Layout}
 use Rattle.header_gate.specs.declared.layout.TheConstants.{INDEXED}
@@ -12,6 +16,7 @@ use Rattle.header_gate.specs.Places.{IsLayout, file_length}
 use Rattle.density_rule.specs.Marks.{no_marks}
 use Rattle.veb_index.specs.View.{IndexView}
 use Rattle.window_tally.specs.View.{TallyView, IsTally}
+use Rattle.segment_frames.specs.Parts.{parts}
 
 -- whether the node of position x of an index of h levels stands at the place, whatever its fence
 abbrev pub is_node_of : ℕ → ℕ → ℕ → List ℕ → ℕ → Bool
@@ -44,6 +49,16 @@ pub record TakesFences (t u : IndexView) : Type 0 where
   pub hmax : u.hmax ≡ t.hmax
   pub height : u.height ≡ t.height
 
+-- Nodes and counts are read and written in pieces, each by one call: those of an index of h levels, and both.
+abbrev pub node_calls : ℕ → ℕ
+node_calls h = parts 64 (2 ^ h - 1)
+
+abbrev pub count_calls : ℕ → ℕ
+count_calls h = parts 1024 (2 ^ h)
+
+abbrev pub area_calls : ℕ → ℕ
+area_calls h = node_calls h + count_calls h
+
 -- the travel after one read of so many bytes, or none where there are none
 abbrev pub after_part : ℕ → ℕ → Travel → Travel
 after_part place n t = if n == 0 then t else after_read place n t
@@ -68,6 +83,30 @@ pub record IsFrontRead (place size : ℕ) (before now : Travel) : Type 0 where
 -- a front of the nodes was read, or all of them and a front of the counts
 abbrev pub IsAreaFront : Layout → ℕ → Travel → Travel → Type 0
 IsAreaFront l h before now = IsFrontRead (node_place l 0) (NODE_SIZE * (2 ^ h - 1)) before now ⊎ IsFrontRead (count_place l 0) (COUNT_SIZE * 2 ^ h) (after_nodes l h before) now
+
+-- the counts of an index of h levels were read, or a front of them: the file is as it was
+pub record ReadsCounts {T : Type 0} (l : Layout) (h : ℕ) (result : Result T AreaFault) (a b : View) : Type 0 where
+  -- no byte changed
+  pub steps : Steps Same a b
+  -- after an Ok all of them
+  pub travel : OnOk result (b.travel ≡ after_counts l h a.travel)
+  -- none of them twice, and no other byte
+  pub front : IsFrontRead (count_place l 0) (COUNT_SIZE * 2 ^ h) a.travel b.travel
+  -- piece by piece
+  pub calls : b.calls ≤ a.calls + count_calls h
+  -- a fault of the disk
+  pub failed : IsErrOf result Failed → Rose a.disk_faults b.disk_faults
+
+-- the same of its nodes
+pub record ReadsNodes {T : Type 0} (l : Layout) (h : ℕ) (result : Result T AreaFault) (a b : View) : Type 0 where
+  -- no byte changed
+  pub steps : Steps Same a b
+  -- after an Ok all of them were read
+  pub travel : OnOk result (b.travel ≡ after_nodes l h a.travel)
+  -- piece by piece
+  pub calls : b.calls ≤ a.calls + node_calls h
+  -- a fault of the disk
+  pub failed : IsErrOf result Failed → Rose a.disk_faults b.disk_faults
 
 -- of so many nodes in a piece, from the one of position first on, that of position x is the first that isn't there
 pub record IsFirstWrong (f h first count : ℕ) (piece : List ℕ) (x : ℕ) : Type 0 where

@@ -26,6 +26,8 @@ pub fn close_index<S: Station>(station: &mut S) -> Result<(), Failed>
     ensures kept { Told (S.view station.old) → ¬ IsOpenIndex (S.view station.old).held → LeavesFile (S.view station.old) (S.view station.new) }
     ensures cost { (S.view station.new).travel.written ≤ (S.view station.old).travel.written + 1 }
     ensures reads { (S.view station.new).travel.read ≤ (S.view station.old).travel.read + page_size }
+    ensures calls { (S.view station.new).calls ≤ (S.view station.old).calls + 4 }
+    ensures calls_shut { Told (S.view station.old) → ¬ IsOpenIndex (S.view station.old).held → (S.view station.new).calls ≤ (S.view station.old).calls + 2 }
     ensures cause { OnErr result (Rose (S.view station.old).disk_faults (S.view station.new).disk_faults) }
 {
     match read_header(station) {

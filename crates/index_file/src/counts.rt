@@ -8,7 +8,7 @@ ghost use Rattle.density_rule.specs.Marks.{no_marks};
 ghost use Rattle.header_gate.specs.Places.{IsLayout, file_length};
 ghost use Rattle.header_gate.specs.declared.layout.TheConstants.{INDEXED};
 ghost use Rattle.index_file.specs.Area.{count_place};
-ghost use Rattle.index_file.specs.Reading.{HasIndex, IsUncounted, TakesCounts, IsFrontRead, after_counts};
+ghost use Rattle.index_file.specs.Reading.{HasIndex, IsUncounted, TakesCounts, ReadsCounts};
 ghost use Rattle.index_file.specs.Counting.{AreCounted, AreCountedIn, IsFirstBad, CountFailsAt};
 ghost use Rattle.window_tally.specs.View.{IsTally};
 
@@ -37,10 +37,7 @@ pub(crate) fn read_counts<S: Station>(
     ensures refused { IfErr result (λ e. Told (S.view station.old) → (place : ℕ) → e ≡ AreaFault.Wrong place →
         CountFailsAt layout.now tally.old.height (2 ^ tally.old.height) (S.view station.old).held place) }
     ensures counts { TakesCounts tally.old tally.new }
-    ensures steps { Steps Same (S.view station.old) (S.view station.new) }
-    ensures travel { OnOk result ((S.view station.new).travel ≡ after_counts layout.now tally.old.height (S.view station.old).travel) }
-    ensures front { IsFrontRead (count_place layout.now 0) (COUNT_SIZE * 2 ^ tally.old.height) (S.view station.old).travel (S.view station.new).travel }
-    ensures failed { IsErrOf result AreaFault.Failed → Rose (S.view station.old).disk_faults (S.view station.new).disk_faults }
+    ensures reads { ReadsCounts layout.now tally.old.height result (S.view station.old) (S.view station.new) }
 {
     let end = segment_count(tally);
     let mut first = 0;
@@ -73,6 +70,7 @@ fn read_count_piece<S: Station>(
     ensures counts { TakesCounts tally.old tally.new }
     ensures steps { Steps Same (S.view station.old) (S.view station.new) }
     ensures travel { (S.view station.new).travel ≡ after_read (count_place layout.now first) (COUNT_SIZE * count) (S.view station.old).travel }
+    ensures calls { (S.view station.new).calls ≤ (S.view station.old).calls + 1 }
     ensures failed { IsErrOf result AreaFault.Failed → Rose (S.view station.old).disk_faults (S.view station.new).disk_faults }
 {
     let mut piece = [0; PIECE];

@@ -22,6 +22,7 @@ pub fn close_clean<S: Station>(station: &mut S) -> Result<(), Failed>
     ensures closed { OnOk result (Told (S.view station.old) → byte (S.view station.new).held 704 ≡ 0) }
     ensures cost { (S.view station.new).travel.written ≤ (S.view station.old).travel.written + 1 }
     ensures no_reads { (S.view station.new).travel.read ≡ (S.view station.old).travel.read }
+    ensures calls { (S.view station.new).calls ≤ (S.view station.old).calls + 2 }
     ensures cause { OnErr result (Rose (S.view station.old).disk_faults (S.view station.new).disk_faults) }
 {
     set_gate(station, Gate::Clean, false)

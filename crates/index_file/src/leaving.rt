@@ -9,6 +9,7 @@ ghost use Rattle.header_gate.specs.declared.layout.TheConstants.{INDEXED};
 ghost use Rattle.index_file.specs.Clean.{IsAreaPlace, IsLeft, Leaves};
 ghost use Rattle.index_file.specs.Leaving.{IsReady, CanLeave};
 ghost use Rattle.recovery.specs.Parts.{AreParts};
+ghost use Rattle.index_file.specs.Reading.{area_calls};
 
 use crate::writing::{write_counts, write_nodes};
 use header_gate::{Gate, Layout, set_gate};
@@ -34,6 +35,7 @@ pub fn leave_index<S: Station>(station: &mut S, parts: &mut Parts) -> Result<(),
     ensures kept { parts.new ≡ parts.old }
     ensures cost { (S.view station.new).travel.written ≤ (S.view station.old).travel.written + (68 * 2 ^ parts.old.tally.height + 1) }
     ensures no_reads { (S.view station.new).travel.read ≡ (S.view station.old).travel.read }
+    ensures calls { (S.view station.new).calls ≤ (S.view station.old).calls + (area_calls parts.old.tally.height + 3) }
     ensures cause { OnErr result (Rose (S.view station.old).disk_faults (S.view station.new).disk_faults) }
 {
     leave_area(
@@ -62,6 +64,7 @@ fn leave_area<S: Station>(
     ensures settled { OnOk result (NothingPending (S.view station.new)) }
     ensures cost { (S.view station.new).travel.written ≤ (S.view station.old).travel.written + (68 * 2 ^ tally.now.height + 1) }
     ensures no_reads { (S.view station.new).travel.read ≡ (S.view station.old).travel.read }
+    ensures calls { (S.view station.new).calls ≤ (S.view station.old).calls + (area_calls tally.now.height + 3) }
     ensures cause { OnErr result (Rose (S.view station.old).disk_faults (S.view station.new).disk_faults) }
 {
     write_area(station, layout, region, tally, index)?;
@@ -82,6 +85,7 @@ fn write_area<S: Station>(
     ensures settled { OnOk result (NothingPending (S.view station.new)) }
     ensures cost { (S.view station.new).travel.written ≤ (S.view station.old).travel.written + 68 * 2 ^ tally.now.height }
     ensures no_reads { (S.view station.new).travel.read ≡ (S.view station.old).travel.read }
+    ensures calls { (S.view station.new).calls ≤ (S.view station.old).calls + (area_calls tally.now.height + 1) }
     ensures cause { OnErr result (Rose (S.view station.old).disk_faults (S.view station.new).disk_faults) }
 {
     write_nodes(station, layout, index, tally.height())?;

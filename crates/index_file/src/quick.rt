@@ -1,6 +1,6 @@
 //! A store is opened by the index in its file.
 
-ghost use Rattle.std.specs.Prelude.{◌≡◌, ◌⊎◌, ◌≤◌, IsOk, OnOk, IfOk, IfErr, IfSome, IsNone, IsErrOf, None, true, false};
+ghost use Rattle.std.specs.Prelude.{◌≡◌, ◌⊎◌, ◌≤◌, ◌+◌, IsOk, OnOk, IfOk, IfErr, IfSome, IsNone, IsErrOf, None, true, false};
 ghost use Rattle.station.specs.Bytes.{Same};
 ghost use Rattle.station.specs.View.{Told, EachHeld, NothingPending, Rose};
 ghost use Rattle.station.specs.Steps.{Steps};
@@ -10,7 +10,8 @@ ghost use Rattle.header_gate.specs.Reasons.{header_reason};
 ghost use Rattle.header_gate.specs.declared.layout.TheConstants.{INDEXED};
 ghost use Rattle.index_file.specs.Clean.{IsClean, IsLeft};
 ghost use Rattle.index_file.specs.Opening.{IsQuick, IsQuickFault, IsPageRead, IsQuickFront, IsOpenedQuickly, IsKnown, is_quick, after_quick};
-ghost use Rattle.index_file.specs.Reading.{IsAreaFront};
+ghost use Rattle.index_file.specs.Reading.{IsAreaFront, area_calls};
+ghost use Rattle.map_model.specs.Image.{height_of};
 ghost use Rattle.recovery.specs.Parts.{Fits, AgreesWith};
 
 use crate::fault::AreaFault;
@@ -48,6 +49,9 @@ pub fn open_quick<S: Station>(alloc: Global, station: &mut S) -> Result<Option<P
     ensures travel { IfOk result (λ given. IfSome given (λ parts. (S.view station.new).travel ≡ after_quick parts.place.layout parts.tally.height (S.view station.old).travel)) }
     ensures page { IfOk result (λ given. IsNone given → IsPageRead (S.view station.old).travel (S.view station.new).travel) }
     ensures front { IfErr result (λ e. IsQuickFront (S.view station.old) (S.view station.new).travel) }
+    ensures calls { IfOk result (λ given. IfSome given (λ parts. (S.view station.new).calls ≤ (S.view station.old).calls + (3 + area_calls parts.tally.height))) }
+    ensures page_calls { IfOk result (λ given. IsNone given → (S.view station.new).calls ≤ (S.view station.old).calls + 3) }
+    ensures calls_told { Told (S.view station.old) → (S.view station.new).calls ≤ (S.view station.old).calls + (3 + area_calls (height_of (S.view station.old).held)) }
 
     // Causes. Want of memory comes behind the sync and a sound header.
     ensures memory { IsErrOf result OpenFault.Memory → NothingPending (S.view station.new) × (Told (S.view station.old) → header_reason (S.view station.old).held ≡ None) }
@@ -78,6 +82,8 @@ fn open_left<S: Station>(
     ensures passed { IfOk result (λ given. IsNone given → (is_quick header.now ≡ false) × ((S.view station.new).travel ≡ (S.view station.old).travel)) }
     ensures steps { Steps Same (S.view station.old) (S.view station.new) }
     ensures front { IfErr result (λ e. IsAreaFront header.now.layout header.now.height (S.view station.old).travel (S.view station.new).travel) }
+    ensures calls { (S.view station.new).calls ≤ (S.view station.old).calls + area_calls header.now.height }
+    ensures no_calls { IfOk result (λ given. IsNone given → (S.view station.new).calls ≡ (S.view station.old).calls) }
     ensures causes { IfErr result IsQuickFault }
     ensures told { IfErr result (λ e. (r : Reason) → e ≡ OpenFault.NotStore r → ¬ Told (S.view station.old)) }
     ensures failed { IsErrOf result OpenFault.Failed → Rose (S.view station.old).disk_faults (S.view station.new).disk_faults }
@@ -103,6 +109,7 @@ fn load_parts<S: Station>(
     ensures opened { IfOk result (λ parts. IsOpenedQuickly parts (S.view station.old) (S.view station.new)) }
     ensures steps { Steps Same (S.view station.old) (S.view station.new) }
     ensures front { IfErr result (λ e. IsAreaFront header.now.layout header.now.height (S.view station.old).travel (S.view station.new).travel) }
+    ensures calls { (S.view station.new).calls ≤ (S.view station.old).calls + area_calls header.now.height }
     ensures causes { IfErr result IsQuickFault }
     ensures told { IfErr result (λ e. (r : Reason) → e ≡ OpenFault.NotStore r → ¬ Told (S.view station.old)) }
     ensures failed { IsErrOf result OpenFault.Failed → Rose (S.view station.old).disk_faults (S.view station.new).disk_faults }

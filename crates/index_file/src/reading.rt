@@ -9,7 +9,7 @@ ghost use Rattle.header_gate.specs.declared.layout.TheConstants.{INDEXED};
 ghost use Rattle.key_slot.specs.Format.{wide};
 ghost use Rattle.veb_index.specs.View.{fence_at};
 ghost use Rattle.index_file.specs.Area.{node_place};
-ghost use Rattle.index_file.specs.Reading.{HasIndex, IsUnread, TakesFences, IsFirstWrong, FailsAt, IsFrontRead, after_nodes};
+ghost use Rattle.index_file.specs.Reading.{HasIndex, IsUnread, TakesFences, IsFirstWrong, FailsAt, IsFrontRead, ReadsNodes};
 ghost use Rattle.index_file.specs.Writing.{IsNodeOf, AreNodesOf};
 
 use crate::area::{links_at, node_at, wrong_node};
@@ -36,10 +36,8 @@ pub(crate) fn read_nodes<S: Station>(
     ensures refused { IfErr result (λ e. Told (S.view station.old) → (place : ℕ) → e ≡ AreaFault.Wrong place →
         FailsAt layout.now h (2 ^ h - 1) (S.view station.old).held place) }
     ensures fences { TakesFences index.old index.new }
-    ensures steps { Steps Same (S.view station.old) (S.view station.new) }
-    ensures travel { OnOk result ((S.view station.new).travel ≡ after_nodes layout.now h (S.view station.old).travel) }
+    ensures reads { ReadsNodes layout.now h result (S.view station.old) (S.view station.new) }
     ensures front { IsFrontRead (node_place layout.now 0) (NODE_SIZE * (2 ^ h - 1)) (S.view station.old).travel (S.view station.new).travel }
-    ensures failed { IsErrOf result AreaFault.Failed → Rose (S.view station.old).disk_faults (S.view station.new).disk_faults }
 {
     let end = node_count(h);
     let mut first = 0;
@@ -73,6 +71,7 @@ fn read_node_piece<S: Station>(
     ensures fences { TakesFences index.old index.new }
     ensures steps { Steps Same (S.view station.old) (S.view station.new) }
     ensures travel { (S.view station.new).travel ≡ after_read (node_place layout.now first) (NODE_SIZE * count) (S.view station.old).travel }
+    ensures calls { (S.view station.new).calls ≤ (S.view station.old).calls + 1 }
     ensures failed { IsErrOf result AreaFault.Failed → Rose (S.view station.old).disk_faults (S.view station.new).disk_faults }
 {
     let mut piece = [0; PIECE];
@@ -102,6 +101,7 @@ pub(crate) fn read_front<S: Station>(
     ensures filled { OnOk result (Told (S.view station.old) → (k : ℕ) → k < size → byte piece.new k ≡ byte (S.view station.old).held (pos + k)) }
     ensures steps { Steps Same (S.view station.old) (S.view station.new) }
     ensures travel { (S.view station.new).travel ≡ after_read pos size (S.view station.old).travel }
+    ensures calls { (S.view station.new).calls ≤ (S.view station.old).calls + 1 }
     ensures cause { OnErr result (Rose (S.view station.old).disk_faults (S.view station.new).disk_faults) }
 {
     station.read_at(pos, &mut piece[..size])

@@ -9,7 +9,7 @@ ghost use Rattle.header_gate.specs.declared.layout.TheConstants.{INDEXED};
 ghost use Rattle.key_slot.specs.Format.{wide};
 ghost use Rattle.index_file.specs.Area.{node_place, count_place};
 ghost use Rattle.index_file.specs.Clean.{IsAreaPlace};
-ghost use Rattle.index_file.specs.Reading.{HasIndex};
+ghost use Rattle.index_file.specs.Reading.{HasIndex, node_calls, count_calls};
 ghost use Rattle.index_file.specs.Writing.{AreNodesOf, AreCountsOf};
 ghost use Rattle.window_tally.specs.View.{IsTally};
 
@@ -41,6 +41,7 @@ pub(crate) fn write_nodes<S: Station>(
     ensures written { OnOk result (Told (S.view station.old) → AreNodesOf wide layout.now h index.now.fences (2 ^ h - 1) (S.view station.new).held) }
     ensures cost { (S.view station.new).travel.written ≤ (S.view station.old).travel.written + NODE_SIZE * (2 ^ h - 1) }
     ensures no_reads { (S.view station.new).travel.read ≡ (S.view station.old).travel.read }
+    ensures calls { (S.view station.new).calls ≤ (S.view station.old).calls + node_calls h }
     ensures cause { OnErr result (Rose (S.view station.old).disk_faults (S.view station.new).disk_faults) }
 {
     let end = node_count(h);
@@ -81,6 +82,7 @@ fn write_node_piece<S: Station>(
         AreNodesOf wide layout.now h index.now.fences (first + count) (S.view station.new).held) }
     ensures cost { (S.view station.new).travel.written ≤ (S.view station.old).travel.written + NODE_SIZE * count }
     ensures no_reads { (S.view station.new).travel.read ≡ (S.view station.old).travel.read }
+    ensures calls { (S.view station.new).calls ≤ (S.view station.old).calls + 1 }
     ensures cause { OnErr result (Rose (S.view station.old).disk_faults (S.view station.new).disk_faults) }
 {
     let mut piece = [0; PIECE];
@@ -103,6 +105,7 @@ pub(crate) fn write_counts<S: Station>(
     ensures written { OnOk result (Told (S.view station.old) → AreCountsOf layout.now tally.now.counts (2 ^ tally.now.height) (S.view station.new).held) }
     ensures cost { (S.view station.new).travel.written ≤ (S.view station.old).travel.written + COUNT_SIZE * 2 ^ tally.now.height }
     ensures no_reads { (S.view station.new).travel.read ≡ (S.view station.old).travel.read }
+    ensures calls { (S.view station.new).calls ≤ (S.view station.old).calls + count_calls tally.now.height }
     ensures cause { OnErr result (Rose (S.view station.old).disk_faults (S.view station.new).disk_faults) }
 {
     let end = segment_count(tally);
@@ -142,6 +145,7 @@ fn write_count_piece<S: Station>(
         AreCountsOf layout.now tally.now.counts (first + count) (S.view station.new).held) }
     ensures cost { (S.view station.new).travel.written ≤ (S.view station.old).travel.written + COUNT_SIZE * count }
     ensures no_reads { (S.view station.new).travel.read ≡ (S.view station.old).travel.read }
+    ensures calls { (S.view station.new).calls ≤ (S.view station.old).calls + 1 }
     ensures cause { OnErr result (Rose (S.view station.old).disk_faults (S.view station.new).disk_faults) }
 {
     let mut piece = [0; PIECE];

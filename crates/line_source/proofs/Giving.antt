@@ -4,7 +4,7 @@ use Rattle.std.proofs.lemmas.List.{take-append-drop}
 use Rattle.std.proofs.Math.Seq.{drop-cons}
 use Rattle.std.proofs.lemmas.List.Elements.{All-append}
 use Rattle.line_source.specs.Lines.{NoFeed, raw_lines, line_limit}
-use Rattle.line_source.specs.SourceView.{SourceView, Told}
+use Rattle.line_source.specs.SourceView.{SourceView, SourceTold}
 use Rattle.line_source.specs.ReaderView.{ReaderView, rest, IsFirstFeed}
 use Rattle.line_source.specs.LineStep.{IsNext, Gives}
 use Rattle.line_source.specs.Filling.{IsKept, IsGiven, a_line, a_long_line, GivesLast, the_end, last_line}
@@ -32,7 +32,7 @@ gives_found old r1 s step long dropped found is_long is_whole next (a_long_line 
 
 module _ (r0 : ReaderView) (s0 : SourceView) (long : Bool) (r : ReaderView) (s : SourceView) (here : Reading r0 s0 long r s) where
   -- a line feed was found
-  pub gives_line : (r1 : ReaderView) (step : LineStep) (at : ℕ) → IsFirstFeed r.held at → r1.held ≡ drop (at + 1) r.held → IsKept r r1 → IsGiven step long (take at r.held) r1.line → Told s0 → Gives step (rest r0 s0) r1 s
+  pub gives_line : (r1 : ReaderView) (step : LineStep) (at : ℕ) → IsFirstFeed r.held at → r1.held ≡ drop (at + 1) r.held → IsKept r r1 → IsGiven step long (take at r.held) r1.line → SourceTold s0 → Gives step (rest r0 s0) r1 s
   gives_line r1 step at feed behind kept is told =
       gives_found (rest r0 s0) r1 s step long here.dropped (take at r.held) here.is_long here.is_whole
       (next_by (rest r0 s0) (here.dropped ++ take at r.held) (rest r1 s) r1.ended (All-append (λ b. b ≢ 10) here.dropped (take at r.held) here.no_feed feed.before) (here.rest_is told ∙ ap (λ (l : List ℕ). here.dropped ++ l) (by_end r.ended refl) ∙ sym (append_assoc here.dropped (take at r.held) (10 ∷ rest r1 s))))
@@ -49,7 +49,7 @@ module _ (r0 : ReaderView) (s0 : SourceView) (long : Bool) (r : ReaderView) (s :
       by_end false e = rest-open r s e ∙ ap (λ (l : List ℕ). l ++ s.left) held_is ∙ append_assoc (take at r.held) (10 ∷ r1.held) s.left ∙ ap (λ (l : List ℕ). take at r.held ++ 10 ∷ l) (sym (rest-open r1 s (kept.ended ∙ e)))
 
   -- the end was met: a last line, or nothing
-  pub gives_last : (r1 : ReaderView) (step : LineStep) → NoFeed r.held → r.ended ≡ true → GivesLast step long r r1 → Told s0 → Gives step (rest r0 s0) r1 s
+  pub gives_last : (r1 : ReaderView) (step : LineStep) → NoFeed r.held → r.ended ≡ true → GivesLast step long r r1 → SourceTold s0 → Gives step (rest r0 s0) r1 s
   gives_last r1 step none e (the_end is whole nothing new) told =
       subst (λ (x : LineStep). Gives x (rest r0 s0) r1 s) (sym is) (record {
         before = here.rest_is told ∙ ap (λ (l : List ℕ). l ++ rest r s) (here.is_whole whole) ∙ rest-ended r s e ∙ nothing;

@@ -2,9 +2,9 @@
 use Rattle.std.proofs.Common.{◌≡◌, ℕ, ◌+◌, ◌<◌, ◌≤◌, ◌⊎◌, inl, inr, Bool, true, false, List, [], ◌∷◌, ◌++◌, length, refl, sym, ap, ◌∙◌, arith, append_assoc}
 use Rattle.std.proofs.lemmas.List.{append-nil}
 use Rattle.line_source.specs.Lines.{NoFeed, raw_lines, complete_lines}
-use Rattle.line_source.specs.SourceView.{SourceView, Told, Went, Rose}
+use Rattle.line_source.specs.SourceView.{SourceView, SourceTold, Went, SourceRose}
 use Rattle.line_source.specs.ReaderView.{ReaderView, rest}
-use Rattle.line_source.specs.LineStep.{IsNext, IsCut, Gives, Means, is_last, Takes}
+use Rattle.line_source.specs.LineStep.{IsNext, IsCut, Gives, Tells, is_last, Takes}
 use Rattle.line_source.specs.Progress.{BeginsWith, HasGiven, IsLineOf, GivesOne, IsCutShort, GivesAll}
 use Rattle.line_source.specs.declared.reader.LineStep.{LineStep}
 use Rattle.line_source.specs.declared.reader.LineStep.TheVariants.{Line, LongLine, End, ReadFailed, Spent}
@@ -15,11 +15,11 @@ true_false : true ≡ false → ⊥
 true_false e = cc
 
 -- a count that rose in a later call rose in all
-pub rose_on : (a b c : SourceView) → Went a b → Rose b c → Rose a c
+pub rose_on : (a b c : SourceView) → Went a b → SourceRose b c → SourceRose a c
 rose_on a b c went rose = omega (arith, went.faults, rose)
 
 -- what the answer of a later call says of all of them
-pub means_on : (step : LineStep) (r : ReaderView) (a b c : SourceView) → Went a b → Means step r b c → Means step r a c
+pub means_on : (step : LineStep) (r : ReaderView) (a b c : SourceView) → Went a b → Tells step r b c → Tells step r a c
 means_on Line r a b c went means = means
 means_on LongLine r a b c went means = means
 means_on End r a b c went means = means
@@ -69,15 +69,15 @@ open_before : (old new : Bool) → (old ≡ true → new ≡ true) → new ≡ f
 open_before true new stays e = absurd (true_false (sym (stays refl) ∙ e))
 open_before false new stays e = refl
 
-module _ (r0 : ReaderView) (s0 : SourceView) (given : List (List ℕ)) (r : ReaderView) (s : SourceView) (here : HasGiven r0 s0 given r s) (step : LineStep) (r1 : ReaderView) (s1 : SourceView) (gives : Told s → Gives step (rest r s) r1 s1) (takes : Told s → Takes r s r1 s1) (stays : r.ended ≡ true → (r1.ended ≡ true) × (s1 ≡ s)) where
-  told_here : Told s0 → Told s
+module _ (r0 : ReaderView) (s0 : SourceView) (given : List (List ℕ)) (r : ReaderView) (s : SourceView) (here : HasGiven r0 s0 given r s) (step : LineStep) (r1 : ReaderView) (s1 : SourceView) (gives : SourceTold s → Gives step (rest r s) r1 s1) (takes : SourceTold s → Takes r s r1 s1) (stays : r.ended ≡ true → (r1.ended ≡ true) × (s1 ≡ s)) where
+  told_here : SourceTold s0 → SourceTold s
   told_here told = here.went.tells ∙ told
 
-  taken_now : Told s0 → length s0.left + r1.room ≡ length s1.left + r0.room
+  taken_now : SourceTold s0 → length s0.left + r1.room ≡ length s1.left + r0.room
   taken_now told = omega (arith, here.taken told, (takes (told_here told)).count)
 
   -- the end is met with fewer bytes than may be taken
-  met_now : Told s0 → r0.ended ≡ false → r1.ended ≡ true → (s1.left ≡ []) × (length s0.left < r0.room)
+  met_now : SourceTold s0 → r0.ended ≡ false → r1.ended ≡ true → (s1.left ≡ []) × (length s0.left < r0.room)
   met_now told more ended = by r.ended refl
     where
       by : (b : Bool) → r.ended ≡ b → (s1.left ≡ []) × (length s0.left < r0.room)
@@ -106,7 +106,7 @@ module _ (r0 : ReaderView) (s0 : SourceView) (given : List (List ℕ)) (r : Read
         };
       }
     where
-      by_split : (raw : List ℕ) → IsNext (rest r s) raw (rest r1 s1) r1.ended → Told s0 → r1.ended ≡ false → BeginsWith (rest r0 s0) (rest r1 s1) (given ++ raw ∷ [])
+      by_split : (raw : List ℕ) → IsNext (rest r s) raw (rest r1 s1) r1.ended → SourceTold s0 → r1.ended ≡ false → BeginsWith (rest r0 s0) (rest r1 s1) (given ++ raw ∷ [])
       by_split raw next told more = by next.split
         where
           before : r.ended ≡ false
@@ -117,7 +117,7 @@ module _ (r0 : ReaderView) (s0 : SourceView) (given : List (List ℕ)) (r : Read
           by (inr is) = absurd (true_false (sym is.2 ∙ more))
 
   -- a part of a line was taken, and no more comes
-  cut_short : Told s0 → r1.ended ≡ false → IsCut (rest r s) s1.left → IsCutShort (rest r0 s0) s1.left given
+  cut_short : SourceTold s0 → r1.ended ≡ false → IsCut (rest r s) s1.left → IsCutShort (rest r0 s0) s1.left given
   cut_short told more cut =
       let begins = here.begins told (open_before r.ended r1.ended (λ ended. (stays ended).0) more) in
       record {
@@ -127,10 +127,10 @@ module _ (r0 : ReaderView) (s0 : SourceView) (given : List (List ℕ)) (r : Read
       }
 
   -- a last answer
-  pub given-all : is_last step ≡ true → Means step r1 s s1 → Told s0 → GivesAll step r0 s0 given s1
+  pub given-all : is_last step ≡ true → Tells step r1 s s1 → SourceTold s0 → GivesAll step r0 s0 given s1
   given-all e means told = by step e means (gives (told_here told))
     where
-      by : (which : LineStep) → is_last which ≡ true → Means which r1 s s1 → Gives which (rest r s) r1 s1 → GivesAll which r0 s0 given s1
+      by : (which : LineStep) → is_last which ≡ true → Tells which r1 s s1 → Gives which (rest r s) r1 s1 → GivesAll which r0 s0 given s1
       by Line e means gives = absurd (true_false (sym e))
       by LongLine e means gives = absurd (true_false (sym e))
       by End e means gives = (here.lines told ∙ ap (λ (l : List ℕ). given ++ raw_lines l) gives.before ∙ append-nil given, λ more. met_now told more means.1)

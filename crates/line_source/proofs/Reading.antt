@@ -3,7 +3,7 @@ use Rattle.std.proofs.Common.{◌≡◌, ◌≢◌, ℕ, zero, suc, ◌+◌, ◌
 use Rattle.std.proofs.lemmas.List.{append-nil, take_at}
 use Rattle.std.proofs.lemmas.List.Elements.{All-append, All-nil}
 use Rattle.line_source.specs.Lines.{NoFeed, line_limit}
-use Rattle.line_source.specs.SourceView.{SourceView, Told, TookFront, Went}
+use Rattle.line_source.specs.SourceView.{SourceView, SourceTold, TookFront, Went}
 use Rattle.line_source.specs.ReaderView.{ReaderView, rest, IsFirstFeed}
 use Rattle.line_source.specs.LineStep.{IsCut}
 use Rattle.line_source.specs.Filling.{IsPiece, a_piece, no_piece, HasTaken, IsKept, LetsGo, drops, keeps}
@@ -14,16 +14,16 @@ pub record Reading (r0 : ReaderView) (s0 : SourceView) (long : Bool) (r : Reader
   pub no_feed : NoFeed dropped
   pub is_long : long ≡ true → line_limit < length dropped
   pub is_whole : long ≡ false → dropped ≡ []
-  pub rest_is : Told s0 → rest r0 s0 ≡ dropped ++ rest r s
+  pub rest_is : SourceTold s0 → rest r0 s0 ≡ dropped ++ rest r s
   pub fresh : r.done ≡ false
   pub went : Went s0 s
   pub room : r.room ≤ r0.room
-  pub taken : Told s0 → length s0.left + r.room ≡ length s.left + r0.room
-  pub front : Told s0 → TookFront s0 s
+  pub taken : SourceTold s0 → length s0.left + r.room ≡ length s.left + r0.room
+  pub front : SourceTold s0 → TookFront s0 s
   pub total : r0.room + length r0.held ≡ length dropped + (r.room + length r.held)
   pub idle : (at : ℕ) → IsFirstFeed r0.held at → (s ≡ s0) × (r.held ≡ r0.held)
   pub ended : r0.ended ≡ true → (s ≡ s0) × (r.ended ≡ true)
-  pub met : r0.ended ≡ false → r.ended ≡ true → Told s0 → (s.left ≡ []) × (0 < r.room)
+  pub met : r0.ended ≡ false → r.ended ≡ true → SourceTold s0 → (s.left ≡ []) × (0 < r.room)
 
 -- of what is held, so many bytes are known to be no line feed
 pub record Looking (r0 : ReaderView) (s0 : SourceView) (long : Bool) (seen : ℕ) (r : ReaderView) (s : SourceView) : Type 0 where
@@ -97,7 +97,7 @@ module _ (r0 : ReaderView) (s0 : SourceView) (long : Bool) (r : ReaderView) (s :
   was_open : r0.ended ≡ true → ⊥
   was_open e = true_false (sym (ready.here.ended e).1 ∙ ready.more)
 
-  told_here : Told s0 → Told s
+  told_here : SourceTold s0 → SourceTold s
   told_here told = ready.here.went.tells ∙ told
 
   -- a front of more bytes than a line may have is let go
@@ -130,13 +130,13 @@ module _ (r0 : ReaderView) (s0 : SourceView) (long : Bool) (r : ReaderView) (s :
   let_go is r1 (keeps e same) kept = subst (λ b. Ready r0 s0 b r1 s) (sym e) (subst (λ x. Ready r0 s0 long x s) (sym same) ready)
 
   -- what is to be given stays where a piece is put behind what is held, or the end is met
-  rest_after : (r1 : ReaderView) (s1 : SourceView) (piece : List ℕ) → IsPiece piece r1.ended s s1 → r1.held ≡ r.held ++ piece → s.left ≡ piece ++ s1.left → Told s → rest r s ≡ rest r1 s1
+  rest_after : (r1 : ReaderView) (s1 : SourceView) (piece : List ℕ) → IsPiece piece r1.ended s s1 → r1.held ≡ r.held ++ piece → s.left ≡ piece ++ s1.left → SourceTold s → rest r s ≡ rest r1 s1
   rest_after r1 s1 piece (a_piece more open_is) held left told =
       rest-open r s ready.more ∙ ap (λ (l : List ℕ). r.held ++ l) left ∙ sym (append_assoc r.held piece s1.left) ∙ ap (λ (l : List ℕ). l ++ s1.left) (sym held) ∙ sym (rest-open r1 s1 open_is)
   rest_after r1 s1 piece (no_piece nothing ended end) held left told =
       rest-open r s ready.more ∙ ap (λ (l : List ℕ). r.held ++ l) (left ∙ ap (λ (l : List ℕ). piece ++ l) (end told) ∙ append-nil piece) ∙ sym held ∙ sym (rest-ended r1 s1 ended)
 
-  end_after : (r1 : ReaderView) (s1 : SourceView) (piece : List ℕ) → IsPiece piece r1.ended s s1 → 0 < r.room → r1.room + length piece ≡ r.room → r1.ended ≡ true → Told s → (s1.left ≡ []) × (0 < r1.room)
+  end_after : (r1 : ReaderView) (s1 : SourceView) (piece : List ℕ) → IsPiece piece r1.ended s s1 → 0 < r.room → r1.room + length piece ≡ r.room → r1.ended ≡ true → SourceTold s → (s1.left ≡ []) × (0 < r1.room)
   end_after r1 s1 piece (a_piece more open_is) room counts e told = absurd (true_false (sym e ∙ open_is))
   end_after r1 s1 piece (no_piece nothing ended end) room counts e told = (end told, omega (arith, room, counts, ap length nothing))
 
@@ -166,7 +166,7 @@ module _ (r0 : ReaderView) (s0 : SourceView) (long : Bool) (r : ReaderView) (s :
       }
 
   -- a part of a line was taken, and no more comes
-  pub is_cut : (s1 : SourceView) → (Told s → s1.left ≡ s.left) → Told s0 → IsCut (rest r0 s0) s1.left
+  pub is_cut : (s1 : SourceView) → (SourceTold s → s1.left ≡ s.left) → SourceTold s0 → IsCut (rest r0 s0) s1.left
   is_cut s1 same told =
       let here = ready.here in
       record {
@@ -176,7 +176,7 @@ module _ (r0 : ReaderView) (s0 : SourceView) (long : Bool) (r : ReaderView) (s :
       }
 
 -- what a call that took n bytes for its piece says of it
-pub piece_kind : (piece : List ℕ) (n : ℕ) (before after : SourceView) → length piece ≡ n → (n ≡ 0 → Told before → after.left ≡ []) → IsPiece piece (nat_eq n 0) before after
+pub piece_kind : (piece : List ℕ) (n : ℕ) (before after : SourceView) → length piece ≡ n → (n ≡ 0 → SourceTold before → after.left ≡ []) → IsPiece piece (nat_eq n 0) before after
 piece_kind [] zero before after size end = no_piece refl refl (end refl)
 piece_kind [] (suc n) before after size end = absurd (omega arith)
 piece_kind (b ∷ piece) zero before after size end = absurd (omega arith)

@@ -3,7 +3,7 @@ use Rattle.std.proofs.Common.{◌≡◌, ℕ, suc, ◌+◌, ◌-◌, inl, Bool, 
 use Rattle.std.proofs.lemmas.List.{take_at, drop_at, get_or_append_left}
 use Rattle.std.proofs.Math.Seq.{take-add}
 use Rattle.line_source.specs.Lines.{NoFeed}
-use Rattle.line_source.specs.SourceView.{SourceView, Told}
+use Rattle.line_source.specs.SourceView.{SourceView, SourceTold}
 use Rattle.line_source.specs.ReaderView.{ReaderView, rest, IsFirstFeed}
 use Rattle.line_source.specs.LineStep.{IsCut, IsSpent, IsExact}
 use Rattle.line_source.specs.Filling.{IsGiven, a_line, a_long_line, GivesLast, the_end, last_line}
@@ -43,7 +43,7 @@ spent_by r0 s0 r s more none cut taken = record {
   room = omega arith;
 }
 
-module _ (r0 : ReaderView) (s0 : SourceView) (long : Bool) (r : ReaderView) (s : SourceView) (here : Reading r0 s0 long r s) (told : Told s0) where
+module _ (r0 : ReaderView) (s0 : SourceView) (long : Bool) (r : ReaderView) (s : SourceView) (here : Reading r0 s0 long r s) (told : SourceTold s0) where
   -- where the room doesn't suffice, the end isn't met
   never_end : IsSpent r0 s0 → r.ended ≡ true → ⊥
   never_end spent e =
@@ -75,13 +75,13 @@ given_step step long raw line (a_long_line is x y) e = apart (sym is ∙ e)
     apart : LongLine ≡ Spent → ⊥
     apart q = cc
 
-pub exact_line : (r0 : ReaderView) (s0 : SourceView) (long : Bool) (r : ReaderView) (s : SourceView) → Reading r0 s0 long r s → (at : ℕ) → IsFirstFeed r.held at → (step : LineStep) (raw line : List ℕ) → IsGiven step long raw line → Told s0 → IsExact step r0 s0
+pub exact_line : (r0 : ReaderView) (s0 : SourceView) (long : Bool) (r : ReaderView) (s : SourceView) → Reading r0 s0 long r s → (at : ℕ) → IsFirstFeed r.held at → (step : LineStep) (raw line : List ℕ) → IsGiven step long raw line → SourceTold s0 → IsExact step r0 s0
 exact_line r0 s0 long r s here at feed step raw line is told = record {
   only = λ e. absurd (given_step step long raw line is e);
   always = λ spent. absurd (never_line r0 s0 long r s here told spent at feed);
 }
 
-pub exact_last : (r0 : ReaderView) (s0 : SourceView) (long : Bool) (r : ReaderView) (s : SourceView) → Reading r0 s0 long r s → r.ended ≡ true → (step : LineStep) (r1 : ReaderView) → GivesLast step long r r1 → Told s0 → IsExact step r0 s0
+pub exact_last : (r0 : ReaderView) (s0 : SourceView) (long : Bool) (r : ReaderView) (s : SourceView) → Reading r0 s0 long r s → r.ended ≡ true → (step : LineStep) (r1 : ReaderView) → GivesLast step long r r1 → SourceTold s0 → IsExact step r0 s0
 exact_last r0 s0 long r s here e step r1 last told = record {
   only = λ spent. absurd (other last spent);
   always = λ spent. absurd (never_end r0 s0 long r s here told spent e);
@@ -94,7 +94,7 @@ exact_last r0 s0 long r s here e step r1 last told = record {
     other (the_end is whole nothing new) spent = apart (sym is ∙ spent)
     other (last_line some gone kept is) spent = given_step step long r.held r1.line is spent
 
-pub exact_spent : (r0 : ReaderView) (s0 : SourceView) (long : Bool) (r : ReaderView) (s : SourceView) → Ready r0 s0 long r s → r.room ≡ 0 → (step : LineStep) → step ≡ Spent → Told s0 → IsExact step r0 s0
+pub exact_spent : (r0 : ReaderView) (s0 : SourceView) (long : Bool) (r : ReaderView) (s : SourceView) → Ready r0 s0 long r s → r.room ≡ 0 → (step : LineStep) → step ≡ Spent → SourceTold s0 → IsExact step r0 s0
 exact_spent r0 s0 long r s ready room step is told = record {
   only = λ _. spent_by r0 s0 r s (open_before r0 s0 long r s ready) room (is_cut r0 s0 long r s ready s (λ _. refl) told) (ready.here.taken told);
   always = λ _. inl is;

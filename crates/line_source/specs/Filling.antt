@@ -2,7 +2,7 @@
 use Rattle.std.specs.Prelude.{◌≡◌, ℕ, ◌+◌, ◌<◌, ◌≤◌, ◌⊎◌, Bool, true, false, List, [], ◌++◌, length}
 use Rattle.std.specs.Str.Lines.{strip_carriage_return}
 use Rattle.line_source.specs.Lines.{line_limit}
-use Rattle.line_source.specs.SourceView.{SourceView, Told, Rose}
+use Rattle.line_source.specs.SourceView.{SourceView, SourceTold, SourceRose}
 use Rattle.line_source.specs.ReaderView.{ReaderView}
 use Rattle.line_source.specs.declared.reader.LineStep.{LineStep}
 use Rattle.line_source.specs.declared.reader.LineStep.TheVariants.{Line, LongLine, End}
@@ -10,7 +10,7 @@ use Rattle.line_source.specs.declared.reader.LineStep.TheVariants.{Line, LongLin
 -- a piece with some byte was taken, or the end was met
 pub data IsPiece (piece : List ℕ) (ended : Bool) (source : SourceView) (after : SourceView) : Type 0 where
   a_piece : 0 < length piece → ended ≡ false → IsPiece piece ended source after
-  no_piece : piece ≡ [] → ended ≡ true → (Told source → after.left ≡ []) → IsPiece piece ended source after
+  no_piece : piece ≡ [] → ended ≡ true → (SourceTold source → after.left ≡ []) → IsPiece piece ended source after
 
 -- a piece stands behind what was held
 pub record HasTaken (old : ReaderView) (before : SourceView) (new : ReaderView) (after : SourceView) : Type 0 where
@@ -18,15 +18,15 @@ pub record HasTaken (old : ReaderView) (before : SourceView) (new : ReaderView) 
   pub kind : IsPiece piece new.ended before after
   pub held : new.held ≡ old.held ++ piece
   pub room : new.room + length piece ≡ old.room
-  pub left : Told before → before.left ≡ piece ++ after.left
+  pub left : SourceTold before → before.left ≡ piece ++ after.left
 
 -- nothing was taken, since a read failed
 pub record HasFailed (old : ReaderView) (before : SourceView) (new : ReaderView) (after : SourceView) : Type 0 where
   pub held : new.held ≡ old.held
   pub room : new.room ≡ old.room
   pub ended : new.ended ≡ old.ended
-  pub left : Told before → after.left ≡ before.left
-  pub rose : Rose before after
+  pub left : SourceTold before → after.left ≡ before.left
+  pub rose : SourceRose before after
 
 -- what stays where held bytes are given or let go
 pub record IsKept (old new : ReaderView) : Type 0 where

@@ -2,7 +2,7 @@
 use Rattle.std.specs.Prelude.{◌≡◌, ℕ, ◌+◌, ◌<◌, ◌≤◌, ◌⊎◌, Bool, true, false, List, [], ◌∷◌, ◌++◌, length, take}
 use Rattle.std.specs.Str.Lines.{strip_carriage_return}
 use Rattle.line_source.specs.Lines.{NoFeed, raw_lines, line_limit}
-use Rattle.line_source.specs.SourceView.{SourceView, TookFront, Rose}
+use Rattle.line_source.specs.SourceView.{SourceView, TookFront, SourceRose}
 use Rattle.line_source.specs.ReaderView.{ReaderView, rest}
 use Rattle.line_source.specs.declared.reader.LineStep.{LineStep}
 use Rattle.line_source.specs.declared.reader.LineStep.TheVariants.{Line, LongLine, End, ReadFailed, Spent}
@@ -46,12 +46,12 @@ Gives ReadFailed = λ old reader source. IsCut old source.left
 Gives Spent = λ old reader source. IsCut old source.left
 
 -- what an answer says on every source
-abbrev pub Means : LineStep → ReaderView → SourceView → SourceView → Type 0
-Means Line reader before after = length reader.line ≤ line_limit
-Means LongLine reader before after = reader.line ≡ []
-Means End reader before after = (reader.line ≡ []) × (reader.ended ≡ true)
-Means ReadFailed reader before after = (reader.line ≡ []) × (reader.ended ≡ false) × Rose before after
-Means Spent reader before after = (reader.line ≡ []) × (reader.ended ≡ false) × (reader.room ≡ 0)
+abbrev pub Tells : LineStep → ReaderView → SourceView → SourceView → Type 0
+Tells Line reader before after = length reader.line ≤ line_limit
+Tells LongLine reader before after = reader.line ≡ []
+Tells End reader before after = (reader.line ≡ []) × (reader.ended ≡ true)
+Tells ReadFailed reader before after = (reader.line ≡ []) × (reader.ended ≡ false) × SourceRose before after
+Tells Spent reader before after = (reader.line ≡ []) × (reader.ended ≡ false) × (reader.room ≡ 0)
 
 -- whether it is the last answer
 abbrev pub is_last : LineStep → Bool

@@ -2,7 +2,7 @@
 use Rattle.std.specs.Prelude.{◌≡◌, ℕ, ◌+◌, ◌<◌, ◌≤◌, true, false, List, [], ◌∷◌, ◌++◌, length}
 use Rattle.std.specs.Str.Lines.{strip_carriage_return}
 use Rattle.line_source.specs.Lines.{raw_lines, complete_lines, line_limit}
-use Rattle.line_source.specs.SourceView.{SourceView, Told, TookFront, Went}
+use Rattle.line_source.specs.SourceView.{SourceView, SourceTold, TookFront, Went}
 use Rattle.line_source.specs.ReaderView.{ReaderView, rest}
 use Rattle.line_source.specs.declared.reader.LineStep.{LineStep}
 use Rattle.line_source.specs.declared.reader.LineStep.TheVariants.{Line, LongLine, End, ReadFailed, Spent}
@@ -19,11 +19,11 @@ pub record HasGiven (r0 : ReaderView) (s0 : SourceView) (given : List (List ℕ)
   pub room : r.room ≤ r0.room
   pub went : Went s0 s
   pub ended : r0.ended ≡ true → r.ended ≡ true
-  pub lines : Told s0 → raw_lines (rest r0 s0) ≡ given ++ raw_lines (rest r s)
-  pub begins : Told s0 → r.ended ≡ false → BeginsWith (rest r0 s0) (rest r s) given
-  pub taken : Told s0 → length s0.left + r.room ≡ length s.left + r0.room
-  pub front : Told s0 → TookFront s0 s
-  pub met : Told s0 → r0.ended ≡ false → r.ended ≡ true → (s.left ≡ []) × (length s0.left < r0.room)
+  pub lines : SourceTold s0 → raw_lines (rest r0 s0) ≡ given ++ raw_lines (rest r s)
+  pub begins : SourceTold s0 → r.ended ≡ false → BeginsWith (rest r0 s0) (rest r s) given
+  pub taken : SourceTold s0 → length s0.left + r.room ≡ length s.left + r0.room
+  pub front : SourceTold s0 → TookFront s0 s
+  pub met : SourceTold s0 → r0.ended ≡ false → r.ended ≡ true → (s.left ≡ []) × (length s0.left < r0.room)
 
 -- `raw` is the line, as it stands in the script, that an answer speaks of; `line` is what the reader shows then
 abbrev pub IsLineOf : LineStep → List ℕ → List ℕ → Type 0
@@ -36,7 +36,7 @@ IsLineOf Spent raw line = ⊥
 -- one line more was given
 pub record GivesOne (r0 : ReaderView) (s0 : SourceView) (given : List (List ℕ)) (step : LineStep) (r : ReaderView) (s : SourceView) : Type 0 where
   pub raw : List ℕ
-  pub line : Told s0 → IsLineOf step raw r.line
+  pub line : SourceTold s0 → IsLineOf step raw r.line
   pub more : HasGiven r0 s0 (given ++ raw ∷ []) r s
 
 -- the lines given are exactly the complete ones among the bytes taken; what wasn't taken is left

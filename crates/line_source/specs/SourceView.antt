@@ -9,8 +9,8 @@ pub record SourceView : Type 0 where
   -- how many reads failed so far
   pub faults : ℕ
 
-abbrev pub Told : SourceView → Type 0
-Told source = source.tells ≡ true
+abbrev pub SourceTold : SourceView → Type 0
+SourceTold source = source.tells ≡ true
 
 -- what holds of every call: a source goes on telling, or not telling, and the count of failed reads never falls
 pub record Went (old new : SourceView) : Type 0 where
@@ -23,9 +23,9 @@ pub record TookFront (old new : SourceView) : Type 0 where
   pub is : old.left ≡ front ++ new.left
 
 -- one more; a count stands still at the last value of a `u64`
-abbrev pub one_more : ℕ → ℕ
-one_more count = min (count + 1) (2 ^ 64 - 1)
+abbrev pub one_fault_more : ℕ → ℕ
+one_fault_more count = min (count + 1) (2 ^ 64 - 1)
 
 -- a read failed
-abbrev pub Rose : SourceView → SourceView → Type 0
-Rose old new = one_more old.faults ≤ new.faults
+abbrev pub SourceRose : SourceView → SourceView → Type 0
+SourceRose old new = one_fault_more old.faults ≤ new.faults

@@ -1,7 +1,7 @@
 //! The bytes that a reader holds, as a part of its buffer.
 
 ghost use Rattle.std.specs.Prelude.{◌≡◌, ◌+◌, ◌-◌, ◌/◌, ◌<◌, ◌≤◌, ◌++◌, [], length, take, drop, slice_range, MatchOption, IfOk, OnErr};
-ghost use Rattle.line_source.specs.SourceView.{Told, Went, Rose};
+ghost use Rattle.line_source.specs.SourceView.{SourceTold, Went, SourceRose};
 ghost use Rattle.line_source.specs.Lines.{NoFeed};
 ghost use Rattle.line_source.specs.ReaderView.{IsFirstFeed};
 
@@ -54,11 +54,11 @@ pub(crate) fn take_behind<I: Source>(
     ensures kept { take held buffer.new ≡ take held buffer.old }
     ensures most { IfOk result (λ n. n ≤ room) }
     ensures fits { IfOk result (λ n. held + n ≤ length buffer.old) }
-    ensures taken { IfOk result (λ n. Told (I.view source.old)
+    ensures taken { IfOk result (λ n. SourceTold (I.view source.old)
         → (I.view source.old).left ≡ take n (drop held buffer.new) ++ (I.view source.new).left) }
-    ensures end { IfOk result (λ n. n ≡ 0 → Told (I.view source.old) → (I.view source.new).left ≡ []) }
-    ensures none { OnErr result (Told (I.view source.old) → (I.view source.new).left ≡ (I.view source.old).left) }
-    ensures cause { OnErr result (Rose (I.view source.old) (I.view source.new)) }
+    ensures end { IfOk result (λ n. n ≡ 0 → SourceTold (I.view source.old) → (I.view source.new).left ≡ []) }
+    ensures none { OnErr result (SourceTold (I.view source.old) → (I.view source.new).left ≡ (I.view source.old).left) }
+    ensures cause { OnErr result (SourceRose (I.view source.old) (I.view source.new)) }
     ensures went { Went (I.view source.old) (I.view source.new) }
 {
     let mut len = buffer.len() - held;

@@ -2,7 +2,7 @@
 
 ghost use Rattle.std.specs.Prelude.{◌≡◌, ◌<◌, ◌≤◌, ◌++◌, ◌↔◌, ◌+◌, [], length, take, drop, min, true, IfOk, OnErr, IsErr};
 ghost use Rattle.std.specs.List.{Contains};
-ghost use Rattle.line_source.specs.SourceView.{Told, Went, Rose, one_more};
+ghost use Rattle.line_source.specs.SourceView.{SourceTold, Went, SourceRose, one_fault_more};
 ghost use Rattle.line_source.specs.MemView.{MemView, as_source};
 
 use super::source::{ReadFailed, Source};
@@ -84,12 +84,12 @@ impl Source for MemSource {
 
     fn take(&mut self, buf: &mut [u8]) -> Result<usize, ReadFailed>
         ensures within { IfOk result (λ n. n ≤ length buf.old) }
-        ensures taken { IfOk result (λ n. Told (as_source self.old)
+        ensures taken { IfOk result (λ n. SourceTold (as_source self.old)
             → self.old.left ≡ take n buf.new ++ self.new.left) }
-        ensures end { IfOk result (λ n. n ≡ 0 → 0 < length buf.old → Told (as_source self.old)
+        ensures end { IfOk result (λ n. n ≡ 0 → 0 < length buf.old → SourceTold (as_source self.old)
             → self.old.left ≡ []) }
-        ensures none { OnErr result (Told (as_source self.old) → self.new.left ≡ self.old.left) }
-        ensures cause { OnErr result (Rose (as_source self.old) (as_source self.new)) }
+        ensures none { OnErr result (SourceTold (as_source self.old) → self.new.left ≡ self.old.left) }
+        ensures cause { OnErr result (SourceRose (as_source self.old) (as_source self.new)) }
         ensures went { Went (as_source self.old) (as_source self.new) }
 
         // What a source in memory says besides.
@@ -97,11 +97,11 @@ impl Source for MemSource {
         ensures size { IfOk result (λ n. n ≡ min (length buf.old) (min self.old.piece (length self.old.left))) }
         ensures gone { IfOk result (λ n. self.new ≡ record self.old {
           left = drop n self.old.left;
-          calls = one_more self.old.calls;
+          calls = one_fault_more self.old.calls;
         }) }
         ensures failed { OnErr result (self.new ≡ record self.old {
-          calls = one_more self.old.calls;
-          faults = one_more self.old.faults;
+          calls = one_fault_more self.old.calls;
+          faults = one_fault_more self.old.faults;
         }) }
         ensures behind { IfOk result (λ n. drop n buf.new ≡ drop n buf.old) }
         ensures kept { OnErr result (buf.new ≡ buf.old) }

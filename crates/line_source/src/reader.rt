@@ -1,10 +1,10 @@
 //! The reader of lines.
 
 ghost use Rattle.std.specs.Prelude.{◌≡◌, ℕ, ◌<◌, ◌≤◌, ◌+◌, [], length, take, drop, OnOk, OnErr, false, true};
-ghost use Rattle.line_source.specs.SourceView.{Told, Went};
+ghost use Rattle.line_source.specs.SourceView.{SourceTold, Went};
 ghost use Rattle.line_source.specs.Lines.{line_limit, most_held};
 ghost use Rattle.line_source.specs.ReaderView.{ReaderView, rest, IsFirstFeed};
-ghost use Rattle.line_source.specs.LineStep.{Gives, Means, is_last, IsExact, Takes};
+ghost use Rattle.line_source.specs.LineStep.{Gives, Tells, is_last, IsExact, Takes};
 ghost use Rattle.line_source.specs.Filling.{HasTaken, HasFailed, IsKept, IsGiven, GivesLast, LetsGo};
 
 use super::buffer::{BUFFER_LEN, find_feed, make_space, take_behind};
@@ -104,14 +104,14 @@ impl LineReader {
         requires { self.old.done ≡ false }
 
         // On a source that tells what it has left, the lines are those of its script.
-        ensures gives { Told (I.view source.old)
+        ensures gives { SourceTold (I.view source.old)
             → Gives result (rest self.old (I.view source.old)) self.new (I.view source.new) }
-        ensures exact { Told (I.view source.old) → IsExact result self.old (I.view source.old) }
-        ensures takes { Told (I.view source.old)
+        ensures exact { SourceTold (I.view source.old) → IsExact result self.old (I.view source.old) }
+        ensures takes { SourceTold (I.view source.old)
             → Takes self.old (I.view source.old) self.new (I.view source.new) }
 
         // On every source.
-        ensures means { Means result self.new (I.view source.old) (I.view source.new) }
+        ensures means { Tells result self.new (I.view source.old) (I.view source.new) }
         ensures done { self.new.done ≡ is_last result }
         ensures ahead { length self.new.held ≤ most_held }
         ensures falls { is_last result ≡ false

@@ -1,7 +1,7 @@
 //! Where a script comes from.
 
 ghost use Rattle.std.specs.Prelude.{◌≡◌, ◌<◌, ◌≤◌, ◌++◌, [], length, take, IfOk, OnErr};
-ghost use Rattle.line_source.specs.SourceView.{SourceView, Told, Went, Rose};
+ghost use Rattle.line_source.specs.SourceView.{SourceView, SourceTold, Went, SourceRose};
 
 /// The source couldn't be read.
 #[derive(Clone, Copy)]
@@ -19,11 +19,11 @@ pub trait Source {
     /// reads rose; nothing was taken then.
     fn take(&mut self, buf: &mut [u8]) -> Result<usize, ReadFailed>
         ensures within { IfOk result (λ n. n ≤ length buf.old) }
-        ensures taken { IfOk result (λ n. Told (view self.old)
+        ensures taken { IfOk result (λ n. SourceTold (view self.old)
             → (view self.old).left ≡ take n buf.new ++ (view self.new).left) }
-        ensures end { IfOk result (λ n. n ≡ 0 → 0 < length buf.old → Told (view self.old)
+        ensures end { IfOk result (λ n. n ≡ 0 → 0 < length buf.old → SourceTold (view self.old)
             → (view self.old).left ≡ []) }
-        ensures none { OnErr result (Told (view self.old) → (view self.new).left ≡ (view self.old).left) }
-        ensures cause { OnErr result (Rose (view self.old) (view self.new)) }
+        ensures none { OnErr result (SourceTold (view self.old) → (view self.new).left ≡ (view self.old).left) }
+        ensures cause { OnErr result (SourceRose (view self.old) (view self.new)) }
         ensures went { Went (view self.old) (view self.new) };
 }

@@ -27,6 +27,7 @@ use Rattle.map_model.specs.Items.{AreAdmitted, first_full, map_after_items}
 use Rattle.map_model.specs.Reasons.{array_reason, reason_of}
 use Rattle.map_model.specs.Repairing.{repair}
 use Rattle.map_model.specs.Store.{Map, Update}
+use Rattle.map_model.proofs.Reasonings.{represents_of_none, none_of_represents}
 use Rattle.map_model.proofs.Unnamed.{unnamed_represents}
 use Rattle.batch_intent.specs.declared.places.TheConstants.{INTENT, INTENT_SIZE}
 use Rattle.batch_intent.specs.Gate.{form_reason, intent_area, reason_at}
@@ -38,6 +39,7 @@ use Rattle.recovery.specs.Costs.{opening_cost}
 use Rattle.pma_store.specs.Costing.{updates_cost}
 use Rattle.pma_store.specs.Opens.{IsAllAtRest}
 use Rattle.index_file.specs.Clean.{IsCleanPlace}
+use Rattle.command_text.specs.declared.command.Command.TheVariants.{Batch}
 use Rattle.pma_engine.specs.Costs.{most_of_one}
 use Rattle.pma_engine.specs.Opening.{pending_cost}
 
@@ -173,13 +175,13 @@ module _ (old new : List ℕ) (touched : Touched IsCleanPlace old new) where
   state_same t = next_states (height_limit (layout_same t)) (first_same t) (pending_same t)
 
   pub cost_same : opening_cost (layout_in new) + pending_cost new ≡ opening_cost (layout_in old) + pending_cost old
-  cost_same t = opening_cost (layout_same t) + cond (has_same t) (updates_cost (layout_same t) (first_same t) (pending_same t) + 1 + most_of_one (layout_same t)) 0
+  cost_same t = opening_cost (layout_same t) + cond (has_same t) (updates_cost (layout_same t) (first_same t) (pending_same t) + 1 + most_of_one (layout_same t) (Batch (pending_same t))) 0
 
   pub rests : IsAllAtRest old → IsAllAtRest new
   rests rest = record {
     rest = record {
       gate_even = gate_same ∙ rest.rest.gate_even;
-      balanced = λ none. subst (λ (x : ℕ × Array). IsBalancedArray x.0 x.1) (λ t. (sym height_same t, sym array_same t)) (rest.rest.balanced (sym reason_same ∙ none));
+      balanced = λ is. subst (λ (x : ℕ × Array). IsBalancedArray x.0 x.1) (λ t. (sym height_same t, sym array_same t)) (rest.rest.balanced (height_of old, represents_of_none old (sym reason_same ∙ none_of_represents new (map_of new) is.0 is.1)));
     };
     no_intent = has_same ∙ rest.no_intent;
   }
@@ -205,10 +207,12 @@ module _ (old new : List ℕ) (touched : Touched IsCleanPlace old new) where
   means_same m height means =
       record {
         base = means.base;
+        items = means.items;
         represents = represents_same means.base height means.represents;
-        form = λ some. subst (λ (x : Type 0). x) (λ t. Spells ((sym layout_same t).format) (sym pending_same t) (sym intent_area_same t)) (means.form (sym has_same ∙ some));
-        admitted = subst (λ (x : Type 0). x) (λ t. AreAdmitted (height_limit (sym layout_same t)) means.base (sym pending_same t)) means.admitted;
-        map_is = (λ t. map_after_items (height_limit (layout_same t)) means.base (pending_same t)) ∙ means.map_is;
+        idle = λ none. means.idle (sym has_same ∙ none);
+        form = λ some. subst (λ (x : Type 0). x) (λ t. Spells ((sym layout_same t).format) means.items (sym intent_area_same t)) (means.form (sym has_same ∙ some));
+        admitted = subst (λ (x : Type 0). x) (λ t. AreAdmitted (height_limit (sym layout_same t)) means.base means.items) means.admitted;
+        map_is = (λ t. map_after_items (height_limit (layout_same t)) means.base means.items) ∙ means.map_is;
       }
 
   pub map_meant : (m : Map) → MeansMap old m → MeansMap new m

@@ -4,7 +4,7 @@ use Rattle.std.specs.Prelude.{◌==◌}
 use Rattle.key_slot.specs.Record.{Bytes}
 use Rattle.density_rule.specs.Bounds.{upper_of}
 use Rattle.density_rule.specs.Marks.{Marks, mark_of}
-use Rattle.density_rule.specs.Updates.{charge_of, resized_height, height_after as height_by_broken}
+use Rattle.density_rule.specs.Updates.{charge_of, resized_height, height_by_broken}
 use Rattle.header_gate.specs.Header.{layout_in}
 use Rattle.header_gate.specs.Places.{height_limit, segment_size}
 use Rattle.header_gate.specs.declared.layout.Layout.{Layout}
@@ -13,11 +13,13 @@ use Rattle.map_model.specs.ArrayState.{ArrayState, IsSoundState, UpdateReport, n
 use Rattle.map_model.specs.ArrayUpdates.{array_after, broken_for, change_of, has_key, key_of}
 use Rattle.map_model.specs.Charges.{charge_after}
 use Rattle.map_model.specs.Holding.{IsNext}
+use Rattle.map_model.specs.Image.{slot_format}
 use Rattle.map_model.specs.Items.{charge_after_items}
 use Rattle.map_model.specs.Store.{Map, Update, bind, unbind, height_after}
 use Rattle.map_model.proofs.SessionLaws.{next_sound, states_sound}
 use Rattle.map_model.proofs.UpdateLaws.{next_after}
 use Rattle.batch_intent.specs.Means.{MeansMap}
+use Rattle.command_text.specs.Script.{commands_of}
 use Rattle.command_text.specs.Session.{Session, session_after, session_step, IsPaid}
 use Rattle.command_text.specs.Updates.{updates_made}
 use Rattle.command_text.specs.declared.command.Command.{Command}
@@ -27,7 +29,7 @@ use Rattle.pma_store.specs.Costing.{report_cost, update_cost_in, updates_cost}
 use Rattle.pma_store.specs.Rewrites.{commit_cost}
 use Rattle.pma_engine.specs.Costs.{charged_cost, images_cost, session_cost}
 use Rattle.pma_engine.specs.Jobs.{ArePaid}
-use Rattle.pma_engine.specs.Outcome.{script_in, session_of, state_of}
+use Rattle.pma_engine.specs.Outcome.{session_of, state_of}
 use Rattle.pma_engine.proofs.Meant.{begins_sound}
 
 charge_bind : (hmax height : ℕ) (segments : Array) (key value : Bytes) → charge_after hmax height segments (bind key value) ≡ cond (has_key segments key) 2 (cond (nat_lt (length (rows segments)) (upper_of hmax)) (charge_of true height (broken_for true height segments key)) 0)
@@ -149,4 +151,4 @@ module _ (image : List ℕ) (m : Map) (means : MeansMap image m) where
   session_paid script =
       let sound = begins_sound image m means in
       let low : (state_of m image).height ≤ 16 = omega (arith, sound.holds.within.height_is, sound.holds.within.hmax_is) in
-      omega (arith, paid_after (layout_in image) (session_of m image) sound (paid_first (state_of m image) low) (script_in image script))
+      omega (arith, paid_after (layout_in image) (session_of m image) sound (paid_first (state_of m image) low) (commands_of (slot_format image) script))

@@ -9,8 +9,7 @@ use Rattle.station.specs.declared.travel.Travel.{Travel}
 use Rattle.station.proofs.Composition.{no_steps, told_on, weaken}
 use Rattle.station.proofs.Sayings.{run_of_steps, run_on}
 use Rattle.line_source.specs.Lines.{raw_lines}
-use Rattle.line_source.specs.SourceView.{SourceView}
-use Rattle.line_source.specs.SourceView as source
+use Rattle.line_source.specs.SourceView.{SourceView, SourceTold}
 use Rattle.header_gate.specs.declared.layout.Layout.{Layout}
 use Rattle.header_gate.specs.declared.layout.TheConstants.{INDEXED, INTENT_VERSION}
 use Rattle.header_gate.specs.Header.{clean_gate, gate, intent_gate, layout_in}
@@ -120,7 +119,7 @@ headline_left l x cs before old new said moved here = record {
 
 -- Behind the whole script.
 
-module _ (most : ℕ) (l : Layout) (x now : Session) (t : StoreView) (s0 s1 : SourceView) (a b c : View) (law : Lawful a) (serves : Serves DONE most l x s0 s1 a b) (served : source.Told s0 → Told a → IsServed l x a (commands_of l.format s0.left) now b)
+module _ (most : ℕ) (l : Layout) (x now : Session) (t : StoreView) (s0 s1 : SourceView) (a b c : View) (law : Lawful a) (serves : Serves DONE most l x s0 s1 a b) (served : SourceTold s0 → Told a → IsServed l x a (commands_of l.format s0.left) now b)
     (at_height : Told a → now.store.height ≡ t.tally.height) (open_yet : IsOpenOn t b) (layout : t.place.layout ≡ l) (status : ℕ) (leaves : LeavesIndex status t b c) where
   on : Told a → Told b
   on told = ap (λ (f : Fixed). f.tells_held) serves.run.fixed ∙ told
@@ -140,10 +139,10 @@ module _ (most : ℕ) (l : Layout) (x now : Session) (t : StoreView) (s0 s1 : So
       pair_left image tells.0 tells.1 (subst (λ (d : List ℕ). Leaves t.place.layout d image) (open_yet.on.settled honest start may) step)))
       (λ honest image said pair. pair) (λ honest image said pair. pair)
 
-  after : source.Told s0 → Told a → leaving_cost t.place.layout t.tally.height ≡ leaving_cost l (session_after l x (commands_of l.format s0.left)).store.height
+  after : SourceTold s0 → Told a → leaving_cost t.place.layout t.tally.height ≡ leaving_cost l (session_after l x (commands_of l.format s0.left)).store.height
   after told_s told = (λ i. leaving_cost (layout i) ((sym (at_height told) ∙ ap (λ (k : Session). k.store.height) (served told_s told).session) i))
 
-  ends : source.Told s0 → Told a → EndsServed l x a (commands_of l.format s0.left) c
+  ends : SourceTold s0 → Told a → EndsServed l x a (commands_of l.format s0.left) c
   ends told_s told =
       let done = served told_s told in
       record {
@@ -153,7 +152,7 @@ module _ (most : ℕ) (l : Layout) (x now : Session) (t : StoreView) (s0 s1 : So
       }
 
   -- all lines were answered
-  stopped : source.Told s0 → Told a → SaidTold a → IsStopped l x s0.left s1.left a.said c.said
+  stopped : SourceTold s0 → Told a → SaidTold a → IsStopped l x s0.left s1.left a.said c.said
   stopped told_s told said_told =
       let all = (serves.whole refl told_s).0 in
       record {
@@ -210,7 +209,7 @@ runs_cut status most s s0 s1 a b shut serves stays open_yet unread = record {
 
 -- one that left it, or failed in that
 pub runs_left : (most : ℕ) (s t : StoreView) (now : Session) (s0 s1 : SourceView) (a b c : View) → Lawful a → Lawful b → EachHeld IsShut a → Serves DONE most (layout_on s) (session_in (fresh_session s) a.held) s0 s1 a b
-    → (source.Told s0 → Told a → IsServed (layout_on s) (session_in (fresh_session s) a.held) a (commands_of (layout_on s).format s0.left) now b) → (Told a → now.store.height ≡ t.tally.height) → IsOpenOn t b → t.place.layout ≡ layout_on s
+    → (SourceTold s0 → Told a → IsServed (layout_on s) (session_in (fresh_session s) a.held) a (commands_of (layout_on s).format s0.left) now b) → (Told a → now.store.height ≡ t.tally.height) → IsOpenOn t b → t.place.layout ≡ layout_on s
     → StaysShut a b → (AsksNothing (layout_on s).format s0 → b.travel ≡ a.travel) → (status : ℕ) → LeavesIndex status t b c → RunsOpened status most s s0 s1 a c
 runs_left most s t now s0 s1 a b c law law_b shut serves served at_height open_yet layout stays unread status leaves = record {
   serves = serves_left most (layout_on s) (session_in (fresh_session s) a.held) now t s0 s1 a b c law serves served at_height open_yet layout status leaves;

@@ -10,8 +10,7 @@ use Rattle.station.proofs.Composition.{each_on, only_held, told_of}
 use Rattle.station.proofs.Sayings.{each_says, run_in, run_of_steps, run_of_says, run_on}
 use Rattle.line_source.specs.Lines.{raw_lines}
 use Rattle.line_source.specs.ReaderView.{ReaderView, rest}
-use Rattle.line_source.specs.SourceView.{SourceView}
-use Rattle.line_source.specs.SourceView as source
+use Rattle.line_source.specs.SourceView.{SourceView, SourceTold, SourceRose}
 use Rattle.density_rule.proofs.Bounding.{upper_of-small}
 use Rattle.header_gate.specs.Header.{layout_in}
 use Rattle.header_gate.specs.Places.{IsLayout, height_limit, segment_size}
@@ -68,7 +67,7 @@ pub record Laws : Type 0 where
   pub wrong_is : (format most n : ℕ) (lines : List (List ℕ)) → most < 2 ^ 32 → loading format most lines ≡ wrong n → IsFirstWrong format lines n
   pub unfinished : (format most : ℕ) (lines : List (List ℕ)) (rows : List Record) → most < 2 ^ 32 → loading format most lines ≡ reads rows false → IsUnfinished format lines
   pub full_is : (format most : ℕ) (lines : List (List ℕ)) → most + 1 < 2 ^ 32 → loading format most lines ≡ full → IsOneTooMany format most lines
-  pub admitted : (format most : ℕ) (reader : ReaderView) (before after : SourceView) (rows : List Record) (fault : LoadFault) → IsLoadText format (raw_lines (rest reader before)) rows → length rows ≤ most → source.Told before → length before.left < reader.room
+  pub admitted : (format most : ℕ) (reader : ReaderView) (before after : SourceView) (rows : List Record) (fault : LoadFault) → IsLoadText format (raw_lines (rest reader before)) rows → length rows ≤ most → SourceTold before → length before.left < reader.room
       → IsLoadFault format most 0 reader before after fault → IsOutsideFault before after fault
 
 -- The load into an open store.
@@ -77,7 +76,7 @@ pub record Laws : Type 0 where
 pub record FactsBy (reader : ReaderView) (r : Result Loaded LoadFault) (s : StoreView) (s0 s1 : SourceView) (a b : View) : Type 0 where
   pub loaded : IfOk r (λ loaded. (rows : List Record) × IsLoaded s.place rows loaded.records loaded.height (TextFor s.place.layout reader s0) b)
   pub none_before : OnOk r (sum s.tally.counts ≡ 0)
-  pub whole : OnOk r (source.Told s0 → (s1.left ≡ []) × (length s0.left < reader.room))
+  pub whole : OnOk r (SourceTold s0 → (s1.left ≡ []) × (length s0.left < reader.room))
   pub settled : OnOk r (NothingPending b)
   pub steps : Steps (Loads s.place (TextFor s.place.layout reader s0)) a b
   pub untouched : 0 < sum s.tally.counts → Steps Same a b × (b.travel ≡ a.travel) × (b.held ≡ a.held)
@@ -179,14 +178,14 @@ module _ (laws : Laws) (most : ℕ) (s : StoreView) (s0 s1 : SourceView) (layout
       | inr some ↦ λ image left. subst (KeepsMeaning a.held) (sym (each_same (Err fault) b facts some image left)) (λ m here. here)
     ]
 
-    outside : source.Told s0 → sum s.tally.counts ≡ 0 → (rows : List Record) → HasText s.place.layout s0 rows → length s0.left < most → IsOutsideFault s0 s1 fault
+    outside : SourceTold s0 → sum s.tally.counts ≡ 0 → (rows : List Record) → HasText s.place.layout s0 rows → length s0.left < most → IsOutsideFault s0 s1 fault
     outside told none rows text short =
         laws.admitted s.place.layout.format (most_records s.place.layout) (fresh_reader most) s0 s1 rows fault (text told).0 (text told).1 told short
         (subst (λ (n : ℕ). IsLoadFault s.place.layout.format (most_records s.place.layout) n (fresh_reader most) s0 s1 fault) none facts.fault)
 
     -- a text that is admitted isn't met by it, where no count rose
     abbrev NoText : View → Type 0
-    NoText d = source.Told s0 → Told a → sum s.tally.counts ≡ 0 → (rows : List Record) → HasText s.place.layout s0 rows → length s0.left < most → (Rose a.disk_faults d.disk_faults → ⊥) → (source.Rose s0 s1 → ⊥) → ⊥
+    NoText d = SourceTold s0 → Told a → sum s.tally.counts ≡ 0 → (rows : List Record) → HasText s.place.layout s0 rows → length s0.left < most → (Rose a.disk_faults d.disk_faults → ⊥) → (SourceRose s0 s1 → ⊥) → ⊥
 
     -- a refusal
     refused_by : (d : View) (line : Reply) → IsRefusal line → {text : List ℕ} → Says text b d → (SaidTold b → SaysLine line b.said b d) → (Told a → AnswersLoad s.place.layout (sum s.tally.counts) s0 s1 line) → IsNoDisk fault → NoText d
@@ -218,8 +217,8 @@ module _ (laws : Laws) (most : ℕ) (s : StoreView) (s0 s1 : SourceView) (layout
         from told = said_since a b d line facts.steps.frame.said (sym facts.steps.frame.say_faults) (whole (said_on (Err fault) b facts told))
 
     -- a fault of which nothing is said
-    stopped_by : (status : ℕ) → (status ≡ DISK_FAULT) ⊎ IsCutText status → ((status ≡ DISK_FAULT → ⊥) → IsNoDisk fault) → (status ≡ DISK_FAULT → fault ≡ load.Disk) → (status ≡ SCRIPT_FAULT → source.Rose s0 s1)
-        → (status ≡ TOO_LONG → source.Told s0 → length s0.left ≡ length s1.left + most) → (IsCutText status → sum s.tally.counts ≡ 0) → NoText b → LoadsOpened status most s.place.layout (sum s.tally.counts) s0 s1 a b
+    stopped_by : (status : ℕ) → (status ≡ DISK_FAULT) ⊎ IsCutText status → ((status ≡ DISK_FAULT → ⊥) → IsNoDisk fault) → (status ≡ DISK_FAULT → fault ≡ load.Disk) → (status ≡ SCRIPT_FAULT → SourceRose s0 s1)
+        → (status ≡ TOO_LONG → SourceTold s0 → length s0.left ≡ length s1.left + most) → (IsCutText status → sum s.tally.counts ≡ 0) → NoText b → LoadsOpened status most s.place.layout (sum s.tally.counts) s0 s1 a b
     stopped_by status is no_disk disk_is script_is spent none no_text = record {
       status_is = elim is [ inl e ↦ inr (inr e) | inr (inl e) ↦ inl (inr (inl e)) | inr (inr e) ↦ inl (inr (inr e)) ];
       run = runs (Err fault) b facts;
@@ -328,7 +327,7 @@ pub record Comes (status most : ℕ) (s0 s1 : SourceView) (a b : View) : Type 0 
   pub attached : b.attached ≡ Some false
   pub loaded : LoadsFile status most s0 s1 a b
   pub disk : status ≡ DISK_FAULT → Rose a.disk_faults b.disk_faults
-  pub script : status ≡ SCRIPT_FAULT → source.Rose s0 s1
+  pub script : status ≡ SCRIPT_FAULT → SourceRose s0 s1
 
 -- a file that an opening left is kept in all that may be held, where nothing was pending
 each_opened : (a : View) {b : View} → Steps Reopens (attached_by false a) b → NothingPending a → EachHeld (KeepsMeaning a.held) b

@@ -6,8 +6,10 @@ use Rattle.map_model.specs.ArrayState.{IsSoundState, opened_state, plain}
 use Rattle.map_model.specs.Store.{Map, State}
 use Rattle.map_model.proofs.Resuming.{map_of_items, plain_items}
 use Rattle.map_model.proofs.SessionLaws.{opened_sound, states_sound}
-use Rattle.batch_intent.specs.Means.{MeansMap, meant_map, opened_items_state, pending}
-use Rattle.batch_intent.proofs.Meanings.{meant_one}
+use Rattle.map_model.specs.Items.{state_after_items}
+use Rattle.map_model.proofs.Recovering.{determined}
+use Rattle.batch_intent.specs.Means.{Means, MeansMap, meant_map, meant_state, opened_items_state, pending}
+use Rattle.batch_intent.proofs.Meanings.{items_are, meant_one}
 use Rattle.pma_engine.specs.Outcome.{state_of}
 
 -- it has the map that the file means
@@ -27,3 +29,14 @@ pub begins_sound : (image : List ℕ) (m : Map) → MeansMap image m → IsSound
 begins_sound image m means =
     let hmax = height_limit (layout_in image) in
     subst (IsSoundState hmax) (opened_is image m means) (states_sound hmax (opened_state image) (pending image) (opened_sound image means.1.base means.0 means.1.represents))
+
+-- without its array it is what the items of the intent lead to
+pub begins_plain : (image : List ℕ) (m : Map) (height : ℕ) (means : Means image m height) → plain (state_of m image) ≡ meant_state means
+begins_plain image m height means =
+    let hmax = height_limit (layout_in image) in
+    let own = determined image means.base height means.represents in
+    let tall : (opened_items_state image).height ≡ (meant_state means).height =
+    ap (λ (t : State). t.height) (plain_items hmax (opened_state image) (pending image))
+    ∙ (λ i. (state_after_items hmax (record { map = sym own.0 i; height = sym own.1 i }) (sym (items_are image m height means) i)).height)
+    in
+    λ i. record { map = m; height = tall i }

@@ -27,7 +27,7 @@ use Rattle.pma_store.specs.Batching.{done_by, intent_cost_in, IsRefusal}
 use Rattle.pma_store.specs.Changing.{most_written}
 use Rattle.pma_store.specs.Costing.{updates_cost}
 use Rattle.pma_store.specs.Store.{StoreView, Stands}
-use Rattle.pma_engine.specs.Costs.{intents_cost, most_of_one}
+use Rattle.pma_engine.specs.Costs.{intents_cost}
 use Rattle.pma_engine.specs.Replies.{batch_reply, lines_of, IsQuiet}
 
 -- The ledger.
@@ -99,11 +99,11 @@ module _ (s : StoreView) (image : List ℕ) (stands : Stands s image) where
       omega (arith, same, (items_within hmax (plain (state_in s image)) us within).height_is)
 
   -- so what one update may write behind them is the most of one
-  pub most_behind : (us : List Update) → most_written s.place.layout (next_states (height_limit s.place.layout) (state_in s image) us).height + 514 ≤ most_of_one s.place.layout
+  pub most_behind : (us : List Update) → most_written s.place.layout (next_states (height_limit s.place.layout) (state_in s image) us).height ≤ most_written s.place.layout (height_limit s.place.layout)
   most_behind us =
       let low = mul-le-mul_left (65568 * s.place.layout.format + 24) (pow_mono {i = (next_states (height_limit s.place.layout) (state_in s image) us).height} {j = height_limit s.place.layout} (within_limit us)) in
       omega (arith, low)
 
   -- and at the store's own height
-  pub most_here : most_written s.place.layout s.tally.height + 514 ≤ most_of_one s.place.layout
-  most_here = subst (λ (h : ℕ). most_written s.place.layout h + 514 ≤ most_of_one s.place.layout) stands.balanced.stands.height_is (most_behind [])
+  pub most_here : most_written s.place.layout s.tally.height ≤ most_written s.place.layout (height_limit s.place.layout)
+  most_here = subst (λ (h : ℕ). most_written s.place.layout h ≤ most_written s.place.layout (height_limit s.place.layout)) stands.balanced.stands.height_is (most_behind [])

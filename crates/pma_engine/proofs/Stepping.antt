@@ -63,10 +63,10 @@ module _ (m : MeteredView) (k q : Cursors) (name : Bytes) (r : Reply) (a : View)
 
 -- what was read goes by the answer for damage alone
 pub reads_ok : {A B : Type 0} {start : Option Bytes} {kept : KeptRegion} {x : A} (y : B) {a b : View} → ReadsNear start kept (Ok x) a b → ReadsNear start kept (Ok y) a b
-reads_ok y near = record { from = near.from; to = near.to; travel = near.travel; some = near.some; two = near.two; within = near.within; own = near.own; causes = tt }
+reads_ok y near = record { from = near.from; to = near.to; travel = near.travel; some = near.some; two = near.two; calls = near.calls; within = near.within; own = near.own; causes = tt }
 
 pub reads_err : {A : Type 0} (B : Type 0) {start : Option Bytes} {kept : KeptRegion} {fault : StoreFault} {a b : View} → ReadsNear {A = A} start kept (Err fault) a b → ReadsNear {A = B} start kept (Err fault) a b
-reads_err B near = record { from = near.from; to = near.to; travel = near.travel; some = near.some; two = near.two; within = near.within; own = near.own; causes = near.causes }
+reads_err B near = record { from = near.from; to = near.to; travel = near.travel; some = near.some; two = near.two; calls = near.calls; within = near.within; own = near.own; causes = near.causes }
 
 -- over any station the cursors go by what the step gave
 module _ (k q : Cursors) (name : Bytes) where

@@ -4,8 +4,7 @@ use Rattle.std.specs.FinMap.{from_sorted, len}
 use Rattle.station.specs.View.{View, Told, SaidTold, EachHeld, NothingPending, Rose, attached_by}
 use Rattle.station.specs.Steps.{Run}
 use Rattle.line_source.specs.Lines.{raw_lines}
-use Rattle.line_source.specs.SourceView.{SourceView}
-use Rattle.line_source.specs.SourceView as source
+use Rattle.line_source.specs.SourceView.{SourceView, SourceTold, SourceRose}
 use Rattle.header_gate.specs.Header.{gate, layout_in}
 use Rattle.header_gate.specs.Places.{segment_size}
 use Rattle.header_gate.specs.Recovered.{recovered}
@@ -61,7 +60,7 @@ status_of_load (Err load.Spent) = TOO_LONG
 -- where the source tells it, all that it has left is a load text with these records, which a store of this layout admits: in its
 -- slot format, and as many as it may hold
 abbrev pub HasText : Layout → SourceView → List Record → Type 0
-HasText l s rows = source.Told s → IsLoadText l.format (raw_lines s.left) rows × (length rows ≤ most_records l)
+HasText l s rows = SourceTold s → IsLoadText l.format (raw_lines s.left) rows × (length rows ≤ most_records l)
 
 -- the image means the map of the whole text, at the least height that holds its records
 pub record MeansText (l : Layout) (s : SourceView) (image : List ℕ) : Type 0 where
@@ -95,11 +94,11 @@ pub record IsReadWhole (most : ℕ) (s0 s1 : SourceView) : Type 0 where
 -- where the source tells it, line n is the first that no load text can have there, or one more than there are, where the lines
 -- end before the one with the number of records
 abbrev pub IsWrongAt : Layout → SourceView → ℕ → Type 0
-IsWrongAt l s n = source.Told s → IsFirstWrong l.format (raw_lines s.left) n ⊎ (IsUnfinished l.format (raw_lines s.left) × (n ≡ length (raw_lines s.left) + 1))
+IsWrongAt l s n = SourceTold s → IsFirstWrong l.format (raw_lines s.left) n ⊎ (IsUnfinished l.format (raw_lines s.left) × (n ≡ length (raw_lines s.left) + 1))
 
 -- where the source tells it, a record follows as many as a store of this layout may hold
 abbrev pub IsTooLong : Layout → SourceView → Type 0
-IsTooLong l s = source.Told s → IsOneTooMany l.format (most_records l) (raw_lines s.left)
+IsTooLong l s = SourceTold s → IsOneTooMany l.format (most_records l) (raw_lines s.left)
 
 -- a text isn't loaded into a store of this layout with so many records, and this line says why: there are records, and nothing is
 -- taken from the source; or a line of the text is wrong; or it has more records than the store may hold
@@ -141,7 +140,7 @@ pub record LoadsFile (status most : ℕ) (s0 s1 : SourceView) (a b : View) : Typ
   pub steps : NothingPending a → Run (λ image said. MayLoad s0 a.held image) (attached_by false a) b
   pub held : Told a → MayLoad s0 a.held b.held
   pub done : status ≡ DONE → Told a → (opening_reason a.held ≡ None) × (meant_map a.held ≡ empty_map) × IsFileLoaded (layout_in a.held) s0 b.held
-  pub whole : status ≡ DONE → source.Told s0 → IsReadWhole most s0 s1
+  pub whole : status ≡ DONE → SourceTold s0 → IsReadWhole most s0 s1
   pub settled : status ≡ DONE → NothingPending b
   -- with any other status but that of a disk call which failed, the map stays, in all that a crash may leave then too
   pub kept : (status ≡ DONE → ⊥) → (status ≡ DISK_FAULT → ⊥) → NothingPending a → EachHeld (KeepsMeaning a.held) b
@@ -149,13 +148,13 @@ pub record LoadsFile (status most : ℕ) (s0 s1 : SourceView) (a b : View) : Typ
   pub silent : (status ≡ REFUSED → ⊥) → b.said ≡ a.said
   pub refused : status ≡ REFUSED → IsLoadRefused s0 s1 a b
   pub memory : status ≡ OUT_OF_MEMORY → IsOutOfMemory (attached_by false a) b
-  pub too_long : status ≡ TOO_LONG → source.Told s0 → length s0.left ≡ length s1.left + most
+  pub too_long : status ≡ TOO_LONG → SourceTold s0 → length s0.left ≡ length s1.left + most
   -- of a store: where no disk call failed, it ends so, or for want of memory, or with the one answer that is due, or for the source
   pub complete : Told a → (m : Map) → MeansMap a.held m → (Rose a.disk_faults b.disk_faults → ⊥) →
       (status ≡ DONE) ⊎ ((status ≡ OUT_OF_MEMORY) ⊎ (((status ≡ REFUSED) × ((line : Reply) × IsLoadAnswer a.held s0 s1 line)) ⊎ ((m ≡ empty_map) × IsCutText status)))
   -- a text that a store without records admits, of fewer bytes than may be taken
-  pub admitted : source.Told s0 → Told a → MeansMap a.held empty_map → (rows : List Record) → HasText (layout_in a.held) s0 rows → length s0.left < most →
-      (Rose a.disk_faults b.disk_faults → ⊥) → (source.Rose s0 s1 → ⊥) → (status ≡ DONE) ⊎ (status ≡ OUT_OF_MEMORY)
+  pub admitted : SourceTold s0 → Told a → MeansMap a.held empty_map → (rows : List Record) → HasText (layout_in a.held) s0 rows → length s0.left < most →
+      (Rose a.disk_faults b.disk_faults → ⊥) → (SourceRose s0 s1 → ⊥) → (status ≡ DONE) ⊎ (status ≡ OUT_OF_MEMORY)
   pub written : status ≡ DONE → Told a → b.travel.written ≤ a.travel.written + (reopening_cost a.held + load_cost (layout_in a.held) (height_of b.held))
 
 -- what a load into an open store of this layout with so many records came to, on whose station nothing is pending; its file has no
@@ -166,17 +165,17 @@ pub record LoadsOpened (status most : ℕ) (l : Layout) (records : ℕ) (s0 s1 :
   pub held : Told a → MayLoad s0 a.held b.held
   pub empty : status ≡ DONE → records ≡ 0
   pub loaded : status ≡ DONE → Told a → IsFileLoaded l s0 b.held
-  pub whole : status ≡ DONE → source.Told s0 → IsReadWhole most s0 s1
+  pub whole : status ≡ DONE → SourceTold s0 → IsReadWhole most s0 s1
   pub settled : status ≡ DONE → NothingPending b
   pub kept : (status ≡ DONE → ⊥) → (status ≡ DISK_FAULT → ⊥) → EachHeld (KeepsMeaning a.held) b
   pub silent : (status ≡ REFUSED → ⊥) → b.said ≡ a.said
   pub line : status ≡ REFUSED → SaidTold a → (line : Reply) × IsRefusal line × SaysLine line a.said a b
   pub why : status ≡ REFUSED → Told a → (line : Reply) × AnswersLoad l records s0 s1 line × (SaidTold a → SaysLine line a.said a b)
   pub left : 0 < records → (b.held ≡ a.held) × (b.travel.written ≡ a.travel.written)
-  pub too_long : status ≡ TOO_LONG → source.Told s0 → length s0.left ≡ length s1.left + most
+  pub too_long : status ≡ TOO_LONG → SourceTold s0 → length s0.left ≡ length s1.left + most
   pub cut : IsCutText status → records ≡ 0
-  pub admitted : source.Told s0 → Told a → records ≡ 0 → (rows : List Record) → HasText l s0 rows → length s0.left < most →
-      (Rose a.disk_faults b.disk_faults → ⊥) → (source.Rose s0 s1 → ⊥) → status ≡ DONE
+  pub admitted : SourceTold s0 → Told a → records ≡ 0 → (rows : List Record) → HasText l s0 rows → length s0.left < most →
+      (Rose a.disk_faults b.disk_faults → ⊥) → (SourceRose s0 s1 → ⊥) → status ≡ DONE
   pub written : status ≡ DONE → Told a → b.travel.written ≤ a.travel.written + load_cost l (height_of b.held)
   pub disk : status ≡ DISK_FAULT → Rose a.disk_faults b.disk_faults
-  pub script : status ≡ SCRIPT_FAULT → source.Rose s0 s1
+  pub script : status ≡ SCRIPT_FAULT → SourceRose s0 s1

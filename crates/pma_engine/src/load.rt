@@ -3,7 +3,7 @@
 ghost use Rattle.std.specs.Prelude.{◌≡◌, ◌<◌, None, Some, false, sum};
 ghost use Rattle.station.specs.Steps.{Says};
 ghost use Rattle.station.specs.View.{SaidTold, NamedBy, Rose};
-ghost use Rattle.line_source.specs.SourceView.{Rose as SourceRose, Went};
+ghost use Rattle.line_source.specs.SourceView.{SourceRose, Went};
 ghost use Rattle.index_file.specs.Clean.{KeepsClean};
 ghost use Rattle.pma_store.specs.Store.{IsOpenOn};
 ghost use Rattle.pma_engine.specs.Closing.{StaysShut};

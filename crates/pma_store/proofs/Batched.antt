@@ -1,5 +1,5 @@
 -- What a batch comes to, at each way out of the calls that make it.
-use Rattle.std.proofs.Common.{◌≡◌, inl, inr, ℕ, ◌+◌, ◌<◌, ◌≤◌, ◌&&◌, nat_le, cond, Bool, true, false, T, List, [], length, Option, Some, None, is_some, is_none, Result, Ok, Err, refl, sym, ap, subst, ◌∙◌, arith}
+use Rattle.std.proofs.Common.{◌^◌, ◌⊎◌, ◌≡◌, inl, inr, ℕ, ◌+◌, ◌<◌, ◌≤◌, ◌&&◌, nat_le, cond, Bool, true, false, T, List, [], length, Option, Some, None, is_some, is_none, Result, Ok, Err, refl, sym, ap, subst, ◌∙◌, arith}
 use Rattle.std.specs.Prelude.{IfOk, IsErrOf, IsOk}
 use Rattle.std.proofs.lemmas.Result.{IfOk-weaker, IfErr-weaker, on_ok_weaker}
 use Rattle.std.specs.List.{list_all}
@@ -27,6 +27,7 @@ use Rattle.pma_store.specs.Batching.{AppliesBatch, IsBatchPlace, IsRefusal, batc
 use Rattle.pma_store.specs.Costing.{most_of, updates_cost, WritesSome}
 use Rattle.pma_store.specs.Items.{IsItemPlace, MakesItems}
 use Rattle.pma_store.specs.Judging.{JudgesItems, judged_of}
+use Rattle.pma_store.specs.Damaging.{IsMetLooking, IsMetMid}
 use Rattle.pma_store.specs.Looking.{TellsOther}
 use Rattle.pma_store.specs.Meaning.{BecomesMeant}
 use Rattle.pma_store.specs.Store.{StoreView, Stands, StandsOn, IsOpenOn, limit_of}
@@ -46,8 +47,8 @@ pub fault_batch : {a c : View} (items : List Update) (fault : StoreFault) (s t :
     → Steps (BecomesMeant (map_of a.held) (map_after_batch (version_of s) (limit_of s) (map_of a.held) items)) a c → Steps (Touched (IsBatchPlace s.place.layout)) a c → t.place.layout ≡ s.place.layout → t.closed ≡ s.closed
     → (Told a → WritesSome s.place.layout (state_in s a.held) (items_made (version_of s) (limit_of s) (map_of a.held) items) (a.travel.written + 514) c.travel.written)
     → c.travel.written ≤ a.travel.written + (most_of s.place.layout (length items) + 514)
-    → (Told a → fault ≡ Failed) → TellsOther fault → (IsErrOf {T = Batch} (Err fault) Failed → Rose a.disk_faults c.disk_faults) → AppliesBatch items (Err fault) s t a c
-fault_batch {a} {c} items fault s t meant touched layout closed most spent damaged counted failed = record {
+    → (Told a → fault ≡ Failed) → TellsOther (2 ^ limit_of s) fault → (fault ≡ Failed) ⊎ ((IsMetLooking s.place s.tally fault c × (c.travel.written ≡ a.travel.written)) ⊎ IsMetMid items s t fault c) → (IsErrOf {T = Batch} (Err fault) Failed → Rose a.disk_faults c.disk_faults) → AppliesBatch items (Err fault) s t a c
+fault_batch {a} {c} items fault s t meant touched layout closed most spent damaged counted met failed = record {
   batch = record {
     answer = tt;
     state = tt;
@@ -61,6 +62,7 @@ fault_batch {a} {c} items fault s t meant touched layout closed most spent damag
     most = most;
     spent = spent;
     paid = tt;
+    met = met;
     complete = fails_by a c fault damaged failed;
   };
   store = tt;
@@ -103,6 +105,7 @@ module _ {a c : View} (items : List Update) (s : StoreView) (is : IsOpenOn s a) 
       most = λ told. still_written (items_made (version_of s) (limit_of s) (map_of a.held) items) (state_in s a.held);
       spent = omega (arith, unwritten);
       paid = omega (arith, nothing done refusal);
+      met = tt;
       complete = λ told calm. refl;
     };
     store = stands_on s law is.on steps;
@@ -168,7 +171,7 @@ judging_fails {a} {c} items fault s t is judges =
     (ap (λ (s : StoreView). s.place.layout) judges.store) (ap (λ (s : StoreView). s.closed) judges.store)
     (λ told. still_written items s is judges.steps judges.unwritten (items_made (version_of s) (limit_of s) (map_of a.held) items) (state_in s a.held))
     (omega (arith, judges.unwritten))
-    judges.damaged judges.counted (λ failed. judges.failed (same_fault fault (λ e. e) failed))
+    judges.damaged judges.counted (inr (inl (judges.met, judges.unwritten))) (λ failed. judges.failed (same_fault fault (λ e. e) failed))
 
 -- it was judged, and then run
 pub judged_then : {a b c : View} (items : List Update) (r : Result Batch StoreFault) (s t : StoreView) → IsOpenOn s a → Lawful a → Steps Same a b → b.travel.written ≡ a.travel.written → IfOk r (λ done. done ≡ NoBatch → ⊥)
@@ -194,6 +197,7 @@ judged_then {a} {b} {c} items r s t is law first unwritten some applies =
             subst (λ (n : ℕ). WritesSome s.place.layout (state_in s a.held) (items_made (version_of s) (limit_of s) (map_of a.held) items) (n + 514) c.travel.written) unwritten own;
         spent = omega (arith, made.spent, unwritten);
         paid = made.paid;
+        met = IfErr-weaker r _ _ (λ fault met. elim met [ inl disk ↦ inl disk | inr more ↦ elim more [ inl looked ↦ inr (inl (looked.0, looked.1 ∙ unwritten)) | inr mid ↦ inr (inr mid) ] ]) made.met;
         complete = λ told calm. made.complete (told_on_b told) (λ rose. calm (omega (arith, rose, first.frame.disk_faults)));
       };
       store = applies.store;
@@ -252,7 +256,7 @@ module _ {a b : View} (items : List Update) (s : StoreView) (is : IsOpenOn s a) 
       refl refl
       (λ told. record { made = 0; some = omega arith; bytes = omega (arith, cost) })
       (omega (arith, cost))
-      (λ told. refl) tt (λ failed. rose)
+      (λ told. refl) tt (inl refl) (λ failed. rose)
 
   -- and then the items were made
   module _ {c : View} (t : StoreView) (r : Result ℕ StoreFault) (law_b : Lawful b) (settled : NothingPending b) (opened : Told a → byte b.held 640 ≡ 1) (cost : b.travel.written ≤ a.travel.written + 513) (makes : MakesItems items r s t b c) where
@@ -279,7 +283,7 @@ module _ {a b : View} (items : List Update) (s : StoreView) (is : IsOpenOn s a) 
     pub items_fail : (fault : StoreFault) → MakesItems items (Err fault) s t b c → AppliesBatch items (Err fault) s t a c
     items_fail fault makes =
         fault_batch items fault s t (run_meant t (Err fault) law_b settled opened cost makes) (run_touched t (Err fault) law_b settled opened cost makes) makes.layout makes.closed
-        (run_most t (Err fault) law_b settled opened cost makes) (omega (arith, makes.spent, cost)) (λ told. makes.damaged (told_on writes.frame told)) makes.counted
+        (run_most t (Err fault) law_b settled opened cost makes) (omega (arith, makes.spent, cost)) (λ told. makes.damaged (told_on writes.frame told)) makes.counted (elim makes.met [ inl disk ↦ inl disk | inr mid ↦ inr (inr mid) ])
         (λ failed. omega (arith, makes.failed (same_fault fault (λ e. e) failed), writes.frame.disk_faults))
 
     pub whole_batch : (charge : ℕ) → MakesItems items (Ok charge) s t b c → AppliesBatch items (Ok (done_by counts charge)) s t a c
@@ -305,6 +309,7 @@ module _ {a b : View} (items : List Update) (s : StoreView) (is : IsOpenOn s a) 
         most = run_most t (Ok charge) law_b settled opened cost makes;
         spent = omega (arith, makes.spent, cost);
         paid = makes.paid;
+        met = tt;
         complete = λ told calm. refl;
       };
       store = makes.store;

@@ -20,13 +20,14 @@ use Rattle.pma_store.specs.declared.updating.Outcome.{Outcome}
 use Rattle.pma_store.specs.Changing.{update_cost}
 use Rattle.pma_store.specs.Charging.{changes, charge_told}
 use Rattle.pma_store.specs.Items.{MakesItem}
-use Rattle.pma_store.specs.Looking.{TellsOther}
 use Rattle.pma_store.specs.Makes.{AppliesUpdate}
 use Rattle.pma_store.specs.Spots.{FindsSpot, IsSpot}
 use Rattle.pma_store.specs.Store.{StoreView, IsStore, StandsOn, limit_of}
 use Rattle.pma_store.specs.Updating.{FitsFormat}
 use Rattle.pma_store.proofs.Charged.{charged, cost_told, effect_is, unchanged_is, written_changed, written_images}
-use Rattle.pma_store.proofs.Making.{applies_behind, no_fault, same_fault, same_goes, stands_on, stands_there}
+use Rattle.pma_store.specs.Damaging.{UpdatesAt, moved}
+use Rattle.pma_store.proofs.Meeting.{item_failed, item_made, item_unfound}
+use Rattle.pma_store.proofs.Making.{found_within, applies_behind, no_fault, same_fault, same_goes, stands_on, stands_there}
 use Rattle.pma_store.proofs.Outcomes.{has_is, present_in}
 
 -- an item that fits the format has room in its slots
@@ -46,13 +47,13 @@ looked {a} {b} s t next u spot rows on law same ab found told =
     sym (present_in s b.held stands u spot rows is_spot (found.own told_b)) ∙ has_is s b.held stands (key_of u) ∙ ap (λ (x : List ℕ). contains_key (map_of x) (key_of u)) (ab.held told)
 
 -- a store is no higher than it may be
-tall_of : (s : StoreView) → IsStore s → s.tally.height ≤ limit_of s
+pub tall_of : (s : StoreView) → IsStore s → s.tally.height ≤ limit_of s
 tall_of s sound = omega (arith, sound.tally.height_is, sound.hmax)
 
 -- an item that was applied
 pub applied_item : {a c : View} (u : Update) (outcome : Outcome) (report : Report) (charge : ℕ) (s t : StoreView) → IsStore s → IsSlotFormat s.place.layout.format → StandsOn s a → AppliesUpdate u (Ok (outcome, report)) s t a c
-    → charge ≡ charge_told t.tally.height (changes outcome) report → charge ≤ 1048576 → MakesItem u (Ok charge) s t a c
-applied_item {a} {c} u outcome report charge s t sound format on applied e small =
+    → UpdatesAt {T = Outcome × Report} u (Ok (outcome, report)) (λ done. moved u done.0) (λ done. done.1) s t a c → charge ≡ charge_told t.tally.height (changes outcome) report → charge ≤ 1048576 → MakesItem u (Ok charge) s t a c
+applied_item {a} {c} u outcome report charge s t sound format on applied met e small =
     let made = applied.update in
     let tall = λ (told : Told a). sym (stands_there t made.store (told_on made.steps.frame told)).balanced.stands.height_is ∙ ap (λ (x : ArrayState). x.height) (made.state told) in
     let effect = λ (told : Told a). ap changes (applied.outcome told) ∙ effect_is (limit_of s) (array_of a.held) u in
@@ -72,14 +73,15 @@ applied_item {a} {c} u outcome report charge s t sound format on applied e small
       most = made.most;
       tall = tall_of s sound;
       paid = omega (arith, e, made.paid.pays);
+      met = item_made {T = Outcome × Report} u (outcome, report) charge (λ done. moved u done.0) (λ done. done.1) s t met;
       damaged = tt;
       counted = tt;
       failed = no_fault charge;
     }
 
 -- one that failed
-pub failed_item : {a c : View} (u : Update) (fault : StoreFault) (s t : StoreView) → IsStore s → AppliesUpdate u (Err fault) s t a c → MakesItem u (Err fault) s t a c
-failed_item u fault s t sound applied = record {
+pub failed_item : {a c : View} (u : Update) (fault : StoreFault) (s t : StoreView) → IsStore s → AppliesUpdate u (Err fault) s t a c → UpdatesAt {T = Outcome × Report} u (Err fault) (λ done. moved u done.0) (λ done. done.1) s t a c → MakesItem u (Err fault) s t a c
+failed_item u fault s t sound applied met = record {
   state = tt;
   charge = tt;
   small = tt;
@@ -92,14 +94,15 @@ failed_item u fault s t sound applied = record {
   most = applied.update.most;
   tall = tall_of s sound;
   paid = tt;
+  met = item_failed {T = Outcome × Report} u fault (λ done. moved u done.0) (λ done. done.1) s t met;
   damaged = applied.damaged;
   counted = applied.counted;
   failed = λ failed. applied.failed (same_fault fault (λ e. e) failed);
 }
 
 -- one whose spot wasn't found
-pub unfound_item : {a b : View} (u : Update) (fault : StoreFault) (s t : StoreView) (rows : List Record) → IsStore s → FindsSpot u (Err fault) s t rows a b → TellsOther fault → MakesItem u (Err fault) s t a b
-unfound_item u fault s t rows sound found counted = record {
+pub unfound_item : {a b : View} (u : Update) (fault : StoreFault) (s t : StoreView) (rows : List Record) → IsStore s → FindsSpot u (Err fault) s t rows a b → MakesItem u (Err fault) s t a b
+unfound_item u fault s t rows sound found = record {
   state = tt;
   charge = tt;
   small = tt;
@@ -112,8 +115,9 @@ unfound_item u fault s t rows sound found counted = record {
   most = omega (arith, found.unwritten);
   tall = tall_of s sound;
   paid = tt;
+  met = item_unfound u fault s t rows found;
   damaged = found.damaged;
-  counted = counted;
+  counted = found_within s found.at (tall_of s sound) found.at_in fault found.damage;
   failed = λ failed. found.failed (same_fault fault (λ e. e) failed);
 }
 

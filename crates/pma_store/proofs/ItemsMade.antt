@@ -1,5 +1,5 @@
 -- The items of a batch, one more at a time.
-use Rattle.std.proofs.Common.{◌≡◌, inl, inr, ℕ, zero, suc, ◌+◌, ◌*◌, ◌<◌, ◌≤◌, Bool, true, false, List, [], ◌∷◌, length, take, get_or, Option, Some, None, is_some, Result, Ok, Err, refl, sym, ap, subst, ◌∙◌, arith}
+use Rattle.std.proofs.Common.{◌^◌, ◌≡◌, inl, inr, ℕ, zero, suc, ◌+◌, ◌*◌, ◌<◌, ◌≤◌, Bool, true, false, List, [], ◌∷◌, length, take, get_or, Option, Some, None, is_some, Result, Ok, Err, refl, sym, ap, subst, ◌∙◌, arith}
 use Rattle.std.specs.FinMap.{contains_key}
 use Rattle.std.proofs.lemmas.List.{take_all}
 use Rattle.station.specs.Bytes.{Touched}
@@ -30,10 +30,13 @@ use Rattle.pma_store.specs.Changing.{most_written}
 use Rattle.pma_store.specs.Costing.{most_of, update_cost_in, updates_cost, WritesSome}
 use Rattle.pma_store.specs.Items.{IsAsFound, IsItemPlace, MakesItem, MakesItems}
 use Rattle.pma_store.specs.Judging.{AreAllFound, found_at}
+use Rattle.pma_store.specs.Looking.{TellsOther}
 use Rattle.pma_store.specs.Meaning.{MeansNow}
 use Rattle.pma_store.specs.Store.{StoreView, Stands, StandsOn, limit_of}
 use Rattle.pma_store.specs.Touching.{Updates, IsUpdatePlace}
 use Rattle.pma_store.proofs.Making.{no_fault, same_fault, stands_again, stands_there}
+use Rattle.pma_store.specs.Damaging.{AreNextTallies}
+use Rattle.pma_store.proofs.Meeting.{met_mid, tallies_next}
 use Rattle.pma_store.proofs.Moments.{even_idle_at, none_yet, then_now, item_steps, item_made, closing_steps, gate_touched}
 use Rattle.pma_store.proofs.Picks.{most_more}
 use Rattle.pma_store.proofs.Standing.{value_there}
@@ -77,6 +80,7 @@ pub record HasMade (items : List Update) (k charge : ℕ) (s t : StoreView) (a b
   pub cost : Told a → b.travel.written ≤ a.travel.written + updates_cost s.place.layout (state_in s a.held) (take k items)
   pub images : b.travel.written ≤ a.travel.written + 4101 * s.place.layout.format * charge
   pub paid : charge + potential_of t.tally ≤ potential_of s.tally + 514 * k
+  pub nexts : AreNextTallies (take k items) s.tally t.tally
   pub spent : b.travel.written ≤ a.travel.written + most_of s.place.layout k
 
 pub none_made : {a : View} (items : List Update) (s : StoreView) → StandsOn s a → HasMade items 0 0 s s a a
@@ -92,6 +96,7 @@ none_made {a} items s on = record {
   cost = λ told. omega arith;
   images = omega arith;
   paid = omega arith;
+  nexts = refl;
   spent = omega arith;
 }
 
@@ -167,6 +172,7 @@ module _ (items : List Update) (k charge : ℕ) (s t next : StoreView) (a b c : 
             omega (arith, is.cost told, own, same, costs_next s.place.layout (state_in s a.held) items k d lt);
         images = images_sum s.place.layout.format charge charge_next is.images (subst (λ (l : Layout). c.travel.written ≤ b.travel.written + 4101 * l.format * charge_next) is.layout made.images);
         paid = omega (arith, is.paid, made.paid);
+        nexts = tallies_next items k d s.tally t.tally next.tally lt is.nexts made.met.counts;
         spent = spends (Ok charge_next) made;
       }
     where
@@ -194,8 +200,9 @@ module _ (items : List Update) (k charge : ℕ) (s t next : StoreView) (a b c : 
     spent = omega (arith, spends (Err fault) made, times_up (most_written s.place.layout (limit_of s)) (suc k) (length items) (omega (arith, lt)));
     few = few;
     paid = tt;
+    met = inr (met_mid items k d s t next fault lt is.layout is.nexts made.met);
     damaged = λ told. made.damaged (told_on is.touched.frame told);
-    counted = made.counted;
+    counted = subst (λ (l : Layout). TellsOther (2 ^ height_limit l) fault) is.layout made.counted;
     failed = λ failed. omega (arith, made.failed (same_fault fault (λ e. e) failed), is.touched.frame.disk_faults);
   }
 
@@ -249,6 +256,7 @@ module _ (items : List Update) (charge : ℕ) (s t : StoreView) (a b c : View) (
         spent = omega (arith, is.spent, one);
         few = few;
         paid = is.paid;
+        met = tt;
         damaged = tt;
         counted = tt;
         failed = no_fault charge;
@@ -270,6 +278,7 @@ module _ (items : List Update) (charge : ℕ) (s t : StoreView) (a b c : View) (
     spent = omega (arith, is.spent, one);
     few = few;
     paid = tt;
+    met = inl refl;
     damaged = λ told. refl;
     counted = tt;
     failed = λ failed. omega (arith, rose, is.touched.frame.disk_faults);

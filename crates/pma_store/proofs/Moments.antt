@@ -36,7 +36,7 @@ if_told {a} {b} law frame steps = record {
 
 -- An update leaves the intent as it is.
 
-update_apart : (l : Layout) (k : ℕ) → IsUpdatePlace l k → IsApart k
+pub update_apart : (l : Layout) (k : ℕ) → IsUpdatePlace l k → IsApart k
 update_apart l k is = record { identity = λ there. identity_not there.0 there.1 is; intent = λ there. intent_not there is }
   where
     identity_not : 3072 ≤ k → k < 3072 + 20 → IsUpdatePlace l k → ⊥
@@ -67,7 +67,7 @@ pub update_keeps_intent : (hmax : ℕ) (u : Update) (start image : List ℕ) →
 update_keeps_intent hmax u start image step = update_keeps start image (ap (λ (l : Layout). l.format) step.layout_is) (wider start image (update_apart (layout_in start)) step.touched)
 
 -- so none waits behind it, where none did
-keeps_idle : (start image : List ℕ) → KeepsIntent start image → has_pending image ≡ has_pending start
+pub keeps_idle : (start image : List ℕ) → KeepsIntent start image → has_pending image ≡ has_pending start
 keeps_idle start image keeps = λ t. nat_le INTENT_VERSION (keeps.layout_is t).version && (keeps.gate_is t == 1)
 
 pub update_idle : (hmax : ℕ) (u : Update) (start image : List ℕ) → Updates hmax u start image → has_pending start ≡ false → has_pending image ≡ false

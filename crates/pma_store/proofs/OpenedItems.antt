@@ -1,5 +1,5 @@
 -- What becomes of a file that is opened, at each moment, with the items of its intent.
-use Rattle.std.proofs.Common.{◌≡◌, ◌≢◌, ◌⊎◌, inl, inr, ℕ, ◌+◌, ◌≤◌, true, false, List, length, take, Some, None, Result, Ok, Err, refl, sym, ap, subst, ◌∙◌, arith}
+use Rattle.std.proofs.Common.{◌^◌, ◌≡◌, ◌≢◌, ◌⊎◌, inl, inr, ℕ, ◌+◌, ◌≤◌, true, false, List, length, take, Some, None, Result, Ok, Err, refl, sym, ap, subst, ◌∙◌, arith}
 use mathlib.Core.Bool.{true≢false}
 use Rattle.std.specs.Prelude.{IsOk, IsErrOf, is_ok}
 use Rattle.station.specs.Bytes.{Touched}
@@ -7,7 +7,7 @@ use Rattle.station.specs.View.{View, Told, Honest, EachHeld, NothingPending, Law
 use Rattle.station.specs.Steps.{Frame, Steps}
 use Rattle.station.proofs.Composition.{each_held, frame_on, honest_on, told_on, weaken}
 use Rattle.batch_intent.specs.Means.{InBatch, KeepsIntent, Means, MeansMap, has_pending, map_after_all, meant_map, opening_reason, pending}
-use Rattle.batch_intent.proofs.Meanings.{batch_begun, meant_one, pending_kept}
+use Rattle.batch_intent.proofs.Meanings.{batch_begun, items_are, meant_one, pending_kept}
 use Rattle.batch_intent.proofs.OpeningReasons.{means_of_none}
 use Rattle.header_gate.specs.declared.layout.Layout.{Layout}
 use Rattle.header_gate.specs.declared.reason.Reason.{Reason}
@@ -136,14 +136,16 @@ pub failed_is : {U : Type 0} (fault : StoreFault) → IsErrOf {T = U} (Err (repa
 failed_is store.Failed is = refl
 failed_is (store.Damaged segment why) is = absurd cc
 
-pub item_counted : (fault : StoreFault) → TellsOther fault → TellsOtherCount (repair_fault fault)
-item_counted store.Failed is = tt
-item_counted (store.Damaged segment why) is = is
+pub item_counted : (most : ℕ) → most ≤ 2 ^ 16 → (fault : StoreFault) → TellsOther most fault → TellsOtherCount (repair_fault fault)
+item_counted most le store.Failed is = tt
+item_counted most le (store.Damaged segment (NotSegment slot)) is = (omega (arith, is.0, le), is.1)
+item_counted most le (store.Damaged segment (OtherCount found kept)) is = (omega (arith, is.0, le), is.1)
+item_counted most le (store.Damaged segment OutOfOrder) is = omega (arith, is, le)
 
 pub reread_counted : (fault : OpenFault) → IsRereadFault fault → TellsOtherCount fault
-reread_counted (Damaged segment (NotSegment slot)) is = tt
+reread_counted (Damaged segment (NotSegment slot)) is = is
 reread_counted (Damaged segment (OtherCount found kept)) is = is
-reread_counted (Damaged segment OutOfOrder) is = tt
+reread_counted (Damaged segment OutOfOrder) is = absurd is.1
 reread_counted Memory is = tt
 reread_counted Failed is = tt
 reread_counted (NotStore reason) is = tt
@@ -178,6 +180,9 @@ module _ {X : Type 0} {a b c : View} (x : X) (items : List Update) (s t : StoreV
     own_items : pending b.held ≡ items
     own_items = items_same a.held b.held keeps ∙ (waits told).1
 
+    behind_items : behind.items ≡ items
+    behind_items = items_are b.held (meant_map a.held) (height_of a.held) behind ∙ own_items
+
     batch : EachHeld (InBatch s.place.layout behind.base items 0) b
     batch = each_held b (InBatch s.place.layout behind.base items 0) law_b settled (λ told_b.
         let begun = batch_begun b.held (meant_map a.held) (height_of a.held) behind (pending_kept a.held b.held keeps ∙ (waits told).0) in
@@ -186,10 +191,10 @@ module _ {X : Type 0} {a b c : View} (x : X) (items : List Update) (s t : StoreV
     admitted : AreAdmitted (limit_of s) behind.base items
     admitted =
         subst (λ (l : Layout). AreAdmitted (height_limit l) behind.base items) (layout_is (on told))
-        (subst (AreAdmitted (height_limit (layout_in b.held)) behind.base) own_items behind.admitted)
+        (subst (AreAdmitted (height_limit (layout_in b.held)) behind.base) behind_items behind.admitted)
 
     after : map_after_all s.place.layout behind.base items ≡ meant_map a.held
-    after = (λ τ. map_after_items (height_limit (sym (layout_is (on told)) τ)) behind.base (sym own_items τ)) ∙ behind.map_is
+    after = (λ τ. map_after_items (height_limit (sym (layout_is (on told)) τ)) behind.base (sym behind_items τ)) ∙ behind.map_is
 
     now : Steps (MeansNow (meant_map a.held)) b c
     now = subst (λ (m : Map). Steps (MeansNow m) b c) after (made.steps behind.base admitted batch)

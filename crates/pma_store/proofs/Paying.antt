@@ -4,7 +4,7 @@ use Rattle.std.specs.Prelude.{sum}
 use Rattle.std.proofs.lemmas.Bool.{cases_eq}
 use Rattle.density_rule.specs.Bounds.{upper_of}
 use Rattle.density_rule.specs.Marks.{Marks, mark_of}
-use Rattle.density_rule.specs.Updates.{resized_height, height_after}
+use Rattle.density_rule.specs.Updates.{resized_height, height_by_broken}
 use Rattle.density_rule.specs.Windows.{IsBalanced}
 use Rattle.map_model.specs.ArrayState.{UpdateReport, report_by}
 use Rattle.window_tally.specs.declared.Change.{Change}
@@ -32,7 +32,7 @@ abbrev told_by : ℕ → ℕ → Marks → Bool → UpdateReport
 told_by c segment marks b = cond b (record { spread = None; cause = None; resized = true }) (record { spread = Some (record { height = c + 1; number = segment / 2 ^ (c + 1) }); cause = mark_of marks c (segment / 2 ^ c); resized = false })
 
 -- what a report tells of an update that adds a record or takes one
-pub work_is : (adds : Bool) (height segment : ℕ) (broken : Option ℕ) (marks : Marks) (r : Report) (next : ℕ) → next ≡ height_after adds height broken → reported r ≡ report_by height segment broken marks
+pub work_is : (adds : Bool) (height segment : ℕ) (broken : Option ℕ) (marks : Marks) (r : Report) (next : ℕ) → next ≡ height_by_broken adds height broken → reported r ≡ report_by height segment broken marks
     → work_by next true r ≡ work_of adds height broken
 work_is adds height segment None marks r next at is = by_parts (ap (λ (u : UpdateReport). u.resized) is) (ap (λ (u : UpdateReport). u.spread) is)
   where

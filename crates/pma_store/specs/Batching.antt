@@ -1,5 +1,5 @@
 -- Several updates as one command: what it answers, and what it leaves at every moment.
-use Rattle.std.specs.Prelude.{◌≡◌, ◌⊎◌, ℕ, ◌+◌, ◌*◌, ◌≤◌, nat_le, if◌then◌else◌, false, List, [], length, is_some, Result, IsOk, OnOk, IfOk, IfErr, IsErrOf}
+use Rattle.std.specs.Prelude.{◌≡◌, ◌^◌, ◌⊎◌, ℕ, ◌+◌, ◌*◌, ◌≤◌, nat_le, if◌then◌else◌, false, List, [], length, is_some, Result, IsOk, OnOk, IfOk, IfErr, IsErrOf}
 use Rattle.station.specs.Bytes.{Touched}
 use Rattle.station.specs.View.{View, Told, EachHeld, Rose}
 use Rattle.station.specs.Steps.{Steps}
@@ -19,6 +19,7 @@ use Rattle.pma_store.specs.declared.answers.Batch.{Batch}
 use Rattle.pma_store.specs.declared.answers.Batch.TheVariants.{Done, Full, NoBatch}
 use Rattle.pma_store.specs.Answers.{state_in}
 use Rattle.pma_store.specs.Costing.{most_of, updates_cost, WritesSome}
+use Rattle.pma_store.specs.Damaging.{IsMetLooking, IsMetMid}
 use Rattle.pma_store.specs.Looking.{TellsOther}
 use Rattle.pma_store.specs.Meaning.{BecomesMeant}
 use Rattle.pma_store.specs.Store.{StoreView, StandsOn, LeavesAll, limit_of}
@@ -92,6 +93,8 @@ pub record Batches (items : List Update) (result : Result Batch StoreFault) (s t
   pub spent : b.travel.written ≤ a.travel.written + (most_of s.place.layout (length items) + 514)
   -- its charge and the rise of the potential are together at most 514 for each item
   pub paid : IfOk result (λ done. charge_in done + potential_of t.tally ≤ potential_of s.tally + 514 * made_in (length items) done)
+  -- it fails by the disk; by damage that is met while the keys are looked for, with nothing written; or in one of its items
+  pub met : IfErr result (λ fault. (fault ≡ Failed) ⊎ ((IsMetLooking s.place s.tally fault b × (b.travel.written ≡ a.travel.written)) ⊎ IsMetMid items s t fault b))
   -- where bytes are told it fails by the disk alone
   pub complete : Told a → ¬ Rose a.disk_faults b.disk_faults → IsOk result
 
@@ -103,5 +106,5 @@ pub record AppliesBatch (items : List Update) (result : Result Batch StoreFault)
   pub no_intent : OnOk result (EachHeld (λ image. has_pending image ≡ false) b)
   pub closed : t.closed ≡ s.closed
   pub damaged : IfErr result (λ fault. Told a → fault ≡ Failed)
-  pub counted : IfErr result TellsOther
+  pub counted : IfErr result (TellsOther (2 ^ limit_of s))
   pub failed : IsErrOf result Failed → Rose a.disk_faults b.disk_faults

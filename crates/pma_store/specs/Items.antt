@@ -1,5 +1,5 @@
 -- The items of a batch, made one after another.
-use Rattle.std.specs.Prelude.{◌≡◌, ◌⊎◌, ℕ, ◌+◌, ◌*◌, ◌≤◌, Bool, false, List, length, Option, Some, None, Result, OnOk, IfOk, IfErr, IsErrOf}
+use Rattle.std.specs.Prelude.{◌≡◌, ◌^◌, ◌⊎◌, ℕ, ◌+◌, ◌*◌, ◌≤◌, Bool, false, List, length, Option, Some, None, Result, OnOk, IfOk, IfErr, IsErrOf}
 use Rattle.station.specs.Bytes.{Touched}
 use Rattle.station.specs.View.{View, Told, EachHeld, Rose}
 use Rattle.station.specs.Steps.{Steps}
@@ -17,6 +17,7 @@ use Rattle.segment.specs.declared.fault.StoreFault.TheVariants.{Failed}
 use Rattle.pma_store.specs.Answers.{state_in}
 use Rattle.pma_store.specs.Changing.{most_written}
 use Rattle.pma_store.specs.Costing.{most_of, update_cost_in, updates_cost, WritesSome}
+use Rattle.pma_store.specs.Damaging.{IsMetMid, MeetsItem}
 use Rattle.pma_store.specs.Looking.{TellsOther}
 use Rattle.pma_store.specs.Meaning.{MeansNow}
 use Rattle.pma_store.specs.Store.{StoreView, StandsOn, limit_of}
@@ -41,8 +42,9 @@ pub record MakesItem (u : Update) (result : Result ℕ StoreFault) (s t : StoreV
   pub most : b.travel.written ≤ a.travel.written + most_written s.place.layout s.tally.height
   pub tall : s.tally.height ≤ limit_of s
   pub paid : IfOk result (λ charge. charge + potential_of t.tally ≤ potential_of s.tally + 514)
+  pub met : MeetsItem u result s t a b
   pub damaged : IfErr result (λ fault. Told a → fault ≡ Failed)
-  pub counted : IfErr result TellsOther
+  pub counted : IfErr result (TellsOther (2 ^ limit_of s))
   pub failed : IsErrOf result Failed → Rose a.disk_faults b.disk_faults
 
 -- a place of an update, or of the intent's gate
@@ -67,6 +69,7 @@ pub record MakesItems (items : List Update) (result : Result ℕ StoreFault) (s 
   pub spent : b.travel.written ≤ a.travel.written + (most_of s.place.layout (length items) + 1)
   pub few : length items ≤ 16
   pub paid : IfOk result (λ charge. charge + potential_of t.tally ≤ potential_of s.tally + 514 * length items)
+  pub met : IfErr result (λ fault. (fault ≡ Failed) ⊎ IsMetMid items s t fault b)
   pub damaged : IfErr result (λ fault. Told a → fault ≡ Failed)
-  pub counted : IfErr result TellsOther
+  pub counted : IfErr result (TellsOther (2 ^ limit_of s))
   pub failed : IsErrOf result Failed → Rose a.disk_faults b.disk_faults

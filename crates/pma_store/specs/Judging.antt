@@ -1,5 +1,5 @@
 -- What the items of a batch would do, by whether their keys are there and by how many records there are.
-use Rattle.std.specs.Prelude.{◌≡◌, ℕ, ◌+◌, ◌-◌, ◌<◌, nat_lt, ◌||◌, not, if◌then◌else◌, Bool, false, List, length, slice_index_or, Option, Some, None, is_some, Result, IfOk, IfErr, IsErrOf}
+use Rattle.std.specs.Prelude.{◌≡◌, ◌^◌, ℕ, ◌+◌, ◌-◌, ◌<◌, nat_lt, ◌||◌, not, if◌then◌else◌, Bool, false, List, length, slice_index_or, Option, Some, None, is_some, Result, IfOk, IfErr, IsErrOf, is_ok, Err}
 use Rattle.std.specs.FinMap.{contains_key}
 use Rattle.station.specs.Bytes.{Same}
 use Rattle.station.specs.View.{View, Told, Rose}
@@ -11,6 +11,7 @@ use Rattle.map_model.specs.Store.{Map, Update, bind, unbind}
 use Rattle.segment.specs.declared.fault.StoreFault.{StoreFault}
 use Rattle.segment.specs.declared.fault.StoreFault.TheVariants.{Failed}
 use Rattle.pma_store.specs.declared.judging.Judged.{Judged}
+use Rattle.pma_store.specs.Damaging.{IsMetLooking}
 use Rattle.pma_store.specs.Looking.{TellsOther}
 use Rattle.pma_store.specs.Store.{StoreView, limit_of}
 
@@ -40,6 +41,10 @@ abbrev pub counted_by : Update → Bool → ItemCounts → ItemCounts
 counted_by (bind key value) present c = if present then record c { replaced = c.replaced + 1 } else record c { stored = c.stored + 1 }
 counted_by (unbind key) present c = if present then record c { removed = c.removed + 1 } else record c { absent = c.absent + 1 }
 
+-- how many of the items edit a segment
+abbrev pub edits_of : Judged → ℕ
+edits_of j = j.stored + j.replaced + j.removed
+
 -- how many items were counted
 abbrev pub total : Judged → ℕ
 total j = j.stored + j.replaced + j.removed + j.absent
@@ -52,6 +57,10 @@ AreFound found items m k = (i : ℕ) → i < k → (d : Update) → slice_index_
 abbrev pub AreAllFound : Option (List Bool) → List Update → Map → Type 0
 AreAllFound None items m = Unit {0}
 AreAllFound (Some found) items m = AreFound found items m (length items)
+
+-- they have, by where each was found
+abbrev pub AreFoundAt : List (Result ℕ ℕ) → List Update → Map → Type 0
+AreFoundAt found items m = (k : ℕ) (d : Update) → k < length items → is_ok (slice_index_or found k (Err 0)) ≡ contains_key m (key_of (slice_index_or items k d))
 
 -- what was found of item i
 abbrev pub found_at : Option (List Bool) → ℕ → Option Bool
@@ -69,6 +78,7 @@ pub record JudgesItems (items : List Update) (result : Result (Option Judged) St
   pub store : t ≡ s
   pub steps : Steps Same a b
   pub unwritten : b.travel.written ≡ a.travel.written
+  pub met : IfErr result (λ fault. IsMetLooking s.place s.tally fault b)
   pub damaged : IfErr result (λ fault. Told a → fault ≡ Failed)
-  pub counted : IfErr result TellsOther
+  pub counted : IfErr result (TellsOther (2 ^ limit_of s))
   pub failed : IsErrOf result Failed → Rose a.disk_faults b.disk_faults

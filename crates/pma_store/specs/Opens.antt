@@ -1,5 +1,5 @@
 -- What an opening leaves of a file, whose intent it applies.
-use Rattle.std.specs.Prelude.{◌≡◌, ℕ, ◌+◌, ◌≤◌, false, List, Some}
+use Rattle.std.specs.Prelude.{◌≡◌, ℕ, ◌^◌, ◌+◌, ◌≤◌, false, List, Some}
 use Rattle.station.specs.Bytes.{Touched}
 use Rattle.batch_intent.specs.Means.{Means, MeansMap, has_pending, opening_reason, pending}
 use Rattle.header_gate.specs.declared.layout.Layout.{Layout}
@@ -40,9 +40,9 @@ pub record WritesOpening (image : List ℕ) (before after : ℕ) : Type 0 where
 abbrev pub most_opening : Layout → ℕ
 most_opening l = opening_cost l + (most_of l 16 + 1)
 
--- where damage is another count, the two numbers differ
+-- damage names a segment that a file may have, and a slot that a segment has; where it is another count, the two numbers differ
 abbrev pub TellsOtherCount : OpenFault → Type 0
-TellsOtherCount (Damaged segment why) = TellsOther (store.Damaged segment why)
+TellsOtherCount (Damaged segment why) = TellsOther (2 ^ 16) (store.Damaged segment why)
 TellsOtherCount Memory = Unit {0}
 TellsOtherCount Failed = Unit {0}
 TellsOtherCount (NotStore reason) = Unit {0}

@@ -1,18 +1,19 @@
 //! Several updates as one command.
 
-ghost use Rattle.std.specs.Prelude.{◌≡◌, ◌≢◌, ◌≤◌, Some, OnOk, IfOk, IfErr, IsErrOf, is_err, length, T};
+ghost use Rattle.std.specs.Prelude.{◌≡◌, ◌≢◌, ◌≤◌, ◌^◌, Some, OnOk, IfOk, IfErr, IsErrOf, is_err, length, T, ◌*◌};
 ghost use Rattle.std.specs.List.{list_all};
 ghost use Rattle.station.specs.View.{Told, Rose};
 ghost use Rattle.batch_intent.specs.Spelling.{fits_item};
 ghost use Rattle.header_gate.specs.declared.layout.TheConstants.{INTENT_VERSION};
 ghost use Rattle.map_model.specs.Image.{map_of};
-ghost use Rattle.pma_store.specs.Batching.{AppliesBatch, Batches, version_of};
-ghost use Rattle.pma_store.specs.Judging.{AreAllFound, counts_of, judged_of};
+ghost use Rattle.pma_store.specs.Batching.{AppliesBatch, Batches, done_by, version_of};
+ghost use Rattle.pma_store.specs.Judging.{AreAllFound, counts_of, edits_of, judged_of};
 ghost use Rattle.pma_store.specs.Looking.{TellsOther};
 ghost use Rattle.pma_store.specs.Store.{IsOpenOn, limit_of};
 
 use crate::answers::Batch;
 use crate::array::OpenArray;
+use crate::at_once::Tried;
 use crate::judging::Judged;
 use crate::store::Store;
 use batch_intent::{Intent, write_intent};
@@ -42,7 +43,7 @@ impl Store {
         ensures closed { self.new.closed ≡ is_err result }
         ensures failed { IsErrOf result StoreFault.Failed → Rose (S.view station.old).disk_faults (S.view station.new).disk_faults }
         ensures damaged { IfErr result (λ fault. Told (S.view station.old) → fault ≡ StoreFault.Failed) }
-        ensures counted { IfErr result TellsOther }
+        ensures counted { IfErr result (TellsOther (2 ^ limit_of self.old)) }
     {
         match self.apply_batch(station, intent) {
             Ok(done) => Ok(done),
@@ -70,7 +71,7 @@ impl Store {
 }
 
 impl OpenArray {
-    // Judges the items of an intent, and makes them if none meets a full store.
+    // Makes the items of an intent if none meets a full store: by one commit if they fit one, or else under the intent.
     fn apply_batch<S: Station>(
         &mut self,
         station: &mut S,
@@ -86,9 +87,10 @@ impl OpenArray {
             return Ok(Batch::NoBatch);
         }
         let most = upper(self.place.layout.height_limit());
-        match self.judge_items(station, intent, most, rows) {
-            Ok(Some(judged)) => self.run_batch(station, intent, &judged, rows),
-            Ok(None) => Ok(Batch::Full { most }),
+        match self.try_at_once(station, intent, most, rows) {
+            Ok(Tried::Done(judged)) => Ok(judged.done()),
+            Ok(Tried::Judged(judged)) => self.run_batch(station, intent, &judged, rows),
+            Ok(Tried::Full) => Ok(Batch::Full { most }),
             Err(fault) => Err(fault),
         }
     }
@@ -122,6 +124,21 @@ impl OpenArray {
                 Err(fault) => Err(fault),
             },
             Err(Failed) => Err(StoreFault::Failed),
+        }
+    }
+}
+
+impl Judged {
+    // The answer where all items were made by one commit, with two images for each that edits a segment.
+    fn done(&self) -> Batch
+        ensures { result ≡ done_by (counts_of self.now) (2 * edits_of self.now) }
+    {
+        Batch::Done {
+            stored: self.stored,
+            replaced: self.replaced,
+            removed: self.removed,
+            absent: self.absent,
+            charge: 2 * self.edits(),
         }
     }
 }

@@ -13,7 +13,6 @@ ghost use Rattle.cost_ledger.specs.Work.{IsWork};
 ghost use Rattle.pma_store.specs.Charging.{changes, charge_told, work_by};
 ghost use Rattle.pma_store.specs.Items.{IsAsFound, MakesItem, MakesItems};
 ghost use Rattle.pma_store.specs.Judging.{AreAllFound, found_at};
-ghost use Rattle.pma_store.specs.Looking.{TellsOther};
 ghost use Rattle.pma_store.specs.Spots.{FindsSpot};
 ghost use Rattle.pma_store.specs.Store.{IsStore, StandsOn};
 ghost use Rattle.pma_store.specs.Updating.{FitsFormat, update_of};
@@ -119,7 +118,6 @@ impl OpenArray {
         ensures spot { FindsSpot (update_of update.now) result self.old self.new rows.new (S.view station.old) (S.view station.new) }
         ensures store { IsStore self.new }
         ensures as_found { IfOk result (λ spot. IsAsFound found (is_ok spot.found)) }
-        ensures counted { IfErr result TellsOther }
     {
         match self.find_spot(station, update, rows) {
             Ok(spot) if is_as_found(spot, found) => Ok(spot),

@@ -1,9 +1,10 @@
 //! Whether the items of a batch have room, and what they would do: told before any of them is made.
 
-ghost use Rattle.std.specs.Prelude.{◌≡◌, ◌+◌, ◌^◌, ◌<◌, not, sum, true};
+ghost use Rattle.std.specs.Prelude.{◌≡◌, ◌+◌, ◌^◌, ◌<◌, ℕ, not, sum, length, slice_index_or, true, false, is_ok, IfSome};
+ghost use Rattle.std.specs.FinMap.{len};
 ghost use Rattle.density_rule.specs.Bounds.{upper_of};
-ghost use Rattle.pma_store.specs.Judging.{JudgesItems, counts_of, meets_by, records_by, counted_by, total};
-ghost use Rattle.pma_store.specs.Store.{StandsOn, limit_of};
+ghost use Rattle.map_model.specs.Store.{Map};
+ghost use Rattle.pma_store.specs.Judging.{AreFoundAt, counts_in, counts_of, edits_of, judged_of, meets_by, records_by, counted_by, total};
 ghost use Rattle.pma_store.specs.Updating.{update_of};
 
 use crate::array::OpenArray;
@@ -11,8 +12,6 @@ use crate::items::update_in;
 use crate::update::Update;
 use batch_intent::{Intent, MOST_ITEMS};
 use density_rule::Window;
-use segment::{Segment, StoreFault};
-use station::Station;
 
 /// The most items that a batch may have.
 pub(crate) const MOST: usize = MOST_ITEMS as usize;
@@ -28,43 +27,18 @@ pub(crate) struct Judged {
     pub(crate) absent: u32,
 }
 
-impl OpenArray {
-    /// What the items would do, or none where one of them would meet a full store of `most` records.
-    ///
-    /// The keys are looked for in the store as it is: no item changes another's key. What `rows` holds then is open.
-    pub(crate) fn judge_items<S: Station>(
-        &mut self,
-        station: &mut S,
-        intent: &Intent,
-        most: u32,
-        rows: &mut Segment,
-    ) -> Result<Option<Judged>, StoreFault>
-        requires on { StandsOn self.old (S.view station.old) }
-        requires most { most ≡ upper_of (limit_of self.old) }
-        ensures { JudgesItems intent.now result self.old self.new (S.view station.old) (S.view station.new) }
+impl Judged {
+    /// How many of the items edit a segment.
+    pub(crate) fn edits(&self) -> u64
+        ensures { result ≡ edits_of self.now }
     {
-        let mut records = self.records();
-        let mut judged = Judged {
-            found: [false; MOST],
-            stored: 0,
-            replaced: 0,
-            removed: 0,
-            absent: 0,
-        };
-        for i in 0..intent.len() {
-            let update = update_in(&intent.item(i));
-            let spot = self.find_spot(station, &update, rows)?;
-            let present = spot.found.is_ok();
-            if !count_item(&update, present, most, &mut records, &mut judged) {
-                return Ok(None);
-            }
-            judged.found[i as usize] = present;
-        }
-        Ok(Some(judged))
+        u64::from(self.stored) + u64::from(self.replaced) + u64::from(self.removed)
     }
+}
 
-    // The number of records.
-    fn records(&self) -> u32
+impl OpenArray {
+    /// The number of records.
+    pub(crate) fn records(&self) -> u32
         ensures { result ≡ sum self.now.tally.counts }
     {
         let root = Window {
@@ -73,6 +47,40 @@ impl OpenArray {
         };
         self.tally.count(root)
     }
+}
+
+/// What the items would do in a store of so many records, where their keys were looked for, or none where one of them would
+/// meet a full store of `most` records.
+///
+/// The keys were looked for in the store as it is: no item changes another's key.
+pub(crate) fn judge_items(
+    intent: &Intent,
+    found: &[Result<u32, u32>],
+    records: u32,
+    most: u32,
+) -> Option<Judged>
+    requires { length found.now ≡ 16 }
+    ensures judged { (hmax : ℕ) (m : Map) → most ≡ upper_of hmax → records ≡ len m → AreFoundAt found.now intent.now m → counts_in result ≡ judged_of hmax m intent.now }
+    ensures found { IfSome result (λ judged. (k : ℕ) → k < length intent.now → slice_index_or judged.found k false ≡ is_ok (slice_index_or found.now k (Err 0))) }
+    ensures total { IfSome result (λ judged. total judged ≡ length intent.now) }
+{
+    let mut records = records;
+    let mut judged = Judged {
+        found: [false; MOST],
+        stored: 0,
+        replaced: 0,
+        removed: 0,
+        absent: 0,
+    };
+    for i in 0..intent.len() {
+        let update = update_in(&intent.item(i));
+        let present = found[i as usize].is_ok();
+        if !count_item(&update, present, most, &mut records, &mut judged) {
+            return None;
+        }
+        judged.found[i as usize] = present;
+    }
+    Some(judged)
 }
 
 // Counts an item by whether its key is there, unless it meets a full store.

@@ -11,7 +11,7 @@ ghost use Rattle.map_model.specs.Store.{bind, unbind};
 ghost use Rattle.window_tally.specs.declared.Change.TheVariants.{Add, Take};
 ghost use Rattle.pma_store.specs.Batching.{Batches, charge_in, items_made, made_in, version_of};
 ghost use Rattle.pma_store.specs.Charging.{charge_told, put_changes};
-ghost use Rattle.pma_store.specs.Damaging.{IsMetFirst};
+ghost use Rattle.pma_store.specs.Damaging.{IsMetFirst, UpdatesAt, is_new};
 ghost use Rattle.pma_store.specs.Looking.{TellsOther, Gets, BeginsSweep, Checks, Probes};
 ghost use Rattle.pma_store.specs.Makes.{Puts, Removes};
 ghost use Rattle.pma_store.specs.Metered.{IsMetered, Notes};
@@ -125,8 +125,9 @@ impl Metered {
         ensures closed { self.new.store.closed ≡ is_err result }
         ensures failed { IsErrOf result StoreFault.Failed → Rose (S.view station.old).disk_faults (S.view station.new).disk_faults }
         ensures damaged { IfErr result (λ fault. Told (S.view station.old) → fault ≡ StoreFault.Failed) }
-        ensures counted { IfErr result TellsOther }
+        ensures counted { IfErr result (TellsOther (2 ^ limit_of self.old.store)) }
         ensures early { IfErr result (IsMetFirst Add self.old.store.tally (S.view station.old) (S.view station.new)) }
+        ensures at { UpdatesAt (bind key.now value.now) result (λ done. is_new done.0) (λ done. done.1) self.old.store self.new.store (S.view station.old) (S.view station.new) }
         ensures notes { Notes (bind key.now value.now ∷ []) result (λ done. 1) (λ done. charge_told self.new.store.tally.height (put_changes done.0) done.1) self.old self.new (S.view station.old) }
         ensures images { IfOk result (λ done. (S.view station.new).travel.written ≤ (S.view station.old).travel.written + 4101 * self.old.store.place.layout.format * charge_told self.new.store.tally.height (put_changes done.0) done.1) }
     {
@@ -155,8 +156,9 @@ impl Metered {
         ensures closed { self.new.store.closed ≡ is_err result }
         ensures failed { IsErrOf result StoreFault.Failed → Rose (S.view station.old).disk_faults (S.view station.new).disk_faults }
         ensures damaged { IfErr result (λ fault. Told (S.view station.old) → fault ≡ StoreFault.Failed) }
-        ensures counted { IfErr result TellsOther }
+        ensures counted { IfErr result (TellsOther (2 ^ limit_of self.old.store)) }
         ensures early { IfErr result (IsMetFirst Take self.old.store.tally (S.view station.old) (S.view station.new)) }
+        ensures at { UpdatesAt (unbind key.now) result (λ done. done.0) (λ done. done.1) self.old.store self.new.store (S.view station.old) (S.view station.new) }
         ensures notes { Notes (unbind key.now ∷ []) result (λ done. 1) (λ done. charge_told self.new.store.tally.height done.0 done.1) self.old self.new (S.view station.old) }
         ensures images { IfOk result (λ done. (S.view station.new).travel.written ≤ (S.view station.old).travel.written + 4101 * self.old.store.place.layout.format * charge_told self.new.store.tally.height done.0 done.1) }
     {
@@ -187,7 +189,7 @@ impl Metered {
         ensures closed { self.new.store.closed ≡ is_err result }
         ensures failed { IsErrOf result StoreFault.Failed → Rose (S.view station.old).disk_faults (S.view station.new).disk_faults }
         ensures damaged { IfErr result (λ fault. Told (S.view station.old) → fault ≡ StoreFault.Failed) }
-        ensures counted { IfErr result TellsOther }
+        ensures counted { IfErr result (TellsOther (2 ^ limit_of self.old.store)) }
         ensures notes { Notes (items_made (version_of self.old.store) (limit_of self.old.store) (map_of (S.view station.old).held) intent.now) result (made_in (length intent.now)) charge_in self.old self.new (S.view station.old) }
     {
         match self.store.batch(station, intent) {

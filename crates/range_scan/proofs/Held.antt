@@ -1,12 +1,12 @@
 -- Bytes that a page holds.
-use Rattle.std.proofs.Common.{◌≡◌, ◌≢◌, ℕ, ◌-◌, ◌*◌, ◌/◌, ◌≤◌, Bool, false, cond, List, [], ◌∷◌, T, length, take, replicate, Option, Some, None, refl, sym, ap, subst, ◌∙◌, arith, inl, inr, ne_eqb}
+use Rattle.std.proofs.Common.{◌≡◌, ◌≢◌, ℕ, ◌+◌, ◌-◌, ◌*◌, ◌/◌, ◌≤◌, Bool, false, cond, List, [], ◌∷◌, T, length, take, drop, replicate, Option, Some, None, refl, sym, ap, subst, ◌∙◌, arith, inl, inr, ne_eqb}
 use Rattle.std.specs.Prelude.{if◌then◌else◌}
 use Rattle.std.specs.List.{list_all}
 use Rattle.std.specs.declared.cmp.Ordering.{Ordering}
 use Rattle.std.specs.declared.cmp.Ordering.TheVariants.{Less, Equal, Greater}
 use Rattle.std.specs.Ordering.{is_eq}
 use Rattle.std.specs.FinMap.{find, slice_cmp-IsAntisymmetric, nat_cmp-IsAntisymmetric}
-use Rattle.std.proofs.lemmas.List.{length-replicate, length-take-le, take-replicate}
+use Rattle.std.proofs.lemmas.List.{drop-replicate, length-replicate, length-take-le, length-drop, take-replicate}
 use borrow.Author.Tests.{eq-eqb}
 use Rattle.station.specs.View.{View, Told, Rose}
 use Rattle.key_slot.specs.declared.sizes.TheConstants.{SEGMENT_SLOTS}
@@ -89,22 +89,28 @@ module _ (bytes : Bytes) (n size : ℕ) (zeros : bytes ≡ replicate n 0) (withi
 
 -- A page whose bytes were made zero.
 
-same_format : (a b : Bytes) → length a ≡ length b → HasFormat b → HasFormat a
+pub same_format : (a b : Bytes) → length a ≡ length b → HasFormat b → HasFormat a
 same_format a b same (inl size) = inl (same ∙ size)
 same_format a b same (inr size) = inr (same ∙ size)
 
-module _ (old new : Bytes) (size n : ℕ) (zeros : new ≡ replicate n 0) (whole : length old ≡ n) (within : size ≤ length old) (format : HasFormat (take size old)) where
-  one_size : length (take size new) ≡ length (take size old)
-  one_size = front_size new n size zeros (omega (arith, whole, within)) ∙ sym (length-take-le size old within)
+module _ (old new : Bytes) (start size n : ℕ) (zeros : new ≡ replicate n 0) (whole : length old ≡ n) (within : start + size ≤ length old) (format : HasFormat (take size (drop start old))) where
+  zeros_behind : drop start new ≡ replicate (n - start) 0
+  zeros_behind = ap (drop start) zeros ∙ drop-replicate start n 0
 
-  cleared_format : HasFormat (take size new)
-  cleared_format = same_format (take size new) (take size old) one_size format
+  one_size : length (take size (drop start new)) ≡ length (take size (drop start old))
+  one_size = front_size (drop start new) (n - start) size zeros_behind (omega (arith, whole, within)) ∙ sym (length-take-le size (drop start old) (omega (arith, within, length-drop start old)))
 
-  pub cleared_judged : IsJudged 0 (take size new)
-  cleared_judged = front_judged new n size zeros (omega (arith, whole, within)) cleared_format
+  cleared_format : HasFormat (take size (drop start new))
+  cleared_format = same_format (take size (drop start new)) (take size (drop start old)) one_size format
 
-  pub cleared_page : page_of (take size new) ≡ record { format = format_of (take size old); rows = [] }
-  cleared_page = λ i. record { format = one_size i / segment_length narrow; rows = front_rows new n size zeros (omega (arith, whole, within)) cleared_format i }
+  pub cleared_judged : IsJudged 0 (take size (drop start new))
+  cleared_judged = front_judged (drop start new) (n - start) size zeros_behind (omega (arith, whole, within)) cleared_format
+
+  pub cleared_rows : segment_of (format_of (take size (drop start new))) (take size (drop start new)) ≡ []
+  cleared_rows = front_rows (drop start new) (n - start) size zeros_behind (omega (arith, whole, within)) cleared_format
+
+  pub cleared_same : format_of (take size (drop start new)) ≡ format_of (take size (drop start old))
+  cleared_same = λ i. one_size i / segment_length narrow
 
 module _ (layout : Layout) (format : IsFormat layout.hmax layout.format) (new : Bytes) (size n : ℕ) (zeros : new ≡ replicate n 0) (within : size ≤ n) (size_is : size ≡ segment_size layout) where
   none_format : HasFormat (take size new)
@@ -113,10 +119,10 @@ module _ (layout : Layout) (format : IsFormat layout.hmax layout.format) (new : 
   pub none_judged : IsJudged 0 (take size new)
   none_judged = front_judged new n size zeros within none_format
 
-  pub none_rows : (page_of (take size new)).rows ≡ []
+  pub none_rows : segment_of (format_of (take size new)) (take size new) ≡ []
   none_rows = front_rows new n size zeros within none_format
 
-  pub none_is : (page_of (take size new)).format ≡ layout.format
+  pub none_is : format_of (take size new) ≡ layout.format
   none_is = format_is layout.format (take size new) (front_size new n size zeros within ∙ size_is)
 
 -- Faults.
@@ -126,8 +132,8 @@ module _ (layout : Layout) (region segment kept : ℕ) (a b : View) where
   pub found_bad : (fault : RegionFault) → IsBadSlot layout region segment a b fault → IsFoundDamaged layout region segment kept (fault_of fault) a b
   found_bad Failed bad = record { damage = λ told i why is. absurd cc; own = tt; failed = λ is. bad }
   found_bad (NotSegment i slot) bad = record {
-    damage = λ told j why is. ap (λ (first : Option ℕ). damage_by first (length (segment_of layout.format (page_in layout region a.held segment))) kept) (bad.1 told) ∙ cc;
-    own = bad.0;
+    damage = λ told j why is. ap (λ (first : Option ℕ). damage_by first (length (segment_of layout.format (page_in layout region a.held segment))) kept) (bad.2 told) ∙ cc;
+    own = (bad.0, bad.1);
     failed = λ is. absurd cc;
   }
   found_bad (OutOfOrder i) bad = absurd bad
@@ -158,13 +164,13 @@ module _ (layout : Layout) (region segment : ℕ) (last : Option Bytes) (a b : V
   pub bad_refused : (fault : RegionFault) → IsBadSlot layout region segment a b fault → fault ≢ Failed → Told a → page_fault layout.format segment last (page_in layout region a.held segment) ≡ Some fault
   bad_refused Failed bad other told = absurd (other refl)
   bad_refused (NotSegment i slot) bad other told =
-      ap (λ (first : Option ℕ). fault_by segment first (begins_above last (segment_of layout.format (page_in layout region a.held segment)))) (bad.1 told)
+      ap (λ (first : Option ℕ). fault_by segment first (begins_above last (segment_of layout.format (page_in layout region a.held segment)))) (bad.2 told)
       ∙ ap (λ (n : ℕ). Some (NotSegment n slot)) (sym bad.0)
   bad_refused (OutOfOrder i) bad other told = absurd bad
 
   pub bad_named : (fault : RegionFault) → IsBadSlot layout region segment a b fault → Names segment fault
   bad_named Failed bad = tt
-  bad_named (NotSegment i slot) bad = bad.0
+  bad_named (NotSegment i slot) bad = (bad.0, bad.1)
   bad_named (OutOfOrder i) bad = absurd bad
 
   pub bad_failed : (fault : RegionFault) → IsBadSlot layout region segment a b fault → fault ≡ Failed → Rose a.disk_faults b.disk_faults
@@ -193,11 +199,11 @@ found_fits f (r ∷ rows) key value fits is = by_order (found_fits f rows key va
         subst (λ (k : Bytes). T (is_record f (k, value))) tied (subst (λ (v : Bytes). T (is_record f (r.0, v))) one here)
 
 -- the bytes of a page that was made
-new_format : HasFormat (take 4096 (replicate 8192 0))
-new_format = inl (front_size (replicate 8192 0) 8192 4096 refl (omega arith))
+new_format : HasFormat (take 4096 (replicate 16384 0))
+new_format = inl (front_size (replicate 16384 0) 16384 4096 refl (omega arith))
 
-pub new_judged : IsJudged 0 (take 4096 (replicate 8192 0))
-new_judged = front_judged (replicate 8192 0) 8192 4096 refl (omega arith) new_format
+pub new_judged : IsJudged 0 (take 4096 (replicate 16384 0))
+new_judged = front_judged (replicate 16384 0) 16384 4096 refl (omega arith) new_format
 
-pub new_page : page_of (take 4096 (replicate 8192 0)) ≡ record { format = 1; rows = [] }
-new_page = λ i. record { format = front_size (replicate 8192 0) 8192 4096 refl (omega arith) i / segment_length narrow; rows = front_rows (replicate 8192 0) 8192 4096 refl (omega arith) new_format i }
+pub new_page : page_of (take 4096 (replicate 16384 0)) [] ≡ record { format = 1; rows = []; along = [] }
+new_page = λ i. record { format = front_size (replicate 16384 0) 16384 4096 refl (omega arith) i / segment_length narrow; rows = front_rows (replicate 16384 0) 16384 4096 refl (omega arith) new_format i; along = [] }

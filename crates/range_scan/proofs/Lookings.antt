@@ -1,7 +1,7 @@
 -- The records behind a key are those of a scan that begins there, but for one that has the key.
 use Rattle.std.proofs.Common.{◌≡◌, ℕ, zero, suc, ◌+◌, Bool, true, false, cond, not, ◌&&◌, List, [], ◌∷◌, ◌++◌, ◌-◌, ◌≤◌, ◌<◌, ◌^◌, T, length, get_or, take, drop, Option, Some, None, refl, sym, ◌∙◌, ap, subst, inl, inr, arith}
 use mathlib.Core.Bool.{true≢false}
-use Rattle.std.specs.Prelude.{slice_get, is_some, IfOk, Result, Ok, Err}
+use Rattle.std.specs.Prelude.{slice_get, is_some}
 use Rattle.std.specs.Option.{option_map}
 use Rattle.std.specs.declared.cmp.Ordering.{Ordering}
 use Rattle.std.specs.declared.cmp.Ordering.TheVariants.{Less, Equal, Greater}
@@ -9,11 +9,11 @@ use Rattle.std.specs.Ordering.{is_lt, is_gt, is_eq, ordering_reverse}
 use Rattle.std.specs.Cmp.{IsTotalOrder, alike_right}
 use Rattle.std.specs.Cmp.Lexicographic.{nat_list_cmp_total}
 use Rattle.std.specs.FinMap.{is_sorted, entries, entries_sorted}
-use Rattle.std.specs.FinMap.Entries.{below_all, where_key, is_sorted-where_key}
+use Rattle.std.specs.FinMap.Entries.{below_all, where_key}
 use Rattle.key_slot.specs.Record.{Bytes, Record, key_cmp, IsAscending}
 use Rattle.key_slot.proofs.Truth.{first, second, passed}
-use Rattle.map_model.specs.Scan.{is_below, is_from, is_within, scanned}
-use Rattle.map_model.specs.Cursors.{is_ahead, first_ahead}
+use Rattle.map_model.specs.Scan.{is_below, is_from, is_within}
+use Rattle.map_model.specs.Cursors.{is_ahead}
 use Rattle.range_scan.specs.Seeking.{later, is_at, stands_at, PlacedPast, first_below}
 use Rattle.range_scan.specs.Seeking.{NoneAhead}
 use Rattle.segment.specs.Rows.{key_at}

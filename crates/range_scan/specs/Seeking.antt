@@ -46,6 +46,8 @@ pub record ReadsNear {A : Type 0} (start : Option Bytes) (k : KeptRegion) (resul
   pub travel : b.travel ≡ after_walk k.layout k.region from to a.travel
   pub some : from < to
   pub two : to ≤ from + 2
+  -- by one call each
+  pub calls : b.calls ≤ a.calls + (to - from)
   -- they are segments of the store, so that in one of height 0 it is one
   pub within : to ≤ 2 ^ k.height
   -- the first is that to which the bound belongs

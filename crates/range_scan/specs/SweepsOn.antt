@@ -10,8 +10,9 @@ use Rattle.segment.specs.declared.fault.StoreFault.{StoreFault}
 use Rattle.segment.specs.declared.fault.StoreFault.TheVariants.{Failed}
 use Rattle.range_scan.specs.Bounds.{are_before, is_void}
 use Rattle.range_scan.specs.Faults.{IsDamageAt}
-use Rattle.range_scan.specs.SweepView.{SweepView, IsSweep, GoesOn}
+use Rattle.range_scan.specs.SweepView.{SweepView, IsSweep, GoesOn, judged}
 use Rattle.range_scan.specs.Sweeping.{IsSweeping, BeginsThere, between}
+use Rattle.range_scan.specs.SweepRuns.{ReadsRun}
 use Rattle.range_scan.specs.Walk.{after_walk}
 
 -- It read none or some of the next segments, and answered a record or none.
@@ -23,17 +24,21 @@ pub record SweepsOn {A : Type 0} (result : Result A StoreFault) (s t : SweepView
   pub faulted : t.faulted ≡ is_err result
   pub steps : Steps Same a b
   pub reads : b.travel ≡ after_walk s.reader.layout s.reader.region s.reader.next t.reader.next a.travel
-  -- it reads another segment only where those before it have no record that isn't below the lower bound
-  pub needed : Told a → T (are_before s.low (between s.reader.next (t.reader.next - 1) (cut s.tally.counts (entries (map_of a.held)))))
+  -- at most one call is made for each segment that is read
+  pub calls : b.calls ≤ a.calls + (t.reader.next - s.reader.next)
+  -- it goes on to another segment only where those before it have no record that isn't below the lower bound
+  pub needed : Told a → T (are_before s.low (between (judged s) (judged t - 1) (cut s.tally.counts (entries (map_of a.held)))))
+  -- it reads only where it judged all that it read before, and then a run
+  pub runs : s.reader.next < t.reader.next → ReadsRun s t
   -- where the scan begins in its first segment, it reads at most two besides one for each four records that it answered
   pub few : Told a → BeginsThere s (entries (map_of a.held)) → t.reader.next - s.first ≤ t.given / 4 + 2
-  -- it reads none while records are kept, nor where the bounds leave no room
+  -- it goes to none while records are kept, nor where the bounds leave no room
   pub idle : 0 < length s.kept → t.reader ≡ s.reader
   pub void : is_void s.low s.high ≡ true → t.reader ≡ s.reader
 
--- Why it stopped: at the segment that it read last.
+-- Why it stopped: at the segment that it judged last.
 pub record StopsSweep (fault : StoreFault) (s t : SweepView) (a b : View) : Type 0 where
   -- where bytes are told only the disk stops it
   pub damaged : Told a → fault ≡ Failed
-  pub causes : IsDamageAt (t.reader.next - 1) s.tally.counts fault
+  pub causes : IsDamageAt (judged t - 1) s.tally.counts fault
   pub failed : fault ≡ Failed → Rose a.disk_faults b.disk_faults

@@ -5,13 +5,12 @@ use Rattle.header_gate.specs.declared.layout.Layout.{Layout}
 use Rattle.header_gate.specs.Header.{layout_in, live_copy, number, IsGatePlace}
 use Rattle.header_gate.specs.Places.{height_limit, copy_place}
 use Rattle.header_gate.proofs.NumberLaws.{number_same}
-use Rattle.map_model.specs.Store.{Map, Update}
+use Rattle.map_model.specs.Store.{Map}
 use Rattle.map_model.specs.Items.{map_after_items, AreAdmitted}
 use Rattle.map_model.specs.Image.{Represents, slot_format}
 use Rattle.redo_journal.specs.Commit.{IsJournalPlace, IsRegionPlace}
-use Rattle.batch_intent.specs.Gate.{intent_area}
 use Rattle.batch_intent.specs.Means.{Means, pending, KeepsIntent, IsApart}
-use Rattle.batch_intent.specs.Spelling.{Spells, items_in}
+use Rattle.batch_intent.specs.Spelling.{items_in}
 use Rattle.batch_intent.proofs.Meanings.{update_keeps, pending_kept, area_kept, spells_kept}
 use Rattle.recovery.specs.Restores.{Opens, Restores}
 use Rattle.recovery.proofs.Bringing.{opens_restored}
@@ -28,14 +27,12 @@ module _ (old new : List ℕ) (keeps : KeepsIntent old new) where
   pub means_kept : (m : Map) (height : ℕ) → ((base : Map) → Represents old base height → Represents new base height) → Means old m height → Means new m height
   means_kept m height represents means = record {
     base = means.base;
+    items = means.items;
     represents = represents means.base means.represents;
-    form = λ some.
-        let before = means.form (sym (pending_kept old new keeps) ∙ some) in
-        subst (λ (us : List Update). Spells (slot_format new) us (intent_area new)) (sym (items_same old new keeps)) (spells_kept old new keeps (pending old) before);
-    admitted =
-        subst (λ (us : List Update). AreAdmitted (height_limit (layout_in new)) means.base us) (sym (items_same old new keeps))
-        (subst (λ (l : Layout). AreAdmitted (height_limit l) means.base (pending old)) (sym keeps.layout_is) means.admitted);
-    map_is = (λ t. map_after_items (height_limit (keeps.layout_is t)) means.base (items_same old new keeps t)) ∙ means.map_is;
+    idle = λ none. means.idle (sym (pending_kept old new keeps) ∙ none);
+    form = λ some. spells_kept old new keeps means.items (means.form (sym (pending_kept old new keeps) ∙ some));
+    admitted = subst (λ (l : Layout). AreAdmitted (height_limit l) means.base means.items) (sym keeps.layout_is) means.admitted;
+    map_is = ap (λ (l : Layout). map_after_items (height_limit l) means.base means.items) keeps.layout_is ∙ means.map_is;
   }
 
 -- An opening.

@@ -18,6 +18,7 @@ use Rattle.header_gate.specs.Reasons.{or_else, header_reason, IsSoundHeader}
 use Rattle.header_gate.proofs.Soundness.{none_of_sound}
 use Rattle.map_model.specs.Store.{Map}
 use Rattle.map_model.specs.Image.{height_of}
+use Rattle.map_model.proofs.Reasonings.{represents_of_none}
 use Rattle.map_model.specs.Reasons.{reason_of}
 use Rattle.map_model.specs.Repairing.{repair as repair_of}
 use Rattle.batch_intent.specs.Means.{Means, opening_reason}
@@ -245,7 +246,7 @@ module _ (result : Result (Unit {0}) OpenFault) (x : Unit {0}) (head : Header) (
   balanced told rest =
       balanced_as mid.tally.height mid.tally.counts a.held b.held
       (array_now mid.place.layout mid.place.region mid.tally.height mid.tally.counts b.held (back.back.stands b.held (inl (told_on back.steps.frame told, refl))))
-      (back.array told) (height_at told) (rest.balanced (file_none a.held (back.sound told)))
+      (back.array told) (height_at told) (rest.balanced (height_of a.held, represents_of_none a.held (file_none a.held (back.sound told))))
 
   steps_at : Steps Opens a c
   steps_at = andthen back.steps repairs.steps (λ d i left step. opens_restored d i step)

@@ -1,21 +1,22 @@
 -- What comes of the reading of a file, by where it ends.
-use Rattle.std.proofs.Common.{◌≡◌, inl, ℕ, ◌+◌, ◌*◌, ◌^◌, ◌≤◌, List, Option, Some, None, Ok, Err, refl, sym, ◌∙◌, ap, subst, arith}
+use Rattle.std.proofs.Common.{◌≡◌, inl, Bool, true, false, ℕ, ◌+◌, ◌*◌, ◌^◌, ◌≤◌, List, Option, Some, None, Ok, Err, refl, sym, ◌∙◌, ap, subst, arith}
+use Rattle.std.specs.Prelude.{if◌then◌else◌}
 use Rattle.station.specs.Bytes.{Same}
 use Rattle.station.specs.View.{View, Lawful, Told, NothingPending}
 use Rattle.station.specs.Steps.{Steps}
 use Rattle.station.proofs.Composition.{same_on, each_held, nothing_on, told_on, told_back}
 use Rattle.header_gate.specs.declared.header.Header.{Header}
 use Rattle.header_gate.specs.declared.reason.Reason.{Reason}
-use Rattle.header_gate.specs.Header.{gate}
+use Rattle.header_gate.specs.Header.{gate, layout_in}
 use Rattle.header_gate.specs.Places.{segment_size}
-use Rattle.map_model.specs.Image.{array_of}
+use Rattle.map_model.specs.Image.{array_of, height_of}
 use Rattle.map_model.specs.Reasons.{reason_of}
 use Rattle.batch_intent.specs.Means.{opening_reason}
 use Rattle.redo_journal.specs.declared.place.Place.{Place}
 use Rattle.segment_frames.specs.Standing.{StandsFor}
 use Rattle.veb_index.specs.View.{IndexView}
 use Rattle.window_tally.specs.View.{TallyView}
-use Rattle.recovery.specs.Costs.{replay_cost, back_reads}
+use Rattle.recovery.specs.Costs.{replay_cost, back_reads, replay_calls, back_calls}
 use Rattle.recovery.specs.Faults.{IsEarly, IsNoDamage, IsRegionFault, IsIntentFault, IsReadFault}
 use Rattle.recovery.specs.Intents.{intent_of, intent_reason, intent_reads, region_reads, IsIntentFor}
 use Rattle.recovery.specs.Opening.{Awaits, IsReadBack, ReadsBack}
@@ -27,6 +28,7 @@ use Rattle.recovery.specs.declared.parts.Parts.{Parts}
 use Rattle.recovery.proofs.Bringing.{leaves_on}
 use Rattle.recovery.proofs.Intents.{by_file, by_intent, waits_kept}
 use Rattle.recovery.proofs.Openings.{same_leaves}
+use Rattle.batch_intent.specs.Gate.{has_intent}
 
 -- what is known of parts and file stays where nothing is written
 pub still_back : {place : Place} {tally : TallyView} {index : IndexView} {journal : ℕ} (b c : View) → Lawful b → Lawful c → Steps Same b c → IsReadBack place tally index journal b → IsReadBack place tally index journal c
@@ -63,7 +65,8 @@ intent_read (Damaged segment why) is = is
 
 module _ (head : Header) (old mid : Parts) (a b : View) (awaits : Awaits head old a) (steps : Steps Restores a b) (place : mid.place ≡ old.place)
     (kept : Told a → gate a.held ≡ 0 → LeavesFile a b) (read : Told a → gate a.held ≡ 0 → b.travel.read ≤ a.travel.read + segment_size old.place.layout * 2 ^ head.height)
-    (cost : b.travel.written ≤ a.travel.written + replay_cost old.place.layout) where
+    (cost : b.travel.written ≤ a.travel.written + replay_cost old.place.layout)
+    (calls : b.calls ≤ a.calls + (replay_calls old.place.layout + 2 ^ head.height)) (few : Told a → gate a.held ≡ 0 → b.calls ≤ a.calls + 2 ^ head.height) where
   region_is : Told a → segment_size old.place.layout * 2 ^ head.height ≡ region_reads a.held
   region_is told t = segment_size (sym (awaits.header_is told).layout_is t) * 2 ^ sym (awaits.header_is told).height_is t
 
@@ -85,6 +88,8 @@ module _ (head : Header) (old mid : Parts) (a b : View) (awaits : Awaits head ol
     kept = kept;
     one_pass = λ told even. omega (arith, read told even, region_is told);
     cost = cost;
+    calls = omega (arith, calls);
+    calls_even = λ told even. omega (arith, few told even, ap (λ (h : ℕ). 2 ^ h) (awaits.header_is told).height_is);
     damaged = λ told. region_no_damage e cause;
     causes = region_read e cause;
   }
@@ -92,7 +97,8 @@ module _ (head : Header) (old mid : Parts) (a b : View) (awaits : Awaits head ol
   -- The intent.
 
   module _ (c : View) (law_b : Lawful b) (law_c : Lawful c) (bc : Steps Same b c) (back : IsReadBack mid.place mid.tally mid.index mid.frames.journal b) (sound : Told a → reason_of a.held ≡ None)
-      (arrays : Told a → array_of b.held ≡ array_of a.held) (written : c.travel.written ≡ b.travel.written) (reads : Told b → c.travel.read ≤ b.travel.read + intent_reads b.held) where
+      (arrays : Told a → array_of b.held ≡ array_of a.held) (written : c.travel.written ≡ b.travel.written) (reads : Told b → c.travel.read ≤ b.travel.read + intent_reads b.held)
+      (same_height : mid.tally.height ≡ head.height) (asks : c.calls ≤ b.calls + (2 + 2 ^ mid.tally.height)) (asks_one : Told b → has_intent mid.place.layout b.held ≡ false → c.calls ≤ b.calls + 1) where
     answered : Told a → (answer : Option Reason) → intent_reason b.held ≡ answer → opening_reason a.held ≡ answer
     answered told answer is = by_intent a.held b.held (steps.held told) (arrays told) answer (sound told) is
 
@@ -105,6 +111,23 @@ module _ (head : Header) (old mid : Parts) (a b : View) (awaits : Awaits head ol
 
     cost_in_all : c.travel.written ≤ a.travel.written + replay_cost old.place.layout
     cost_in_all = omega (arith, cost, written)
+
+    calls_in_all : c.calls ≤ a.calls + (replay_calls old.place.layout + 2 ^ head.height + (2 + 2 ^ head.height))
+    calls_in_all = omega (arith, calls, asks, ap (λ (h : ℕ). 2 ^ h) same_height)
+
+    calls_even : Told a → gate a.held ≡ 0 → c.calls ≤ a.calls + back_calls a.held
+    calls_even told even =
+        let head_is = awaits.header_is told in
+        let height : 2 ^ head.height ≡ 2 ^ height_of a.held = ap (λ (h : ℕ). 2 ^ h) (sym head_is.height_is) in
+        let same : has_intent mid.place.layout b.held ≡ has_intent (layout_in a.held) a.held = (λ t. has_intent ((ap (λ (p : Place). p.layout) place ∙ sym head_is.layout_is) t) (steps_none told even t)) in
+        omega (arith, few told even, height, by_gate (has_intent (layout_in a.held) a.held) (λ no. asks_one (told_on steps.frame told) (same ∙ no)) (omega (arith, asks, ap (λ (h : ℕ). 2 ^ h) same_height, height)))
+      where
+        steps_none : Told a → gate a.held ≡ 0 → b.held ≡ a.held
+        steps_none told even = (kept told even).steps.held told
+
+        by_gate : (odd : Bool) → (odd ≡ false → c.calls ≤ b.calls + 1) → c.calls ≤ b.calls + (2 + 2 ^ height_of a.held) → c.calls ≤ b.calls + (if odd then 2 + 2 ^ height_of a.held else 1)
+        by_gate true one all = all
+        by_gate false one all = one refl
 
     pub no_intent : (e : OpenFault) → IsIntentFault e → ((r : Reason) → e ≡ NotStore r → Told b → intent_reason b.held ≡ Some r) → (Told b → IsNoDamage e) → ReadsBack head (Err e) old mid a c
     no_intent e cause refused fine = record {
@@ -122,6 +145,8 @@ module _ (head : Header) (old mid : Parts) (a b : View) (awaits : Awaits head ol
       kept = leaves;
       one_pass = one_pass;
       cost = cost_in_all;
+      calls = calls_in_all;
+      calls_even = calls_even;
       damaged = λ told. fine (told_on steps.frame told);
       causes = intent_read e cause;
     }
@@ -143,6 +168,8 @@ module _ (head : Header) (old mid : Parts) (a b : View) (awaits : Awaits head ol
       kept = leaves;
       one_pass = one_pass;
       cost = cost_in_all;
+      calls = calls_in_all;
+      calls_even = calls_even;
       damaged = tt;
       causes = tt;
     })

@@ -15,7 +15,7 @@ use Rattle.map_model.specs.Image.{height_of, map_of}
 use Rattle.segment.specs.Rows.{value_of}
 use Rattle.batch_intent.specs.declared.places.TheConstants.{INTENT_SIZE}
 use Rattle.batch_intent.specs.Spelling.{fits_item, intent_bytes}
-use Rattle.batch_intent.specs.Gate.{form_reason}
+use Rattle.batch_intent.specs.Gate.{form_reason, has_intent}
 use Rattle.batch_intent.specs.Means.{has_pending, pending, fullness_reason}
 
 -- the intent that is to be applied, if there is one
@@ -56,6 +56,10 @@ look_reads image = if may_meet (height_limit (layout_in image)) (len (map_of ima
 -- look.
 abbrev pub intent_reads : List ℕ → ℕ
 intent_reads image = if nat_lt (layout_in image).version INTENT_VERSION then 0 else (if has_pending image then 1 + INTENT_SIZE + look_reads image else 1)
+
+-- the calls that read it: one for the gate, and where this is odd one for the items and those of a look
+abbrev pub intent_calls : List ℕ → ℕ
+intent_calls image = if has_intent (layout_in image) image then 2 + 2 ^ height_of image else 1
 
 -- Whether an item meets a full store.
 

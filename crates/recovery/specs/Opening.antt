@@ -1,5 +1,5 @@
 -- What an opening comes to, and what is known of parts and file between its steps.
-use Rattle.std.specs.Prelude.{◌≡◌, ◌≢◌, ◌⊎◌, ℕ, ◌+◌, ◌≤◌, List, sum, Some, None, Result, IsOk, OnOk, IfErr, IsErrOf}
+use Rattle.std.specs.Prelude.{◌≡◌, ◌≢◌, ◌⊎◌, ℕ, ◌+◌, ◌^◌, ◌≤◌, List, sum, Some, None, Result, IsOk, OnOk, IfErr, IsErrOf}
 use Rattle.station.specs.View.{View, Told, EachHeld, NothingPending, Rose}
 use Rattle.station.specs.Steps.{Steps}
 use Rattle.density_rule.specs.Bounds.{IsInBounds}
@@ -13,12 +13,13 @@ use Rattle.map_model.specs.Store.{Map}
 use Rattle.map_model.specs.Image.{array_of, height_of}
 use Rattle.map_model.specs.Repairing.{repair as repair_of}
 use Rattle.redo_journal.specs.declared.place.Place.{Place}
+use Rattle.segment_frames.specs.Lists.{most_segments}
 use Rattle.segment_frames.specs.Standing.{StandsFor}
 use Rattle.veb_index.specs.View.{IndexView}
 use Rattle.window_tally.specs.View.{TallyView}
 use Rattle.batch_intent.specs.Means.{Means, opening_reason}
 use Rattle.redistribute.specs.Rearranged.{Rearranges}
-use Rattle.recovery.specs.Costs.{replay_cost, repair_cost, back_reads}
+use Rattle.recovery.specs.Costs.{replay_cost, repair_cost, replay_calls, repair_calls, back_reads, back_calls}
 use Rattle.recovery.specs.Faults.{IsEarly, IsNoDamage, IsReadFault, IsRepairFault}
 use Rattle.recovery.specs.Intents.{intent_of, IsIntentFor}
 use Rattle.recovery.specs.Parts.{AreParts, Fits, AgreesWith, HasFences, HasHeader}
@@ -101,6 +102,8 @@ pub record ReadsBack (head : Header) (result : Result (Unit {0}) OpenFault) (old
   pub kept : Told a → gate a.held ≡ 0 → LeavesFile a b
   pub one_pass : Told a → gate a.held ≡ 0 → b.travel.read ≤ a.travel.read + back_reads a.held
   pub cost : b.travel.written ≤ a.travel.written + replay_cost old.place.layout
+  pub calls : b.calls ≤ a.calls + (replay_calls old.place.layout + 2 ^ head.height + (2 + 2 ^ head.height))
+  pub calls_even : Told a → gate a.held ≡ 0 → b.calls ≤ a.calls + back_calls a.held
   pub damaged : IfErr result (λ e. Told a → IsNoDamage e)
   pub causes : IfErr result IsReadFault
 
@@ -114,5 +117,6 @@ pub record Repairs (result : Result (Unit {0}) OpenFault) (old new : Parts) (a b
   pub intent : new.intent ≡ old.intent
   pub steps : Steps (Rearranges old.place) a b
   pub cost : b.travel.written ≤ a.travel.written + repair_cost old.place.layout.format old.tally.height
+  pub calls : b.calls ≤ a.calls + repair_calls (most_segments old.place.layout) old.tally.height
   pub damaged : IfErr result (λ e. Told a → e ≡ Failed)
   pub causes : IfErr result IsRepairFault

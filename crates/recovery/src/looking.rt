@@ -36,6 +36,7 @@ pub(crate) fn find_keys<S: Station>(
     ensures steps { Steps Same (S.view station.old) (S.view station.new) }
     ensures unwritten { (S.view station.new).travel.written ≡ (S.view station.old).travel.written }
     ensures reads { (S.view station.new).travel.read ≤ (S.view station.old).travel.read + segment_size parts.now.place.layout * 2 ^ parts.now.tally.height }
+    ensures calls { (S.view station.new).calls ≤ (S.view station.old).calls + 2 ^ parts.now.tally.height }
     ensures damaged { IfErr result (λ fault. Told (S.view station.old) → fault ≡ StoreFault.Failed) }
     ensures causes { IfErr result (λ fault. IsRepairFault (repair_fault fault)) }
     ensures failed { IsErrOf result StoreFault.Failed → Rose (S.view station.old).disk_faults (S.view station.new).disk_faults }
@@ -72,6 +73,7 @@ fn look_in<S: Station>(
     ensures steps { Steps Same (S.view station.old) (S.view station.new) }
     ensures unwritten { (S.view station.new).travel.written ≡ (S.view station.old).travel.written }
     ensures reads_one { (S.view station.new).travel.read ≤ (S.view station.old).travel.read + segment_size parts.now.place.layout }
+    ensures calls { (S.view station.new).calls ≤ (S.view station.old).calls + 1 }
     ensures damaged { IfErr result (λ fault. Told (S.view station.old) → fault ≡ StoreFault.Failed) }
     ensures causes { IfErr result (λ fault. IsRepairFault (repair_fault fault)) }
     ensures failed { IsErrOf result StoreFault.Failed → Rose (S.view station.old).disk_faults (S.view station.new).disk_faults }

@@ -28,9 +28,11 @@ pub record SetsFences {T : Type 0} (result : Result T StoreFault) (low count : �
   pub agree : OnOk result (Told a → (i : ℕ) → i < count → 0 < low + i → g (low + i) ≡ key_at (segment_at (array_of a.held) (low + i)) 0)
   pub others : (i : ℕ) → (i < low) ⊎ (low + count ≤ i) → g i ≡ f i
 
--- at most so many bytes were read into frames, whose room stays; none was written or changed
-pub record ReadsOnly (most : ℕ) (f g : Batch) (a b : View) : Type 0 where
+-- at most so many bytes were read into frames, whose room stays, in at most so many pieces, each by one call; none was written or
+-- changed
+pub record ReadsOnly (most pieces : ℕ) (f g : Batch) (a b : View) : Type 0 where
   pub steps : Steps Same a b
   pub unwritten : b.travel.written ≡ a.travel.written
   pub reads : b.travel.read ≤ a.travel.read + most
+  pub calls : b.calls ≤ a.calls + pieces
   pub journal : g.journal ≡ f.journal

@@ -2,7 +2,7 @@
 use Rattle.std.specs.Prelude.{◌≡◌, ℕ, ◌+◌, ◌^◌, ◌<◌, ◌≤◌, List, length, sum, All, Result, OnOk}
 use Rattle.station.specs.View.{View, Told, EachHeld, NothingPending}
 use Rattle.station.specs.Steps.{Steps}
-use Rattle.density_rule.specs.declared.TheConstants.{SEGMENT_SLOTS}
+use Rattle.density_rule.specs.declared.TheConstants.{SEGMENT_RECORDS}
 use Rattle.header_gate.specs.Places.{IsLayout, file_length, height_limit}
 use Rattle.map_model.specs.Array.{Array}
 use Rattle.map_model.specs.Image.{array_of}
@@ -23,7 +23,7 @@ pub record IsPlaceOn (place : Place) (frames : Batch) (v : View) : Type 0 where
 -- a window that is to be spread: the segments from the first on have these counts, and the records that these come to
 pub record IsWindowFor (place : Place) (first : ℕ) (counts : List ℕ) (total : ℕ) (v : View) : Type 0 where
   pub some : 1 ≤ length counts
-  pub room : All (λ count. count ≤ SEGMENT_SLOTS) counts
+  pub room : All (λ count. count ≤ SEGMENT_RECORDS) counts
   pub inside : first + length counts ≤ 2 ^ height_limit place.layout
   pub records : total ≡ sum counts
   pub window : EachHeld (HasWindow place first counts) v

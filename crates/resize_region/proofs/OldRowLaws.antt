@@ -1,5 +1,5 @@
 -- The records of a region that is read segment after segment.
-use Rattle.std.proofs.Common.{◌≡◌, ℕ, ◌+◌, ◌^◌, ◌<◌, ◌≤◌, List, [], ◌∷◌, ◌++◌, append_assoc, slice_get, Some, length, drop, get_or, None, sym, ap, subst, ◌∙◌, arith}
+use Rattle.std.proofs.Common.{◌≡◌, ◌-◌, ℕ, ◌+◌, ◌^◌, ◌<◌, ◌≤◌, List, [], ◌∷◌, ◌++◌, append_assoc, slice_get, Some, length, drop, get_or, None, sym, ap, subst, ◌∙◌, arith}
 use Rattle.std.specs.Prelude.{Result, Ok, Err, IsErrOf, is_err}
 use Rattle.std.proofs.lemmas.Bool.{false≢true}
 use Rattle.std.specs.FinMap.{entries}
@@ -87,7 +87,8 @@ ahead_start segments r k none start same =
     ∙ ap (λ (n : ℕ). rows (drop n segments)) start ∙ ap (λ (n : ℕ). drop n (rows segments)) same
 
 -- A reading that goes on: some segments were read without a fault, and then others.
-module _ (place : Place) (t : TallyView) (r s u : OldRows) (a b c : View) (steps : Steps Same a b) (reads : b.travel ≡ after_walk place.layout place.region r.reader.next s.reader.next a.travel) (onward : r.reader.next ≤ s.reader.next) where
+module _ (place : Place) (t : TallyView) (r s u : OldRows) (a b c : View) (steps : Steps Same a b) (reads : b.travel ≡ after_walk place.layout place.region r.reader.next s.reader.next a.travel) (onward : r.reader.next ≤ s.reader.next)
+    (calls : b.calls ≤ a.calls + (s.reader.next - r.reader.next)) where
   pub walked_on : s.reader.next ≤ u.reader.next → c.travel ≡ after_walk place.layout place.region s.reader.next u.reader.next b.travel → c.travel ≡ after_walk place.layout place.region r.reader.next u.reader.next a.travel
   walked_on further last =
       last ∙ ap (after_walk place.layout place.region s.reader.next u.reader.next) reads ∙ walk_on place.layout place.region r.reader.next s.reader.next u.reader.next a.travel onward further
@@ -97,6 +98,7 @@ module _ (place : Place) (t : TallyView) (r s u : OldRows) (a b c : View) (steps
   reads_err {T = T} {U = U} result fault same last = subst (λ (x : Result U StoreFault). ReadsRows {T = U} place t x r u a c) (sym same) (record {
     steps = same_on steps last.steps;
     reads = walked_on last.onward last.reads;
+    calls = omega (arith, calls, last.calls, onward, last.onward);
     onward = omega (arith, onward, last.onward);
     upto = last.upto;
     damaged = λ told. last.damaged (told_on steps.frame told);
@@ -109,6 +111,7 @@ module _ (place : Place) (t : TallyView) (r s u : OldRows) (a b c : View) (steps
   reads_ok v w last = record {
     steps = same_on steps last.steps;
     reads = walked_on last.onward last.reads;
+    calls = omega (arith, calls, last.calls, onward, last.onward);
     onward = omega (arith, onward, last.onward);
     upto = last.upto;
     damaged = tt;
@@ -117,10 +120,11 @@ module _ (place : Place) (t : TallyView) (r s u : OldRows) (a b c : View) (steps
   }
 
 -- what was read without a fault
-pub reads_done : (place : Place) (t : TallyView) (r s : OldRows) (a b : View) → Steps Same a b → b.travel ≡ after_walk place.layout place.region r.reader.next s.reader.next a.travel → r.reader.next ≤ s.reader.next → s.reader.next ≤ 2 ^ t.height → ReadsRows {T = Unit {0}} place t (Ok tt) r s a b
-reads_done place t r s a b steps reads onward upto = record {
+pub reads_done : (place : Place) (t : TallyView) (r s : OldRows) (a b : View) → Steps Same a b → b.travel ≡ after_walk place.layout place.region r.reader.next s.reader.next a.travel → r.reader.next ≤ s.reader.next → b.calls ≤ a.calls + (s.reader.next - r.reader.next) → s.reader.next ≤ 2 ^ t.height → ReadsRows {T = Unit {0}} place t (Ok tt) r s a b
+reads_done place t r s a b steps reads onward calls upto = record {
   steps = steps;
   reads = reads;
+  calls = calls;
   onward = onward;
   upto = upto;
   damaged = tt;

@@ -23,7 +23,7 @@ use Rattle.window_tally.proofs.ViewLaws.{sum-few}
 use Rattle.resize_region.specs.OldRows.{IsDamageIn}
 use Rattle.resize_region.specs.Source.{Walks}
 use Rattle.resize_region.specs.Upgraded.{Upgrades, widened, upgraded_height}
-use Rattle.resize_region.specs.Widening.{SpreadsWide}
+use Rattle.resize_region.specs.Widening.{SpreadsWide, widen_calls}
 use Rattle.resize_region.proofs.OldRowLaws.{failed_is}
 
 pub upgraded_low : (l : Layout) (height : ℕ) → upgraded_height l height ≤ height_limit (widened l)
@@ -68,9 +68,9 @@ own_bounds place t image stands =
 
 -- an upgrade that failed
 pub spreads_err : (place after : Place) (t : TallyView) (a b : View) {U : Type 0} (result : Result U StoreFault) (fault : StoreFault) → result ≡ Err fault → Steps (Upgrades place (upgraded_height place.layout t.height)) a b → after ≡ place
-    → b.travel.written ≤ a.travel.written + (segment_size (widened place.layout) * 2 ^ upgraded_height place.layout t.height + 9) → ((n : ℕ) × (n ≤ 2 ^ t.height) × Walks place 0 n a.travel b.travel) → (Told a → fault ≡ Failed) → IsDamageIn place t a b fault → (fault ≡ Failed → Rose a.disk_faults b.disk_faults)
+    → b.travel.written ≤ a.travel.written + (segment_size (widened place.layout) * 2 ^ upgraded_height place.layout t.height + 9) → ((n : ℕ) × (n ≤ 2 ^ t.height) × Walks place 0 n a.travel b.travel) → b.calls ≤ a.calls + widen_calls place t.height → (Told a → fault ≡ Failed) → IsDamageIn place t a b fault → (fault ≡ Failed → Rose a.disk_faults b.disk_faults)
     → SpreadsWide {T = U} result place after t a b
-spreads_err place after t a b {U = U} result fault is steps kept cost reads damaged cause failed = subst (λ (x : Result U StoreFault). SpreadsWide {T = U} x place after t a b) (sym is) (record {
+spreads_err place after t a b {U = U} result fault is steps kept cost reads calls damaged cause failed = subst (λ (x : Result U StoreFault). SpreadsWide {T = U} x place after t a b) (sym is) (record {
   steps = steps;
   settled = tt;
   array = tt;
@@ -79,6 +79,7 @@ spreads_err place after t a b {U = U} result fault is steps kept cost reads dama
   place_kept = kept;
   cost = cost;
   reads = reads;
+  calls = calls;
   whole = tt;
   damaged = damaged;
   cause = cause;

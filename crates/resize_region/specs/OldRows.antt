@@ -47,6 +47,8 @@ IsDamageIn place t a b fault = (fault ≡ Failed) ⊎ ((i : ℕ) × (i < 2 ^ t.h
 pub record ReadsRows {T : Type 0} (place : Place) (t : TallyView) (result : Result T StoreFault) (r s : OldRows) (a b : View) : Type 0 where
   pub steps : Steps Same a b
   pub reads : b.travel ≡ after_walk place.layout place.region r.reader.next s.reader.next a.travel
+  -- each segment by one call
+  pub calls : b.calls ≤ a.calls + (s.reader.next - r.reader.next)
   pub onward : r.reader.next ≤ s.reader.next
   pub upto : s.reader.next ≤ 2 ^ t.height
   -- where bytes are told only the disk stops it

@@ -13,7 +13,7 @@ use Rattle.segment.specs.declared.fault.StoreFault.TheVariants.{Failed}
 use Rattle.segment_frames.specs.Lists.{most_segments}
 use Rattle.resize_region.specs.declared.source.Source.{Source}
 use Rattle.resize_region.specs.Shares.{HasShares, HasCounts, HasCause}
-use Rattle.resize_region.specs.Source.{HoldsAhead, read_upto}
+use Rattle.resize_region.specs.Source.{HasAhead, HoldsAhead, read_upto}
 
 -- a place of a file as far as which the station reaches, whose segments have these counts, and frames for its journal
 pub record IsReading (place : Place) (counts : List ℕ) (b : Batch) (v : View) : Type 0 where
@@ -24,6 +24,19 @@ pub record IsReading (place : Place) (counts : List ℕ) (b : Batch) (v : View) 
   pub shares : HasShares place.layout.format b
   pub inside : length counts ≤ 2 ^ height_limit place.layout
   pub stands : EachHeld (HasCounts place counts) v
+
+-- the reading stands before a segment, and there is room for one in the frames from this one on
+pub record IsBefore (place : Place) (from : ℕ) (counts : List ℕ) (b : Batch) (s : Source) (v : View) : Type 0 where
+  -- the file that is read
+  pub reading : IsReading place counts b v
+  -- the segments that were read ahead, by their counts
+  pub ahead : HasAhead place.layout.format from counts b s
+  -- they are those of the file
+  pub held : Told v → HoldsAhead place.layout.format (array_of v.held) b s
+  -- a frame is left for segments
+  pub first : from < most_segments place.layout
+  -- a segment is to come
+  pub more : s.next < length counts
 
 -- Some of the next segments were read, or none, whatever was answered.
 pub record ReadsOn {T : Type 0} (place : Place) (counts : List ℕ) (result : Result T StoreFault) (s t : Source) (f g : Batch) (a b : View) : Type 0 where

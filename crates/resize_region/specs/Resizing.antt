@@ -17,7 +17,8 @@ use Rattle.segment_frames.specs.Standing.{StandsFor}
 use Rattle.window_tally.specs.View.{TallyView}
 use Rattle.resize_region.specs.Resized.{Resizes}
 use Rattle.resize_region.specs.Shares.{HasCause}
-use Rattle.resize_region.specs.Source.{Walks}
+use Rattle.segment_frames.specs.Lists.{most_segments}
+use Rattle.resize_region.specs.Source.{Walks, copy_calls}
 
 -- a place and a tally that stand for a settled file as far as which the station reaches, and frames for its journal
 pub record CanResize (place : Place) (t : TallyView) (frames : Batch) (v : View) : Type 0 where
@@ -44,6 +45,8 @@ pub record ResizesTo {T : Type 0} (height : ℕ) (result : Result T StoreFault) 
   pub fences_agree : OnOk result (Told a → (i : ℕ) → i < 2 ^ height → 0 < i → fence i ≡ key_at (segment_at (array_of b.held) i) 0)
   pub cost : b.travel.written ≤ a.travel.written + (segment_size place.layout * 2 ^ height + 9)
   pub reads : (n : ℕ) × (n ≤ 2 ^ t.height) × Walks place 0 n a.travel b.travel
+  -- the calls of a copying, and those of a flip
+  pub calls : b.calls ≤ a.calls + (copy_calls (most_segments place.layout) (2 ^ t.height) (2 ^ height) + 4)
   -- where bytes are told only the disk stops it
   pub damaged : IfErr result (λ fault. Told a → fault ≡ Failed)
   pub cause : IfErr result (HasCause place.layout.format t.counts frames)

@@ -20,6 +20,8 @@ use Rattle.resize_region.specs.Aside.{HasWritten}
 use Rattle.resize_region.specs.OldRows.{IsDamageIn}
 use Rattle.resize_region.specs.Source.{Walks}
 use Rattle.resize_region.specs.Upgraded.{Upgrades, widened, in_wide, upgraded, upgraded_height}
+use Rattle.segment_frames.specs.Lists.{most_segments}
+use Rattle.segment_frames.specs.Parts.{parts}
 
 -- a store of format 1 on a station, frames for its journal, and so many segments of format 2 with room for its records
 pub record CanWiden (place : Place) (t : TallyView) (segments : ℕ) (frames : Batch) (v : View) : Type 0 where
@@ -45,6 +47,10 @@ pub record WritesWide {T : Type 0} (result : Result T StoreFault) (place : Place
   pub cause : IfErr result (IsDamageIn place t a b)
   pub failed : IsErrOf result Failed → Rose a.disk_faults b.disk_faults
 
+-- the calls of an upgrade at a height that isn't refused
+abbrev pub widen_calls : Place → ℕ → ℕ
+widen_calls place height = 2 ^ height + parts (most_segments (widened place.layout)) (2 ^ upgraded_height place.layout height) + 4
+
 -- What an upgrade comes to that isn't refused, whatever is answered.
 pub record SpreadsWide {T : Type 0} (result : Result T StoreFault) (place after : Place) (t : TallyView) (a b : View) : Type 0 where
   pub steps : Steps (Upgrades place (upgraded_height place.layout t.height)) a b
@@ -56,6 +62,8 @@ pub record SpreadsWide {T : Type 0} (result : Result T StoreFault) (place after 
   pub place_kept : OnErr result (after ≡ place)
   pub cost : b.travel.written ≤ a.travel.written + (segment_size (widened place.layout) * 2 ^ upgraded_height place.layout t.height + 9)
   pub reads : (n : ℕ) × (n ≤ 2 ^ t.height) × Walks place 0 n a.travel b.travel
+  -- one call for each old segment, those that write the new ones, and those of a flip
+  pub calls : b.calls ≤ a.calls + widen_calls place t.height
   pub whole : OnOk result (Walks place 0 (2 ^ t.height) a.travel b.travel)
   -- where bytes are told only the disk stops it
   pub damaged : IfErr result (λ fault. Told a → fault ≡ Failed)

@@ -15,7 +15,7 @@ ghost use Rattle.range_scan.specs.Faults.{IsDamageAt};
 ghost use Rattle.segment_frames.specs.Standing.{StandsFor};
 ghost use Rattle.resize_region.specs.Source.{Walks};
 ghost use Rattle.resize_region.specs.Upgraded.{Upgrades, TooManyFor, widened, upgraded, upgraded_height};
-ghost use Rattle.resize_region.specs.Widening.{SpreadsWide};
+ghost use Rattle.resize_region.specs.Widening.{SpreadsWide, widen_calls};
 
 use crate::outcome::Upgrade;
 use crate::resizing::{make_live, segments_at};
@@ -73,6 +73,8 @@ pub fn upgrade<S: Station>(
         (segment_size (widened place.old.layout) * 2 ^ upgraded_height place.old.layout tally.now.height + 9) }
     ensures reads { (n : ℕ) × (n ≤ 2 ^ tally.now.height) × Walks place.old 0 n (S.view station.old).travel (S.view station.new).travel }
     ensures whole { result ≡ Ok Upgrade.Done → Walks place.old 0 (2 ^ tally.now.height) (S.view station.old).travel (S.view station.new).travel }
+
+    ensures calls { (S.view station.new).calls ≤ (S.view station.old).calls + widen_calls place.old tally.now.height }
 
     // Why it fails.
     ensures damaged { IfErr result (λ fault. Told (S.view station.old) → fault ≡ StoreFault.Failed) }

@@ -10,12 +10,14 @@ ghost use Rattle.map_model.specs.Array.{rows};
 ghost use Rattle.map_model.specs.Image.{array_of};
 ghost use Rattle.map_model.specs.Regions.{Spares};
 ghost use Rattle.redo_journal.specs.Commit.{IsAt};
-ghost use Rattle.resize_region.specs.Aside.{aside_bytes};
+ghost use Rattle.resize_region.specs.Aside.{WritesAside, aside_bytes};
 ghost use Rattle.resize_region.specs.OldRows.{IsAmongRows, IsInOrder, rows_left};
 ghost use Rattle.resize_region.specs.Shares.{places, HasShares, share_in};
 ghost use Rattle.resize_region.specs.Source.{Walks};
 ghost use Rattle.resize_region.specs.Upgraded.{widened, in_wide};
 ghost use Rattle.resize_region.specs.Widening.{CanWiden, WritesWide};
+ghost use Rattle.segment_frames.specs.Parts.{parts};
+ghost use Rattle.segment_frames.specs.Lists.{most_segments};
 
 use crate::copying::{fits_more, write_shares};
 use crate::old_rows::{OldRows, gather, read_rest};
@@ -47,6 +49,7 @@ pub(crate) fn copy_wide<S: Station>(
     requires records { records ≡ sum tally.now.counts }
     ensures writes { WritesWide result place.now tally.now segments frames.old frames.new (S.view station.old) (S.view station.new) }
     ensures whole { OnOk result (Walks place.now 0 (2 ^ tally.now.height) (S.view station.old).travel (S.view station.new).travel) }
+    ensures calls { (S.view station.new).calls ≤ (S.view station.old).calls + (2 ^ tally.now.height + parts (most_segments (widened place.now.layout)) segments) }
     ensures reads { (n : ℕ) × (n ≤ 2 ^ tally.now.height) × Walks place.now 0 n (S.view station.old).travel (S.view station.new).travel }
 {
     let mut rows = OldRows {
@@ -79,6 +82,7 @@ fn write_wide<S: Station>(
     ensures order { OnOk result (Told (S.view station.old) → IsInOrder (array_of (S.view station.old).held) rows.new) }
     ensures writes { WritesWide result place.now tally.now segments frames.old frames.new (S.view station.old) (S.view station.new) }
     ensures upto { rows.new.reader.next ≤ 2 ^ tally.now.height }
+    ensures calls { (S.view station.new).calls ≤ (S.view station.old).calls + (rows.new.reader.next + parts (most_segments (widened place.now.layout)) segments) }
     ensures reads { Walks place.now 0 rows.new.reader.next (S.view station.old).travel (S.view station.new).travel }
 {
     let all = place.layout.journal / WIDE;
@@ -126,8 +130,7 @@ fn write_places<S: Station>(
     ensures written { OnOk result (Told (S.view station.old) → (i : ℕ) → i < count → FitsSegment wide (share_in wide i frames.now) →
         IsSegment wide (share_in wide i frames.now) (aside_bytes (in_wide place.now) (first + i) (S.view station.new).held)) }
     ensures others { Told (S.view station.old) → (i : ℕ) → i < first → aside_bytes (in_wide place.now) i (S.view station.new).held ≡ aside_bytes (in_wide place.now) i (S.view station.old).held }
-    ensures cost { (S.view station.new).travel.written ≤ (S.view station.old).travel.written + segment_size (widened place.now.layout) * count }
-    ensures no_reads { (S.view station.new).travel ≡ record (S.view station.old).travel { written = (S.view station.new).travel.written } }
+    ensures writes { WritesAside (segment_size (widened place.now.layout) * count) (S.view station.old) (S.view station.new) }
     ensures fault { IfErr result (λ fault. fault ≡ StoreFault.Failed) }
     ensures failed { IsErrOf result StoreFault.Failed → Rose (S.view station.old).disk_faults (S.view station.new).disk_faults }
 {

@@ -1,6 +1,6 @@
 -- The pages of runs of segments, and the segments of pages.
-use Rattle.std.proofs.Common.{◌≡◌, inl, inr, ℕ, zero, suc, ◌+◌, ◌*◌, ◌/◌, ◌<◌, ◌≤◌, List, ◌∷◌, ◌++◌, length, get_or, sym, ap, ap₂, ◌∙◌, arith}
-use Rattle.std.specs.Prelude.{map}
+use Rattle.std.proofs.Common.{◌≡◌, inl, inr, ℕ, zero, suc, ◌+◌, ◌*◌, ◌/◌, ◌<◌, ◌≤◌, List, ◌∷◌, ◌++◌, length, get_or, sym, ap, ap₂, ◌∙◌, arith, ne_eqb}
+use Rattle.std.specs.Prelude.{map, if◌then◌else◌, ◌==◌, Bool, true, false}
 use Rattle.std.specs.List.{range_with_len}
 use Rattle.std.proofs.lemmas.List.{ext_get_or}
 use Rattle.std.proofs.lemmas.List.Concat.{flat_map-append}
@@ -13,6 +13,9 @@ use Rattle.header_gate.specs.Recovered.{Ascends}
 use Rattle.key_slot.proofs.SegmentLaws.{times_up}
 use Rattle.std.proofs.lemmas.Bool.{cases_lt}
 use Rattle.segment_frames.specs.declared.runs.Runs.{Runs}
+use Rattle.redo_journal.specs.Neighbours.{run_count}
+use Rattle.redo_journal.proofs.RunCounts.{run_count_joined, run_count_side_by_side}
+use Rattle.segment_frames.specs.Reading.{call_for, calls_for}
 use Rattle.segment_frames.specs.Lists.{most_segments, numbers_of, segments_in}
 
 -- runs side by side
@@ -31,6 +34,17 @@ pages_of_run format a (suc n) =
     let size : format + format * n ≡ format * suc n = omega arith in
     ap (λ (l : List ℕ). pages_of format a ++ l) (pages_of_run format (a + 1) n ∙ ap (λ (k : ℕ). range_with_len k (format * n)) at)
     ∙ range_joined (format * a) format (format * n) ∙ ap (range_with_len (format * a)) size
+
+-- a run of segments has pages only where it has segments
+few_pages : (format n : ℕ) → call_for (format * n) ≤ call_for n
+few_pages format zero = omega (arith, ap call_for {x = format * 0} {y = 0} (omega arith))
+few_pages format (suc n) =
+    let some : call_for (suc n) ≡ 1 = ap (λ b. if b then 0 else 1) (ne_eqb (suc n) 0 (λ e. omega (arith, e))) in
+    omega (arith, some, most (format * suc n == 0))
+  where
+    most : (b : Bool) → (if b then 0 else 1) ≤ 1
+    most true = omega arith
+    most false = omega arith
 
 pub pages_of_runs : (format : ℕ) (r : Runs) → pages_of_all format (numbers_of r) ≡ range_with_len (format * r.low) (format * r.low_len) ++ range_with_len (format * r.high) (format * r.high_len)
 unfolding numbers_of
@@ -76,3 +90,32 @@ segments_ascend format numbers some ascends i j lt below =
 -- the pages of so many segments go into the journal
 pub fits_journal : (l : Layout) (n : ℕ) → n ≤ most_segments l → l.format * n ≤ l.journal
 fits_journal l n le = omega (arith, times_up l.format n (l.journal / l.format) le, mul-div-le l.journal l.format)
+
+-- the pages of two runs make a run for each that has a segment
+pub few_runs : (format : ℕ) (pages : List ℕ) (r : Runs) → pages ≡ pages_of_all format (segments_in format pages) → segments_in format pages ≡ numbers_of r → run_count pages ≤ calls_for r
+few_runs format pages r whole named =
+    let high = range_with_len (format * r.high) (format * r.high_len) in
+    omega (
+      arith,
+      ap run_count (whole ∙ ap (pages_of_all format) named ∙ pages_of_runs format r),
+      run_count_joined (format * r.low) (format * r.low_len) high,
+      run_count_side_by_side (format * r.high) (format * r.high_len),
+      few_pages format r.low_len,
+      few_pages format r.high_len,
+    )
+
+-- a run is read or written by one call at most
+pub call_few : (n : ℕ) → call_for n ≤ 1
+call_few n = few (n == 0)
+  where
+    few : (b : Bool) → (if b then 0 else 1) ≤ 1
+    few true = omega arith
+    few false = omega arith
+
+-- two runs by two
+pub calls_few : (r : Runs) → calls_for r ≤ 2
+calls_few r = omega (arith, call_few r.low_len, call_few r.high_len)
+
+-- and by one where the higher one is empty
+pub one_run : (r : Runs) → r.high_len ≡ 0 → calls_for r ≤ 1
+one_run r none = omega (arith, call_few r.low_len, ap call_for none)

@@ -2,17 +2,17 @@
 use Rattle.std.proofs.Common.{◌≡◌, ℕ, ◌+◌, ◌-◌, ◌*◌, ◌/◌, ◌≤◌, ◌<◌, ◌⊎◌, inl, inr, min, max, List, [], ◌∷◌, ◌++◌, sym, ap, ap₂, ◌∙◌, arith}
 use Rattle.std.proofs.lemmas.Bool.{cases_lt}
 use Rattle.spread_plan.specs.declared.Move.{Move}
-use Rattle.density_rule.specs.declared.TheConstants.{SEGMENT_SLOTS}
+use Rattle.density_rule.specs.declared.TheConstants.{SEGMENT_RECORDS}
 use Rattle.spread_plan.specs.Plans.{move_of, moves_between}
 use Rattle.spread_plan.proofs.Packing.{move_of-none, move_of-some}
 use Rattle.spread_plan.proofs.Fewness.{moves_between-none}
 
-module _ (from a b : ℕ) (lt : a < b) (near : b ≤ a + SEGMENT_SLOTS) where
+module _ (from a b : ℕ) (lt : a < b) (near : b ≤ a + SEGMENT_RECORDS) where
   abbrev to : ℕ
-  to = a / SEGMENT_SLOTS
+  to = a / SEGMENT_RECORDS
 
   abbrev edge : ℕ
-  edge = (to + 1) * SEGMENT_SLOTS
+  edge = (to + 1) * SEGMENT_RECORDS
 
   -- all go to one segment
   one : b ≤ edge → moves_between from a b ≡ record { from = from; to = to; count = b - a } ∷ []
@@ -26,11 +26,11 @@ module _ (from a b : ℕ) (lt : a < b) (near : b ≤ a + SEGMENT_SLOTS) where
 
   back : edge < b → moves_between from edge b ≡ record { from = from; to = to + 1; count = b - edge } ∷ []
   back more =
-      let next : edge / SEGMENT_SLOTS ≡ to + 1 = omega arith in
+      let next : edge / SEGMENT_RECORDS ≡ to + 1 = omega arith in
       let there : edge ≡ a + (edge - a) = omega arith in
-      ap (λ (k : ℕ). move_of from k (min b ((k + 1) * SEGMENT_SLOTS) - edge) ++ move_of from (k + 1) (b - (k + 1) * SEGMENT_SLOTS)) next
-      ∙ ap₂ ◌++◌ (ap (λ (k : ℕ). move_of from (to + 1) (k - edge)) {x = min b ((to + 1 + 1) * SEGMENT_SLOTS)} {y = b} (omega (arith, near)) ∙ move_of-some from (to + 1) (b - edge) (omega (arith, more)))
-      (move_of-none from (to + 1 + 1) (b - (to + 1 + 1) * SEGMENT_SLOTS) (omega (arith, near)))
+      ap (λ (k : ℕ). move_of from k (min b ((k + 1) * SEGMENT_RECORDS) - edge) ++ move_of from (k + 1) (b - (k + 1) * SEGMENT_RECORDS)) next
+      ∙ ap₂ ◌++◌ (ap (λ (k : ℕ). move_of from (to + 1) (k - edge)) {x = min b ((to + 1 + 1) * SEGMENT_RECORDS)} {y = b} (omega (arith, near)) ∙ move_of-some from (to + 1) (b - edge) (omega (arith, more)))
+      (move_of-none from (to + 1 + 1) (b - (to + 1 + 1) * SEGMENT_RECORDS) (omega (arith, near)))
 
   both : edge < b → moves_between from a b ≡ record { from = from; to = to; count = edge - a } ∷ record { from = from; to = to + 1; count = b - edge } ∷ []
   both more =
@@ -47,7 +47,7 @@ module _ (from a b : ℕ) (lt : a < b) (near : b ≤ a + SEGMENT_SLOTS) where
           let stop_is : b ≡ stop = omega (arith, is, le) in
           one le ∙ ap (λ (ms : List Move). record { from = from; to = to; count = b - a } ∷ ms) (sym (moves_between-none from b b (omega arith))) ∙ ap (λ (k : ℕ). record { from = from; to = to; count = k - a } ∷ moves_between from k b) stop_is
 
-  pub moves_between-last : (block first : ℕ) → block ≡ (b - 1) / SEGMENT_SLOTS → first ≡ max a (block * SEGMENT_SLOTS) → moves_between from a b ≡ moves_between from a first ++ record { from = from; to = block; count = b - first } ∷ []
+  pub moves_between-last : (block first : ℕ) → block ≡ (b - 1) / SEGMENT_RECORDS → first ≡ max a (block * SEGMENT_RECORDS) → moves_between from a b ≡ moves_between from a first ++ record { from = from; to = block; count = b - first } ∷ []
   moves_between-last block first block_is is = by_place (cases_lt edge b)
     where
       by_place : (edge < b) ⊎ (b ≤ edge) → moves_between from a b ≡ moves_between from a first ++ record { from = from; to = block; count = b - first } ∷ []

@@ -6,7 +6,7 @@ use Rattle.std.proofs.lemmas.List.FromFn.{length-map-range_with_len, get_or-map-
 use Rattle.density_rule.specs.Spread.{share, shares}
 use Rattle.density_rule.proofs.Shares.{length-shares, get_or-shares}
 use Rattle.spread_plan.specs.declared.Move.{Move}
-use Rattle.density_rule.specs.declared.TheConstants.{SEGMENT_SLOTS}
+use Rattle.density_rule.specs.declared.TheConstants.{SEGMENT_RECORDS}
 use Rattle.spread_plan.specs.Moves.{counts_moved}
 use Rattle.spread_plan.specs.Plans.{full_counts}
 use Rattle.spread_plan.specs.States.{packing_counts, IsPacking, less_first, spreading_counts, IsSpreading}
@@ -14,13 +14,13 @@ use Rattle.spread_plan.specs.States.{packing_counts, IsPacking, less_first, spre
 -- The counts of packed records.
 
 pub length-full : (n m : ℕ) → length (full_counts n m) ≡ m
-length-full n m = length-map-range_with_len (λ i. min SEGMENT_SLOTS (n - i * SEGMENT_SLOTS)) 0 m
+length-full n m = length-map-range_with_len (λ i. min SEGMENT_RECORDS (n - i * SEGMENT_RECORDS)) 0 m
 
-pub full_at : (n m i : ℕ) → i < m → get_or (full_counts n m) i 0 ≡ min SEGMENT_SLOTS (n - i * SEGMENT_SLOTS)
-full_at n m i lt = get_or-map-range_with_len (λ j. min SEGMENT_SLOTS (n - j * SEGMENT_SLOTS)) 0 m i i 0 lt (omega arith)
+pub full_at : (n m i : ℕ) → i < m → get_or (full_counts n m) i 0 ≡ min SEGMENT_RECORDS (n - i * SEGMENT_RECORDS)
+full_at n m i lt = get_or-map-range_with_len (λ j. min SEGMENT_RECORDS (n - j * SEGMENT_RECORDS)) 0 m i i 0 lt (omega arith)
 
 -- before and behind them
-before_at : (n m : ℕ) (rest : List ℕ) (i : ℕ) → i < m → get_or (full_counts n m ++ rest) i 0 ≡ min SEGMENT_SLOTS (n - i * SEGMENT_SLOTS)
+before_at : (n m : ℕ) (rest : List ℕ) (i : ℕ) → i < m → get_or (full_counts n m ++ rest) i 0 ≡ min SEGMENT_RECORDS (n - i * SEGMENT_RECORDS)
 before_at n m rest i lt = get_or_append_left (full_counts n m) rest 0 i (omega (arith, lt, length-full n m)) ∙ full_at n m i lt
 
 behind_at : (n m : ℕ) (rest : List ℕ) (i : ℕ) → m ≤ i → get_or (full_counts n m ++ rest) i 0 ≡ get_or rest (i - m) 0
@@ -60,7 +60,7 @@ length-packing rest zero records next = omega arith
 length-packing rest (suc s) records next = length-append (full_counts next s) ((records - next) ∷ rest) ∙ omega (arith, length-full next s)
 
 -- a segment below the source, the source, and one that was not looked at
-pub packed_at : (rest : List ℕ) (segments records next i : ℕ) → i + 1 < segments → get_or (packing_counts rest segments records next) i 0 ≡ min SEGMENT_SLOTS (next - i * SEGMENT_SLOTS)
+pub packed_at : (rest : List ℕ) (segments records next i : ℕ) → i + 1 < segments → get_or (packing_counts rest segments records next) i 0 ≡ min SEGMENT_RECORDS (next - i * SEGMENT_RECORDS)
 packed_at rest zero records next i lt = absurd (omega (arith, lt))
 packed_at rest (suc s) records next i lt = before_at next s ((records - next) ∷ rest) i (omega (arith, lt))
 
@@ -98,14 +98,14 @@ counts_on rest count segments records next end is done =
     ])
 
 -- they follow the move that a pack gives
-module _ (rest : List ℕ) (segments records next end : ℕ) (is : IsPacking rest segments records next end) (some : next < end) (stop : ℕ) (stop_is : stop ≡ min end ((next / SEGMENT_SLOTS + 1) * SEGMENT_SLOTS)) where
+module _ (rest : List ℕ) (segments records next end : ℕ) (is : IsPacking rest segments records next end) (some : next < end) (stop : ℕ) (stop_is : stop ≡ min end ((next / SEGMENT_RECORDS + 1) * SEGMENT_RECORDS)) where
   abbrev given : Move
-  given = record { from = segments - 1; to = next / SEGMENT_SLOTS; count = stop - next }
+  given = record { from = segments - 1; to = next / SEGMENT_RECORDS; count = stop - next }
 
   there_are : 1 ≤ segments
   there_are = omega (arith, some, is.end_is)
 
-  lower : next / SEGMENT_SLOTS < segments - 1
+  lower : next / SEGMENT_RECORDS < segments - 1
   lower = omega (arith, some, is.end_is)
 
   pub packing_moved : packing_counts rest segments records stop ≡ counts_moved given (packing_counts rest segments records next)
@@ -113,7 +113,7 @@ module _ (rest : List ℕ) (segments records next end : ℕ) (is : IsPacking res
       let counts = packing_counts rest segments records next in
       let after = packing_counts rest segments records stop in
       let size = length-packing rest segments records next in
-      let to = next / SEGMENT_SLOTS in
+      let to = next / SEGMENT_RECORDS in
       let source : segments - 1 + 1 ≡ segments = omega (arith, there_are) in
       moved_by given counts (omega (arith, size, there_are)) (omega (arith, size, lower)) (λ e. omega (arith, e, lower)) after (length-packing rest segments records stop ∙ sym size)
       (source_at rest segments records stop (segments - 1) source ∙ omega (arith, source_at rest segments records next (segments - 1) source, stop_is))
@@ -143,7 +143,7 @@ module _ (n m to start end : ℕ) where
   length-spreading le =
       omega (arith, le, length-append (full_counts end to) (less_first (end - start) (drop to (shares n m))), length-full end to, length-less (end - start) (drop to (shares n m)), length-drop to (shares n m), length-shares n m)
 
-  pub low_at : (i : ℕ) → i < to → get_or (spreading_counts n m to start end) i 0 ≡ min SEGMENT_SLOTS (end - i * SEGMENT_SLOTS)
+  pub low_at : (i : ℕ) → i < to → get_or (spreading_counts n m to start end) i 0 ≡ min SEGMENT_RECORDS (end - i * SEGMENT_RECORDS)
   low_at i lt = before_at end to (less_first (end - start) (drop to (shares n m))) i lt
 
   pub target_at : get_or (spreading_counts n m to start end) to 0 ≡ get_or (shares n m) to 0 - (end - start)
@@ -167,7 +167,7 @@ spread_packed n m =
     low_at n m m n n i within ∙ sym (full_at n m i within))
 
 -- the counts stay where a spread goes on to the next segment
-module _ (n m to start end : ℕ) (is : IsSpreading n m to start end) (done : start ≡ end) (some : 0 < to) (first stop : ℕ) (share_is : first + share n m (to - 1) ≡ start) (stop_is : stop ≡ min start ((to - 1) * SEGMENT_SLOTS)) (low : first ≤ stop) where
+module _ (n m to start end : ℕ) (is : IsSpreading n m to start end) (done : start ≡ end) (some : 0 < to) (first stop : ℕ) (share_is : first + share n m (to - 1) ≡ start) (stop_is : stop ≡ min start ((to - 1) * SEGMENT_RECORDS)) (low : first ≤ stop) where
   pub counts_spread_on : spreading_counts n m (to - 1) first stop ≡ spreading_counts n m to start end
   counts_spread_on =
       let one = spreading_counts n m (to - 1) first stop in
@@ -189,7 +189,7 @@ module _ (n m to start end : ℕ) (is : IsSpreading n m to start end) (done : st
       ])
 
 -- they follow the move that a spread gives
-module _ (n m to start end : ℕ) (is : IsSpreading n m to start end) (some : start < end) (from first : ℕ) (from_is : from ≡ (end - 1) / SEGMENT_SLOTS) (first_is : first ≡ max start (from * SEGMENT_SLOTS)) where
+module _ (n m to start end : ℕ) (is : IsSpreading n m to start end) (some : start < end) (from first : ℕ) (from_is : from ≡ (end - 1) / SEGMENT_RECORDS) (first_is : first ≡ max start (from * SEGMENT_RECORDS)) where
   abbrev gives : Move
   gives = record { from = from; to = to; count = end - first }
 

@@ -4,7 +4,7 @@ use Rattle.std.proofs.lemmas.Bool.{cases_eq}
 use Rattle.std.proofs.lemmas.List.{length-append, length-drop, length-take-le}
 use Rattle.std.proofs.lemmas.List.Elements.{All-set}
 use Rattle.spread_plan.specs.declared.Move.{Move}
-use Rattle.density_rule.specs.declared.TheConstants.{SEGMENT_SLOTS}
+use Rattle.density_rule.specs.declared.TheConstants.{SEGMENT_RECORDS}
 use Rattle.spread_plan.specs.Moves.{records_of, counts_of, list_at, after_move, after_move_left, after_moves}
 use Rattle.spread_plan.specs.Stages.{IsStage, CanMoveLeft, AllStages}
 use Rattle.spread_plan.specs.Plans.{full_counts, move_of, moves_between}
@@ -18,26 +18,26 @@ pub move_of-some : (from to count : ℕ) → 0 < count → move_of from to count
 move_of-some from to count some = let one : List Move = record { from = from; to = to; count = count } ∷ [] in ap (λ b. cond b [] one) (ne_eqb count 0 (λ e. omega (arith, some, e)))
 
 abbrev pub HasRoom : {X : Type 0} → List X → Type 0
-HasRoom list = length list ≤ SEGMENT_SLOTS
+HasRoom list = length list ≤ SEGMENT_RECORDS
 
 -- the records numbered below `next` are packed, those of segment s from `next` to below `total` are still there, and
 -- the segments above it are as they were
 pub record IsPacked {X : Type 0} (lists : List (List X)) (s next total : ℕ) (now : List (List X)) : Type 0 where
   pub stage : IsStage lists now
-  pub below : (i : ℕ) → i < s → length (list_at now i) ≡ min SEGMENT_SLOTS (next - i * SEGMENT_SLOTS)
+  pub below : (i : ℕ) → i < s → length (list_at now i) ≡ min SEGMENT_RECORDS (next - i * SEGMENT_RECORDS)
   pub here : length (list_at now s) ≡ total - next
   pub above : (i : ℕ) → s < i → length (list_at now i) ≡ length (list_at lists i)
   pub inside : s < length lists
   pub upto : next ≤ total
-  pub left : next ≤ s * SEGMENT_SLOTS
-  pub near : total ≤ next + SEGMENT_SLOTS
-  pub most : total ≤ s * SEGMENT_SLOTS + SEGMENT_SLOTS
+  pub left : next ≤ s * SEGMENT_RECORDS
+  pub near : total ≤ next + SEGMENT_RECORDS
+  pub most : total ≤ s * SEGMENT_RECORDS + SEGMENT_RECORDS
 
 -- one move
 module _ {X : Type 0} (lists : List (List X)) (s next total : ℕ) (now : List (List X)) (is : IsPacked lists s next total now)
-    (then : ℕ) (more : next < then) (to_edge : then ≤ (next / SEGMENT_SLOTS + 1) * SEGMENT_SLOTS) (to_end : then ≤ total) (to_left : then ≤ s * SEGMENT_SLOTS) where
+    (then : ℕ) (more : next < then) (to_edge : then ≤ (next / SEGMENT_RECORDS + 1) * SEGMENT_RECORDS) (to_end : then ≤ total) (to_left : then ≤ s * SEGMENT_RECORDS) where
   abbrev to : ℕ
-  to = next / SEGMENT_SLOTS
+  to = next / SEGMENT_RECORDS
 
   abbrev m : Move
   m = record { from = s; to = to; count = then - next }
@@ -48,13 +48,13 @@ module _ {X : Type 0} (lists : List (List X)) (s next total : ℕ) (now : List (
   within : s < length now
   within = omega (arith, is.inside, is.stage.segments)
 
-  to_start : to * SEGMENT_SLOTS ≤ next
+  to_start : to * SEGMENT_RECORDS ≤ next
   to_start = omega arith
 
   there : then - next ≤ length (list_at now s)
   there = omega (arith, is.here, to_end)
 
-  room : length (list_at now to) + (then - next) ≤ SEGMENT_SLOTS
+  room : length (list_at now to) + (then - next) ≤ SEGMENT_RECORDS
   room = omega (arith, is.below to goes_left, to_edge, to_start, more)
 
   can : CanMoveLeft m now
@@ -83,10 +83,10 @@ module _ {X : Type 0} (lists : List (List X)) (s next total : ℕ) (now : List (
         (All-set HasRoom now to (list_at now to ++ take (then - next) (list_at now s)) (omega (arith, longer, room)) is.stage.fit);
   }
 
-  after_below : (i : ℕ) → i < s → length (list_at after i) ≡ min SEGMENT_SLOTS (then - i * SEGMENT_SLOTS)
+  after_below : (i : ℕ) → i < s → length (list_at after i) ≡ min SEGMENT_RECORDS (then - i * SEGMENT_RECORDS)
   after_below i lt = by_place (cases_eq i to)
     where
-      by_place : (i ≡ to) ⊎ (i ≢ to) → length (list_at after i) ≡ min SEGMENT_SLOTS (then - i * SEGMENT_SLOTS)
+      by_place : (i ≡ to) ⊎ (i ≢ to) → length (list_at after i) ≡ min SEGMENT_RECORDS (then - i * SEGMENT_RECORDS)
       by_place (inl e) = ap (λ (k : ℕ). length (list_at after k)) e ∙ ap length (to_after_left m now goes_left within) ∙ omega (arith, longer, is.below to goes_left, e, to_start, to_edge, more)
       by_place (inr ne) = ap length (other_after_left m now goes_left within i (λ e. omega (arith, e, lt)) ne) ∙ omega (arith, is.below i lt, ne, to_start, to_edge, more)
 
@@ -112,26 +112,26 @@ Leads lists moves now = AllStages CanMoveLeft (IsStage lists) moves now × (coun
 
 module _ {X : Type 0} (lists : List (List X)) (s total : ℕ) (rest : List Move) where
   -- one move, or none
-  one : (next then to count : ℕ) (now : List (List X)) → IsPacked lists s next total now → next ≤ then → then ≤ (next / SEGMENT_SLOTS + 1) * SEGMENT_SLOTS → then ≤ total → then ≤ s * SEGMENT_SLOTS
-      → (next < then → to ≡ next / SEGMENT_SLOTS) → count ≡ then - next → ((after : List (List X)) → IsPacked lists s then total after → Leads lists rest after) → Leads lists (move_of s to count ++ rest) now
+  one : (next then to count : ℕ) (now : List (List X)) → IsPacked lists s next total now → next ≤ then → then ≤ (next / SEGMENT_RECORDS + 1) * SEGMENT_RECORDS → then ≤ total → then ≤ s * SEGMENT_RECORDS
+      → (next < then → to ≡ next / SEGMENT_RECORDS) → count ≡ then - next → ((after : List (List X)) → IsPacked lists s then total after → Leads lists rest after) → Leads lists (move_of s to count ++ rest) now
   one next then to count now is le to_edge to_end to_left to_is count_is go = by_order (cases_eq next then)
     where
       by_order : (next ≡ then) ⊎ (next ≢ then) → Leads lists (move_of s to count ++ rest) now
       by_order (inl e) = subst (λ (ms : List Move). Leads lists (ms ++ rest) now) (sym (move_of-none s to count (omega (arith, count_is, e)))) (go now (subst (λ (n : ℕ). IsPacked lists s n total now) e is))
       by_order (inr ne) =
           let more : next < then = omega (arith, le, ne) in
-          let given : Move = record { from = s; to = to; count = count } in let made : Move = record { from = s; to = next / SEGMENT_SLOTS; count = then - next } in
+          let given : Move = record { from = s; to = to; count = count } in let made : Move = record { from = s; to = next / SEGMENT_RECORDS; count = then - next } in
           let same : given ≡ made = λ i. record { from = s; to = to_is more i; count = count_is i } in
           let later = go (after_move made now) (moved_on lists s next total now is then more to_edge to_end to_left) in
           subst (λ (ms : List Move). Leads lists (ms ++ rest) now) (sym (move_of-some s to count (omega (arith, count_is, more)) ∙ ap (λ (m : Move). m ∷ []) same))
           ((is.stage, can lists s next total now is then more to_edge to_end to_left, later.0), later.1)
 
 -- all moves from one segment
-pub segment_leads : {X : Type 0} (lists : List (List X)) (s next end total : ℕ) (rest : List Move) (now : List (List X)) → IsPacked lists s next total now → next ≤ end → end ≤ total → end ≤ s * SEGMENT_SLOTS
+pub segment_leads : {X : Type 0} (lists : List (List X)) (s next end total : ℕ) (rest : List Move) (now : List (List X)) → IsPacked lists s next total now → next ≤ end → end ≤ total → end ≤ s * SEGMENT_RECORDS
     → ((after : List (List X)) → IsPacked lists s end total after → Leads lists rest after) → Leads lists (moves_between s next end ++ rest) now
 segment_leads lists s next end total rest now is le to_end to_left go =
-    let edge = (next / SEGMENT_SLOTS + 1) * SEGMENT_SLOTS in
-    let second = move_of s (next / SEGMENT_SLOTS + 1) (end - edge) in
-    subst (λ (ms : List Move). Leads lists ms now) (sym (append_assoc (move_of s (next / SEGMENT_SLOTS) (min end edge - next)) second rest))
-    (one lists s total (second ++ rest) next (min end edge) (next / SEGMENT_SLOTS) (min end edge - next) now is (omega (arith, le)) (omega arith) (omega (arith, to_end)) (omega (arith, to_left)) (λ more. refl) refl
-    (λ after packed. one lists s total rest (min end edge) end (next / SEGMENT_SLOTS + 1) (end - edge) after packed (omega arith) (omega (arith, is.near, to_end)) to_end to_left (λ more. omega (arith, more)) (omega (arith, le)) go))
+    let edge = (next / SEGMENT_RECORDS + 1) * SEGMENT_RECORDS in
+    let second = move_of s (next / SEGMENT_RECORDS + 1) (end - edge) in
+    subst (λ (ms : List Move). Leads lists ms now) (sym (append_assoc (move_of s (next / SEGMENT_RECORDS) (min end edge - next)) second rest))
+    (one lists s total (second ++ rest) next (min end edge) (next / SEGMENT_RECORDS) (min end edge - next) now is (omega (arith, le)) (omega arith) (omega (arith, to_end)) (omega (arith, to_left)) (λ more. refl) refl
+    (λ after packed. one lists s total rest (min end edge) end (next / SEGMENT_RECORDS + 1) (end - edge) after packed (omega arith) (omega (arith, is.near, to_end)) to_end to_left (λ more. omega (arith, more)) (omega (arith, le)) go))

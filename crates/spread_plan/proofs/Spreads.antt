@@ -8,7 +8,7 @@ use Rattle.std.proofs.Math.Nat.{add-mul}
 use Rattle.density_rule.specs.Spread.{share, shares}
 use Rattle.density_rule.proofs.Quotients.{part_at_most}
 use Rattle.density_rule.proofs.Shares.{length-shares, get_or-shares, sum-shares}
-use Rattle.density_rule.specs.declared.TheConstants.{SEGMENT_SLOTS}
+use Rattle.density_rule.specs.declared.TheConstants.{SEGMENT_RECORDS}
 use Rattle.spread_plan.specs.Moves.{records_of, counts_of, after_moves}
 use Rattle.spread_plan.specs.Stages.{FitSegments, IsStage, CanMoveLeft, CanMoveRight, AllStages}
 use Rattle.spread_plan.specs.Plans.{full_counts, pack_moves, spread_moves}
@@ -18,20 +18,20 @@ use Rattle.spread_plan.proofs.Packs.{pack_leads}
 use Rattle.spread_plan.proofs.StageLemmas.{AllStages-last, AllStages-weaker, undone_all}
 
 -- a share of records that fit fits a segment
-pub share-le : (n m i : ℕ) → 0 < m → n ≤ SEGMENT_SLOTS * m → share n m i ≤ SEGMENT_SLOTS
+pub share-le : (n m i : ℕ) → 0 < m → n ≤ SEGMENT_RECORDS * m → share n m i ≤ SEGMENT_RECORDS
 share-le n m i pos le =
     let next : (i + 1) * n ≡ i * n + n = add-mul i 1 n ∙ omega arith in
-    omega (arith, ap (λ (k : ℕ). k / m) next, part_at_most (i * n) n m SEGMENT_SLOTS pos le)
+    omega (arith, ap (λ (k : ℕ). k / m) next, part_at_most (i * n) n m SEGMENT_RECORDS pos le)
 
-sum-full_counts-le : (n m : ℕ) → sum (full_counts n m) ≤ m * SEGMENT_SLOTS
+sum-full_counts-le : (n m : ℕ) → sum (full_counts n m) ≤ m * SEGMENT_RECORDS
 sum-full_counts-le n m =
-    let full : ℕ → ℕ = λ i. min SEGMENT_SLOTS (n - i * SEGMENT_SLOTS) in
-    let each = All-from_get_or (λ c. c ≤ SEGMENT_SLOTS) (full_counts n m) 0 (λ i lt. omega (arith, get_or-map-range_with_len full 0 m i i 0 (omega (arith, lt, length-map-range_with_len full 0 m)) (omega arith))) in
-    subst (λ (k : ℕ). sum (full_counts n m) ≤ k * SEGMENT_SLOTS) (length-map-range_with_len full 0 m) (sum_by-le (λ c. c) SEGMENT_SLOTS (full_counts n m) each)
+    let full : ℕ → ℕ = λ i. min SEGMENT_RECORDS (n - i * SEGMENT_RECORDS) in
+    let each = All-from_get_or (λ c. c ≤ SEGMENT_RECORDS) (full_counts n m) 0 (λ i lt. omega (arith, get_or-map-range_with_len full 0 m i i 0 (omega (arith, lt, length-map-range_with_len full 0 m)) (omega arith))) in
+    subst (λ (k : ℕ). sum (full_counts n m) ≤ k * SEGMENT_RECORDS) (length-map-range_with_len full 0 m) (sum_by-le (λ c. c) SEGMENT_RECORDS (full_counts n m) each)
 
 -- the lists in which the spread ends
 module _ {X : Type 0} (n m : ℕ) (lists : List (List X)) (all : length (records_of lists) ≡ n) (packed : counts_of lists ≡ full_counts n m) where
-  few : n ≤ SEGMENT_SLOTS * m
+  few : n ≤ SEGMENT_RECORDS * m
   few = omega (arith, all, length-records_of lists, ap sum packed, sum-full_counts-le n m)
 
   whole : (k : ℕ) → k ≡ m → length (records_of lists) ≡ sum (shares n m)
@@ -66,7 +66,7 @@ module _ {X : Type 0} (n m : ℕ) (lists : List (List X)) (all : length (records
 
   from_lists : (now : List (List X)) → IsStage spread now → IsStage lists now
   from_lists now is = record {
-    segments = is.segments ∙ long ∙ sym (sym (length-map lists length) ∙ ap length packed ∙ length-map-range_with_len (λ i. min SEGMENT_SLOTS (n - i * SEGMENT_SLOTS)) 0 m);
+    segments = is.segments ∙ long ∙ sym (sym (length-map lists length) ∙ ap length packed ∙ length-map-range_with_len (λ i. min SEGMENT_RECORDS (n - i * SEGMENT_RECORDS)) 0 m);
     records = is.records ∙ records;
     fit = is.fit;
   }

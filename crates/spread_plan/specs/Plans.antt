@@ -3,11 +3,11 @@ use Rattle.std.specs.Prelude.{ℕ, ◌+◌, ◌-◌, ◌*◌, ◌/◌, min, ◌=
 use Rattle.std.specs.List.{range_with_len}
 use Rattle.density_rule.specs.Spread.{shares}
 use Rattle.spread_plan.specs.declared.Move.{Move}
-use Rattle.density_rule.specs.declared.TheConstants.{SEGMENT_SLOTS}
+use Rattle.density_rule.specs.declared.TheConstants.{SEGMENT_RECORDS}
 
 -- the counts of m segments that hold n records with no gap: all full but the last used one
 abbrev pub full_counts : ℕ → ℕ → List ℕ
-full_counts n m = map (λ i. min SEGMENT_SLOTS (n - i * SEGMENT_SLOTS)) (range_with_len 0 m)
+full_counts n m = map (λ i. min SEGMENT_RECORDS (n - i * SEGMENT_RECORDS)) (range_with_len 0 m)
 
 -- a move of some records, or none
 abbrev pub move_of : ℕ → ℕ → ℕ → List Move
@@ -17,14 +17,14 @@ move_of from to count = if count == 0 then [] else record { from = from; to = to
 -- segments in whose rooms these numbers fall
 abbrev pub moves_between : ℕ → ℕ → ℕ → List Move
 moves_between from a b =
-    let to = a / SEGMENT_SLOTS in let edge = (to + 1) * SEGMENT_SLOTS in
+    let to = a / SEGMENT_RECORDS in let edge = (to + 1) * SEGMENT_RECORDS in
     move_of from to (min b edge - a) ++ move_of from (to + 1) (b - edge)
 
 -- the moves to the left from the segments with these counts, of which this one is the first and has so many records
 -- before it. Records whose numbers fall in the room of the segment that has them stay
 abbrev pub pack_from : ℕ → ℕ → List ℕ → List Move
 pack_from segment before [] = []
-pack_from segment before (count ∷ counts) = moves_between segment before (min (before + count) (segment * SEGMENT_SLOTS)) ++ pack_from (segment + 1) (before + count) counts
+pack_from segment before (count ∷ counts) = moves_between segment before (min (before + count) (segment * SEGMENT_RECORDS)) ++ pack_from (segment + 1) (before + count) counts
 
 -- the moves that pack segments with these counts
 abbrev pub pack_moves : List ℕ → List Move

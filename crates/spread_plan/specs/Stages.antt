@@ -1,12 +1,12 @@
 -- What is kept while moves are made one after another.
 use Rattle.std.specs.Prelude.{◌≡◌, ◌+◌, ◌<◌, ◌≤◌, List, [], ◌∷◌, length, All}
 use Rattle.spread_plan.specs.declared.Move.{Move}
-use Rattle.density_rule.specs.declared.TheConstants.{SEGMENT_SLOTS}
+use Rattle.density_rule.specs.declared.TheConstants.{SEGMENT_RECORDS}
 use Rattle.spread_plan.specs.Moves.{records_of, list_at, after_move}
 
 -- no list has more records than a segment has room for
 abbrev pub FitSegments : {X : Type 0} → List (List X) → Type 0
-FitSegments lists = All (λ list. length list ≤ SEGMENT_SLOTS) lists
+FitSegments lists = All (λ list. length list ≤ SEGMENT_RECORDS) lists
 
 -- the same records in the same order, in as many segments, each of which has room for its own
 pub record IsStage {X : Type 0} (first lists : List (List X)) : Type 0 where
@@ -20,7 +20,7 @@ pub record CanMove {X : Type 0} (m : Move) (lists : List (List X)) : Type 0 wher
   pub to_in : m.to < length lists
   pub some : 0 < m.count
   pub there : m.count ≤ length (list_at lists m.from)
-  pub room : length (list_at lists m.to) + m.count ≤ SEGMENT_SLOTS
+  pub room : length (list_at lists m.to) + m.count ≤ SEGMENT_RECORDS
 
 -- and goes to a lower segment
 abbrev pub CanMoveLeft : {X : Type 0} → Move → List (List X) → Type 0

@@ -3,7 +3,7 @@ use Rattle.std.specs.Prelude.{◌≡◌, ℕ, zero, suc, ◌+◌, ◌-◌, ◌*�
 use Rattle.std.specs.Iterator.{YieldsFirst}
 use Rattle.density_rule.specs.Spread.{shares}
 use Rattle.spread_plan.specs.declared.Move.{Move}
-use Rattle.density_rule.specs.declared.TheConstants.{SEGMENT_SLOTS}
+use Rattle.density_rule.specs.declared.TheConstants.{SEGMENT_RECORDS}
 use Rattle.spread_plan.specs.Moves.{counts_moved}
 use Rattle.spread_plan.specs.Plans.{full_counts, moves_between, pack_from, pack_moves, inverse_moves}
 
@@ -34,11 +34,11 @@ packing_view rest segments records next end = record { moves = moves_to_pack res
 
 pub record IsPacking (rest : List ℕ) (segments records next end : ℕ) : Type 0 where
   pub segments_fit : segments + length rest ≤ 2 ^ 16
-  pub counts_fit : All (λ count. count ≤ SEGMENT_SLOTS) rest
-  pub records_fit : records ≤ segments * SEGMENT_SLOTS
+  pub counts_fit : All (λ count. count ≤ SEGMENT_RECORDS) rest
+  pub records_fit : records ≤ segments * SEGMENT_RECORDS
   pub forward : next ≤ end
-  pub near : end ≤ next + SEGMENT_SLOTS
-  pub end_is : end ≡ min records ((segments - 1) * SEGMENT_SLOTS)
+  pub near : end ≤ next + SEGMENT_RECORDS
+  pub end_is : end ≡ min records ((segments - 1) * SEGMENT_RECORDS)
 
 -- the moves of a spread that are still to come: they undo a pack of the shares of the first segments, and of the
 -- records from `start` to below `end` of the next one
@@ -59,10 +59,10 @@ spreading_view n m to start end = record { moves = moves_to_spread n m to start 
 pub record IsSpreading (n m to start end : ℕ) : Type 0 where
   pub some : 1 ≤ m
   pub segments_fit : m ≤ 2 ^ 16
-  pub records_fit : n ≤ SEGMENT_SLOTS * m
+  pub records_fit : n ≤ SEGMENT_RECORDS * m
   pub to_is : to ≤ m
   pub start_is : start ≡ to * n / m
   pub forward : start ≤ end
-  pub near : end ≤ start + SEGMENT_SLOTS
-  pub left : end ≤ to * SEGMENT_SLOTS
+  pub near : end ≤ start + SEGMENT_RECORDS
+  pub left : end ≤ to * SEGMENT_RECORDS
   pub within : end - start ≤ slice_index (shares n m) to

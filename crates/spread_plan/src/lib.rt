@@ -10,9 +10,9 @@
 
 ghost use Rattle.std.specs.Prelude.{◌≡◌, ◌+◌, ◌-◌, ◌*◌, ◌/◌, ◌^◌, ◌<◌, ◌≤◌, min};
 ghost use Rattle.density_rule.specs.Spread.{share as share_of};
-ghost use Rattle.density_rule.specs.declared.TheConstants.{SEGMENT_SLOTS};
+ghost use Rattle.density_rule.specs.declared.TheConstants.{SEGMENT_RECORDS};
 
-use density_rule::SEGMENT_SLOTS;
+use density_rule::SEGMENT_RECORDS;
 pub use laws::{packs_segments, spreads_segments};
 pub use pack::PackMoves;
 pub use spread::SpreadMoves;
@@ -53,7 +53,7 @@ fn shared_before(n: u32, m: u32, i: u32) -> u32
 // How many of `n` packed records segment `i` has.
 fn packed_in(n: u32, i: u32) -> u32
     requires { i < 2 ^ 16 }
-    ensures { result ≡ min SEGMENT_SLOTS (n - i * SEGMENT_SLOTS) }
+    ensures { result ≡ min SEGMENT_RECORDS (n - i * SEGMENT_RECORDS) }
 {
-    n.saturating_sub(i * SEGMENT_SLOTS).min(SEGMENT_SLOTS)
+    n.saturating_sub(i * SEGMENT_RECORDS).min(SEGMENT_RECORDS)
 }

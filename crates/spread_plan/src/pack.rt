@@ -2,11 +2,11 @@
 
 ghost use Rattle.std.specs.Prelude.{◌≡◌, ℕ, ◌^◌, ◌<◌, ◌≤◌, All, length, slice_index};
 ghost use Rattle.std.specs.Iterator.{item_count};
-ghost use Rattle.density_rule.specs.declared.TheConstants.{SEGMENT_SLOTS};
+ghost use Rattle.density_rule.specs.declared.TheConstants.{SEGMENT_RECORDS};
 ghost use Rattle.spread_plan.specs.Plans.{pack_moves};
 ghost use Rattle.spread_plan.specs.States.{GivesMove, coming};
 
-use super::{Move, SEGMENT_SLOTS, packed_in};
+use super::{Move, SEGMENT_RECORDS, packed_in};
 use std::iter::FusedIterator;
 use std::marker::Model;
 
@@ -38,7 +38,7 @@ impl<'a> PackMoves<'a> {
     /// The moves that pack the segments of a window, whose counts of records these are, in order.
     pub fn over(counts: &'a [u32]) -> PackMoves<'a>
         requires segments { length counts.now ≤ 2 ^ 16 }
-        requires room { All (λ count. count ≤ SEGMENT_SLOTS) counts.now }
+        requires room { All (λ count. count ≤ SEGMENT_RECORDS) counts.now }
         ensures moves { result.moves ≡ pack_moves counts.now }
         ensures counts { result.counts ≡ counts.now }
     {
@@ -92,11 +92,11 @@ impl<'a> Iterator for PackMoves<'a> {
             self.rest = rest;
             self.next = self.records;
             self.records += *count;
-            self.end = self.records.min(self.segments * SEGMENT_SLOTS);
+            self.end = self.records.min(self.segments * SEGMENT_RECORDS);
             self.segments += 1;
         }
-        let to = self.next / SEGMENT_SLOTS;
-        let end = self.end.min((to + 1) * SEGMENT_SLOTS);
+        let to = self.next / SEGMENT_RECORDS;
+        let end = self.end.min((to + 1) * SEGMENT_RECORDS);
         let count = end - self.next;
         self.next = end;
         Some(Move {

@@ -3,11 +3,11 @@
 ghost use Rattle.std.specs.Prelude.{◌≡◌, ◌*◌, ◌^◌, ◌<◌, ◌≤◌, [], length, slice_index};
 ghost use Rattle.std.specs.Iterator.{item_count};
 ghost use Rattle.density_rule.specs.Spread.{shares};
-ghost use Rattle.density_rule.specs.declared.TheConstants.{SEGMENT_SLOTS};
+ghost use Rattle.density_rule.specs.declared.TheConstants.{SEGMENT_RECORDS};
 ghost use Rattle.spread_plan.specs.Plans.{full_counts, spread_moves};
 ghost use Rattle.spread_plan.specs.States.{GivesMove, coming};
 
-use super::{Move, SEGMENT_SLOTS, packed_in, share, shared_before};
+use super::{Move, SEGMENT_RECORDS, packed_in, share, shared_before};
 use std::iter::FusedIterator;
 use std::marker::Model;
 
@@ -39,7 +39,7 @@ impl SpreadMoves {
     pub fn new(n: u32, m: u32) -> SpreadMoves
         requires some { 1 ≤ m }
         requires segments { m ≤ 2 ^ 16 }
-        requires room { n ≤ SEGMENT_SLOTS * m }
+        requires room { n ≤ SEGMENT_RECORDS * m }
         ensures moves { result.moves ≡ spread_moves n m }
         ensures counts { result.counts ≡ full_counts n m }
     {
@@ -56,7 +56,7 @@ impl SpreadMoves {
     pub fn done(n: u32, m: u32) -> SpreadMoves
         requires some { 1 ≤ m }
         requires segments { m ≤ 2 ^ 16 }
-        requires room { n ≤ SEGMENT_SLOTS * m }
+        requires room { n ≤ SEGMENT_RECORDS * m }
         ensures moves { result.moves ≡ [] }
         ensures counts { result.counts ≡ shares n m }
     {
@@ -112,11 +112,11 @@ impl Iterator for SpreadMoves {
                 return None;
             }
             self.to -= 1;
-            self.end = self.start.min(self.to * SEGMENT_SLOTS);
+            self.end = self.start.min(self.to * SEGMENT_RECORDS);
             self.start = shared_before(self.records, self.segments, self.to);
         }
-        let from = (self.end - 1) / SEGMENT_SLOTS;
-        let first = self.start.max(from * SEGMENT_SLOTS);
+        let from = (self.end - 1) / SEGMENT_RECORDS;
+        let first = self.start.max(from * SEGMENT_RECORDS);
         let count = self.end - first;
         self.end = first;
         Some(Move {

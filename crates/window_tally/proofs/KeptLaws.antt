@@ -20,7 +20,7 @@ use Rattle.window_tally.specs.Inside.{view_by, KeepsBy}
 use Rattle.window_tally.proofs.PlaceLaws.{leaves_of-counts, place_in_tree}
 use Rattle.window_tally.proofs.ViewLaws.{records_fit, empty_is, forgotten_is, loaded_is, updated_is, spread_is, resized_is}
 use Rattle.window_tally.proofs.RestLaws.{marks_in-spread, marks_in-resized}
-use Rattle.density_rule.specs.declared.TheConstants.{SEGMENT_SLOTS}
+use Rattle.density_rule.specs.declared.TheConstants.{SEGMENT_RECORDS}
 
 -- vectors that hold the counts and marks of a tally are its fields
 pub record Becomes (hmax height : ℕ) (items : List ℕ) (marks : List (Option ℕ)) (t : TallyView) : Type 0 where
@@ -89,11 +89,11 @@ module _ (hmax height : ℕ) (items : List ℕ) (marks : List (Option ℕ)) (kep
   pub forgotten_becomes : (n : ℕ) (new : List (Option ℕ)) → new ≡ replicate n None → n ≡ length marks → Becomes hmax height items new (record (view_by hmax height items marks) { marks = no_marks height })
   forgotten_becomes n new is all = becomes (record (view_by hmax height items marks) { marks = no_marks height }) items new kept.counts_size (omega (arith, ap length is, length-replicate {A = Option ℕ} n None, all, kept.marks_size)) kept.sums (marks_in-none height new (none_each new n is)) (forgotten_is (view_by hmax height items marks) kept.sound)
 
-  pub loaded_becomes : (segment count : ℕ) (new : List ℕ) → count ≤ SEGMENT_SLOTS → marks_in height marks ≡ no_marks height → length new ≡ length items → HasCounts height new (set (leaves_of height items) segment count)
+  pub loaded_becomes : (segment count : ℕ) (new : List ℕ) → count ≤ SEGMENT_RECORDS → marks_in height marks ≡ no_marks height → length new ≡ length items → HasCounts height new (set (leaves_of height items) segment count)
       → Becomes hmax height new marks (record (view_by hmax height items marks) { counts = set (leaves_of height items) segment count })
   loaded_becomes segment count new small none size has = becomes (record (view_by hmax height items marks) { counts = set (leaves_of height items) segment count }) new marks (omega (arith, size, kept.counts_size)) kept.marks_size has refl (loaded_is (view_by hmax height items marks) segment count kept.sound small none)
 
-  pub updated_becomes : (segment : ℕ) (adds : Bool) (new : List ℕ) (aged : List (Option ℕ)) → segment < 2 ^ height → (adds ≡ true → get_or (leaves_of height items) segment 0 < SEGMENT_SLOTS) → (adds ≡ false → 1 ≤ get_or (leaves_of height items) segment 0)
+  pub updated_becomes : (segment : ℕ) (adds : Bool) (new : List ℕ) (aged : List (Option ℕ)) → segment < 2 ^ height → (adds ≡ true → get_or (leaves_of height items) segment 0 < SEGMENT_RECORDS) → (adds ≡ false → 1 ≤ get_or (leaves_of height items) segment 0)
       → length new ≡ length items → length aged ≡ length marks → HasCounts height new (counts_after adds (leaves_of height items) segment) → marks_in height aged ≡ updated_marks height segment (marks_in height marks)
       → Becomes hmax height new aged (record (view_by hmax height items marks) { counts = counts_after adds (leaves_of height items) segment; marks = updated_marks height segment (marks_in height marks) })
   updated_becomes segment adds new aged in_store room some size marks_size has marked = becomes (record (view_by hmax height items marks) { counts = counts_after adds (leaves_of height items) segment; marks = updated_marks height segment (marks_in height marks) }) new aged (omega (arith, size, kept.counts_size)) (omega (arith, marks_size, kept.marks_size)) has marked (updated_is (view_by hmax height items marks) segment adds kept.sound in_store room some)

@@ -19,10 +19,10 @@ use Rattle.density_rule.proofs.Shares.{length-shares, length-spread_counts, coun
 use Rattle.density_rule.proofs.Room.{even_inside}
 use Rattle.density_rule.proofs.Drift.{keeps_none, keeps_updated, keeps_spread, keeps_resized}
 use Rattle.window_tally.specs.View.{TallyView, IsTally, empty_tally}
-use Rattle.density_rule.specs.declared.TheConstants.{SEGMENT_SLOTS}
+use Rattle.density_rule.specs.declared.TheConstants.{SEGMENT_RECORDS}
 
 -- few records, so sums fit
-pub sum-few : (counts : List ℕ) → ((i : ℕ) → get_or counts i 0 ≤ SEGMENT_SLOTS) → sum counts ≤ length counts * SEGMENT_SLOTS
+pub sum-few : (counts : List ℕ) → ((i : ℕ) → get_or counts i 0 ≤ SEGMENT_RECORDS) → sum counts ≤ length counts * SEGMENT_RECORDS
 sum-few [] few = omega arith
 sum-few (c ∷ counts) few = omega (arith, sum_by-cons (λ x. x) c counts, few 0, sum-few counts (λ i. few (suc i)))
 
@@ -34,7 +34,7 @@ records_fit t is =
 pub empty_is : (hmax height : ℕ) → hmax ≤ 16 → height ≤ hmax → IsTally (empty_tally hmax height)
 empty_is hmax height low le = record { hmax_is = low; height_is = le; size = length-replicate (2 ^ height) 0; capacity = capacity; drift = keeps_none height _ }
   where
-    capacity : (i : ℕ) → get_or (replicate (2 ^ height) 0) i 0 ≤ SEGMENT_SLOTS
+    capacity : (i : ℕ) → get_or (replicate (2 ^ height) 0) i 0 ≤ SEGMENT_RECORDS
     capacity i = elim (cases_lt i (2 ^ height)) [
       | inl lt ↦ omega (arith, get_or-replicate {A = ℕ} (2 ^ height) i 0 0 lt)
       | inr ge ↦ omega (arith, get_or_past {X = ℕ} (replicate (2 ^ height) 0) i 0 (omega (arith, length-replicate {A = ℕ} (2 ^ height) 0)))
@@ -44,7 +44,7 @@ pub forgotten_is : (t : TallyView) → IsTally t → IsTally (record t { marks =
 forgotten_is t is = record { hmax_is = is.hmax_is; height_is = is.height_is; size = is.size; capacity = is.capacity; drift = keeps_none t.height t.counts }
 
 -- a new count of one segment
-set_few : (counts : List ℕ) (segment count : ℕ) → count ≤ SEGMENT_SLOTS → ((i : ℕ) → get_or counts i 0 ≤ SEGMENT_SLOTS) → (i : ℕ) → get_or (set counts segment count) i 0 ≤ SEGMENT_SLOTS
+set_few : (counts : List ℕ) (segment count : ℕ) → count ≤ SEGMENT_RECORDS → ((i : ℕ) → get_or counts i 0 ≤ SEGMENT_RECORDS) → (i : ℕ) → get_or (set counts segment count) i 0 ≤ SEGMENT_RECORDS
 set_few counts segment count small few i = elim (cases_eq i segment) [
   | inl same ↦ elim (cases_lt segment (length counts)) [
     | inl lt ↦ omega (arith, ap (λ (n : ℕ). get_or (set counts segment count) n 0) same, get_or-set_same counts segment count 0 lt)
@@ -53,14 +53,14 @@ set_few counts segment count small few i = elim (cases_eq i segment) [
   | inr other ↦ omega (arith, get_or-set_other counts segment i count 0 other, few i)
 ]
 
-pub loaded_is : (t : TallyView) (segment count : ℕ) → IsTally t → count ≤ SEGMENT_SLOTS → t.marks ≡ no_marks t.height → IsTally (record t { counts = set t.counts segment count })
+pub loaded_is : (t : TallyView) (segment count : ℕ) → IsTally t → count ≤ SEGMENT_RECORDS → t.marks ≡ no_marks t.height → IsTally (record t { counts = set t.counts segment count })
 loaded_is t segment count is small none = record { hmax_is = is.hmax_is; height_is = is.height_is; size = length-set t.counts segment count ∙ is.size; capacity = set_few t.counts segment count small is.capacity; drift = subst (KeepsDrift (set t.counts segment count)) (sym none) (keeps_none t.height (set t.counts segment count)) }
 
-pub updated_is : (t : TallyView) (segment : ℕ) (adds : Bool) → IsTally t → segment < 2 ^ t.height → (adds ≡ true → get_or t.counts segment 0 < SEGMENT_SLOTS) → (adds ≡ false → 1 ≤ get_or t.counts segment 0)
+pub updated_is : (t : TallyView) (segment : ℕ) (adds : Bool) → IsTally t → segment < 2 ^ t.height → (adds ≡ true → get_or t.counts segment 0 < SEGMENT_RECORDS) → (adds ≡ false → 1 ≤ get_or t.counts segment 0)
     → IsTally (record t { counts = counts_after adds t.counts segment; marks = updated_marks t.height segment t.marks })
 updated_is t segment adds is in_store room some = record { hmax_is = is.hmax_is; height_is = is.height_is; size = length-counts_after adds t.counts segment ∙ is.size; capacity = set_few t.counts segment (count_after adds (get_or t.counts segment 0)) (by_change adds room) is.capacity; drift = keeps_updated t.height t.counts t.marks segment adds (omega (arith, is.height_is, is.hmax_is)) (omega (arith, is.size)) (omega (arith, records_fit t is)) some is.drift }
   where
-    by_change : (adds : Bool) → (adds ≡ true → get_or t.counts segment 0 < SEGMENT_SLOTS) → count_after adds (get_or t.counts segment 0) ≤ SEGMENT_SLOTS
+    by_change : (adds : Bool) → (adds ≡ true → get_or t.counts segment 0 < SEGMENT_RECORDS) → count_after adds (get_or t.counts segment 0) ≤ SEGMENT_RECORDS
     by_change true room = omega (arith, room refl)
     by_change false room = omega (arith, is.capacity segment)
 
@@ -78,7 +78,7 @@ spread_is t j w is window larger bounds = record { hmax_is = is.hmax_is; height_
     between = record { least_is = omega (arith, bounds.least_is, least_of-some t.height j (omega (arith, window.low))); most_is = bounds.most_is }
 
     -- a segment is a window of height 0
-    capacity : (i : ℕ) → get_or (spread_counts t.counts j w) i 0 ≤ SEGMENT_SLOTS
+    capacity : (i : ℕ) → get_or (spread_counts t.counts j w) i 0 ≤ SEGMENT_RECORDS
     capacity i = elim (cases_lt i (length t.counts)) [
       | inr past ↦ omega (arith, get_or_past (spread_counts t.counts j w) i 0 (omega (arith, length-spread_counts t.counts j w fits)))
       | inl lt ↦
@@ -98,10 +98,10 @@ resized_is t height is le bounds = record { hmax_is = is.hmax_is; height_is = le
     least : 1 ≤ height → lower_of height ≤ sum t.counts
     least some = omega (arith, bounds.least_is, least_of-some height height some)
 
-    capacity : (i : ℕ) → get_or (shares (sum t.counts) (2 ^ height)) i 0 ≤ SEGMENT_SLOTS
+    capacity : (i : ℕ) → get_or (shares (sum t.counts) (2 ^ height)) i 0 ≤ SEGMENT_RECORDS
     capacity i = elim (cases_lt i (2 ^ height)) [
       | inr past ↦ omega (arith, get_or_past (shares (sum t.counts) (2 ^ height)) i 0 (omega (arith, length-shares (sum t.counts) (2 ^ height))))
       | inl lt ↦
-          let wide : 2 ^ height * (SEGMENT_SLOTS - height) ≤ 2 ^ height * SEGMENT_SLOTS = mul-le-mul_left (2 ^ height) (omega arith) in
-          omega (arith, get_or-shares (sum t.counts) (2 ^ height) i lt, (share_between (sum t.counts) height i 0 SEGMENT_SLOTS (omega arith) (omega (arith, bounds.most_is))).1)
+          let wide : 2 ^ height * (SEGMENT_RECORDS - height) ≤ 2 ^ height * SEGMENT_RECORDS = mul-le-mul_left (2 ^ height) (omega arith) in
+          omega (arith, get_or-shares (sum t.counts) (2 ^ height) i lt, (share_between (sum t.counts) height i 0 SEGMENT_RECORDS (omega arith) (omega (arith, bounds.most_is))).1)
     ]

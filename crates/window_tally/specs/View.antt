@@ -2,7 +2,7 @@
 use Rattle.std.specs.Prelude.{◌≡◌, ℕ, ◌^◌, ◌≤◌, List, length, replicate, slice_index, Option, Some, None, true, false}
 use Rattle.density_rule.specs.Marks.{Marks, no_marks, KeepsDrift}
 use Rattle.window_tally.specs.declared.Since.{Since}
-use Rattle.density_rule.specs.declared.TheConstants.{SEGMENT_SLOTS}
+use Rattle.density_rule.specs.declared.TheConstants.{SEGMENT_RECORDS}
 
 -- the greatest height, the height, the number of records of each segment, and the marks of the rested windows
 pub record TallyView : Type 0 where
@@ -16,7 +16,7 @@ pub record IsTally (t : TallyView) : Type 0 where
   pub hmax_is : t.hmax ≤ 16
   pub height_is : t.height ≤ t.hmax
   pub size : length t.counts ≡ 2 ^ t.height
-  pub capacity : (i : ℕ) → slice_index t.counts i ≤ SEGMENT_SLOTS
+  pub capacity : (i : ℕ) → slice_index t.counts i ≤ SEGMENT_RECORDS
   pub drift : KeepsDrift t.counts t.marks
 
 -- a tally of this height with no record and no mark

@@ -16,7 +16,7 @@ ghost use Rattle.density_rule.specs.Windows.{IsWindow, count_in, IsBalanced};
 ghost use Rattle.density_rule.specs.Updates.{counts_after, highest_broken as highest_broken_of};
 ghost use Rattle.density_rule.specs.Spread.{spread_counts, resized_counts};
 ghost use Rattle.density_rule.specs.Marks.{mark_of, no_marks, updated_marks, spread_marks, resized_marks, WithinDrift};
-ghost use Rattle.density_rule.specs.declared.TheConstants.{SEGMENT_SLOTS};
+ghost use Rattle.density_rule.specs.declared.TheConstants.{SEGMENT_RECORDS};
 
 use density_rule::{Window, window_of};
 use room::{clear_counts, clear_marks, fit_counts, fit_marks, no_counts, no_marks_yet};
@@ -128,7 +128,7 @@ impl Tally {
     /// Sets the number of records of a segment, at most 64, while no window is rested.
     pub fn load(&mut self, segment: u32, count: u32)
         requires in_store { segment < 2 ^ self.old.height }
-        requires small { count ≤ SEGMENT_SLOTS }
+        requires small { count ≤ SEGMENT_RECORDS }
         requires unrested { self.old.marks ≡ no_marks self.old.height }
         ensures after { self.new ≡ record self.old { counts = slice_set self.old.counts segment count } }
         ensures tally { IsTally self.new }
@@ -184,7 +184,7 @@ impl Tally {
     /// One record more in a segment that isn't full: an update of each window over it.
     pub fn add(&mut self, segment: u32)
         requires in_store { segment < 2 ^ self.old.height }
-        requires room { slice_index self.old.counts segment < SEGMENT_SLOTS }
+        requires room { slice_index self.old.counts segment < SEGMENT_RECORDS }
         ensures after { self.new ≡ record self.old {
           counts = counts_after true self.old.counts segment;
           marks = updated_marks self.old.height segment self.old.marks;
@@ -316,7 +316,7 @@ impl Tally {
     /// An update of the segment.
     fn update(&mut self, segment: u32, change: Change)
         requires in_store { segment < 2 ^ self.old.height }
-        requires room { change ≡ Change.Add → slice_index self.old.counts segment < SEGMENT_SLOTS }
+        requires room { change ≡ Change.Add → slice_index self.old.counts segment < SEGMENT_RECORDS }
         requires some { change ≡ Change.Take → 1 ≤ slice_index self.old.counts segment }
         ensures after { self.new ≡ record self.old {
           counts = counts_after (adds change) self.old.counts segment;

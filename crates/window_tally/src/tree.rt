@@ -8,7 +8,7 @@ ghost use Rattle.density_rule.specs.Marks.{updated_marks, one_more};
 ghost use Rattle.std.specs.Option.{option_map};
 ghost use Rattle.window_tally.specs.Choice.{adds};
 ghost use Rattle.window_tally.specs.Places.{place, leaves_of, marks_in, HasCounts, IsTree, Fills, FillsBelow, part_of};
-ghost use Rattle.density_rule.specs.declared.TheConstants.{SEGMENT_SLOTS};
+ghost use Rattle.density_rule.specs.declared.TheConstants.{SEGMENT_RECORDS};
 
 use crate::Change;
 use density_rule::{Window, in_bounds};
@@ -62,7 +62,7 @@ pub fn leaves_in(counts: &[u32], height: u32, window: Window) -> &[u32]
 pub fn set_count(counts: &mut [u32], height: u32, segment: u32, count: u32)
     requires tree { IsTree height counts.old }
     requires in_store { segment < 2 ^ height }
-    requires small { count ≤ SEGMENT_SLOTS }
+    requires small { count ≤ SEGMENT_RECORDS }
     ensures { HasCounts height counts.new (slice_set (leaves_of height counts.old) segment count) }
 {
     let before = counts[place_over(height, 0, segment)];

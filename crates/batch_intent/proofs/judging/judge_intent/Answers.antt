@@ -2,7 +2,7 @@ use Rattle.std.proofs.Common.{◌≡◌, ℕ, suc, ◌+◌, true, false, List, [
 use Rattle.station.specs.Bytes.{byte}
 use Rattle.map_model.specs.Store.{Update}
 use Rattle.map_model.specs.Items.{has_item}
-use Rattle.batch_intent.specs.Spelling.{intent_bytes, key_at, item_at, after_item, place_from, items_from, items_in}
+use Rattle.batch_intent.specs.Spelling.{intent_bytes, key_field, item_at, after_item, place_from, items_from, items_in}
 use Rattle.batch_intent.specs.Judging.{is_item, is_wrong_item, first_wrong}
 use Rattle.batch_intent.proofs.ItemsRead.{place_next, items_next, length-items_from}
 use Rattle.batch_intent.proofs.Judged.{wrong_by, right_by, wrong_at, none_next, found_of, counted}
@@ -27,7 +27,7 @@ returns-then-not-take_item-clause-refused c =
     let bytes = c.args.bytes.now in
     let wrong : is_wrong_item c.args.format bytes c.loop-j._j ≡ true =
     wrong_at c.args.format bytes c.loop-j._j c.loop-j.p c.loop-j.intent true c.loop-j.invariant.place c.loop-j.invariant.items
-    (wrong_by (is_item c.args.format bytes c.loop-j.p) (has_item (key_at bytes c.loop-j.p) c.loop-j.intent) c.take_item.result c.take_item.ensures.right c.if-not-take_item.true) in
+    (wrong_by (is_item c.args.format bytes c.loop-j.p) (has_item (key_field bytes c.loop-j.p) c.loop-j.intent) c.take_item.result c.take_item.ensures.right c.if-not-take_item.true) in
     counted c.args.format bytes c.if-count-eq0.false (omega (arith, c.if-from-gt-MOST_ITEMS.false, c.from.ensures))
     ∙ found_of c.args.format bytes c.loop-j._j (byte bytes 0) (omega arith) c.loop-j.invariant.right wrong
     ∙ ap Some (sym c.loop-j.invariant.place)
@@ -40,7 +40,7 @@ loop-j-preserved c =
     let e : suc j ≡ j + 1 = omega arith in
     let right : is_wrong_item c.args.format bytes j ≡ false =
     wrong_at c.args.format bytes j c.loop-j.p c.loop-j.intent false c.loop-j.invariant.place c.loop-j.invariant.items
-    (right_by (is_item c.args.format bytes c.loop-j.p) (has_item (key_at bytes c.loop-j.p) c.loop-j.intent) c.take_item.result c.take_item.ensures.right yes) in
+    (right_by (is_item c.args.format bytes c.loop-j.p) (has_item (key_field bytes c.loop-j.p) c.loop-j.intent) c.take_item.result c.take_item.ensures.right yes) in
     record {
       place = c.place_behind-p.ensures ∙ ap (after_item bytes) c.loop-j.invariant.place ∙ sym (place_next bytes j 1) ∙ ap (λ (n : ℕ). place_from bytes n 1) e;
       within = omega (arith, c.place_behind-p.ensures, c.take_item.ensures.within yes);

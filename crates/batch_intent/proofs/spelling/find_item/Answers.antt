@@ -3,7 +3,7 @@ use Rattle.std.specs.Str.{bytes_eq}
 use Rattle.station.specs.Bytes.{byte}
 use Rattle.batch_intent.specs.declared.places.TheConstants.{INTENT_SIZE}
 use Rattle.map_model.specs.Items.{has_item}
-use Rattle.batch_intent.specs.Spelling.{place_from, after_item, key_at, items_from, items_in}
+use Rattle.batch_intent.specs.Spelling.{place_from, after_item, key_field, items_from, items_in}
 use Rattle.batch_intent.proofs.ItemsRead.{place_next, room_at, found_from, missed_next}
 use Rattle.batch_intent.proofs.spelling.find_item.Goals as goal
 
@@ -19,12 +19,12 @@ pub returns-then-has_key : goal.returns-then-has_key
 unfolding items_in
 returns-then-has_key c =
     sym (found_from c.args.key c.args.bytes.now (byte c.args.bytes.now 0) 1 c.loop-j._j (omega arith)
-    (ap (λ (p : ℕ). bytes_eq c.args.key (key_at c.args.bytes.now p)) (sym c.loop-j.invariant.0) ∙ sym c.has_key.ensures ∙ c.if-has_key.true))
+    (ap (λ (p : ℕ). bytes_eq c.args.key (key_field c.args.bytes.now p)) (sym c.loop-j.invariant.0) ∙ sym c.has_key.ensures ∙ c.if-has_key.true))
 
 pub loop-j-preserved : goal.loop-j-preserved
 loop-j-preserved c =
     let e : suc c.loop-j._j ≡ c.loop-j._j + 1 = omega arith in
-    let other = ap (λ (p : ℕ). bytes_eq c.args.key (key_at c.args.bytes.now p)) (sym c.loop-j.invariant.0) ∙ sym c.has_key.ensures ∙ c.if-has_key.false in (
+    let other = ap (λ (p : ℕ). bytes_eq c.args.key (key_field c.args.bytes.now p)) (sym c.loop-j.invariant.0) ∙ sym c.has_key.ensures ∙ c.if-has_key.false in (
       c.place_behind-p.ensures ∙ ap (after_item c.args.bytes.now) c.loop-j.invariant.0 ∙ sym (place_next c.args.bytes.now c.loop-j._j 1) ∙ ap (λ (n : ℕ). place_from c.args.bytes.now n 1) e,
       ap (λ (n : ℕ). has_item c.args.key (items_from c.args.bytes.now n 1)) (sym e) ∙ missed_next c.args.key c.args.bytes.now c.loop-j._j 1 c.loop-j.invariant.1 other,
     )

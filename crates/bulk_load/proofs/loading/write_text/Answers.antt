@@ -16,6 +16,10 @@ use Rattle.bulk_load.proofs.CauseLaws.{read_shown, file_shown}
 use Rattle.bulk_load.proofs.Calls.{spares_on, fill_on}
 use Rattle.bulk_load.proofs.LoadLaws.{few_records, read_fault, read_no_damage, file_fault, file_no_damage}
 use Rattle.bulk_load.proofs.PackLaws.{packed_none, cost_on}
+use Rattle.resize_region.specs.Source.{copy_calls}
+use Rattle.bulk_load.specs.Packing.{room_in}
+use Rattle.bulk_load.specs.Spreading.{used_by}
+use Rattle.bulk_load.proofs.PackLaws.{runs_parts, room_some}
 use Rattle.bulk_load.proofs.loading.write_text.Goals as goal
 use Rattle.bulk_load.proofs.loading.write_text.Goals.{After-segments_at-segments, In-Ok}
 
@@ -159,3 +163,14 @@ returns-in-Err-clause-shown g c = subst (IsShownBy c.args.place.now.layout.forma
 pub returns-in-Err-spread_aside-clause-shown : goal.returns-in-Err-spread_aside-clause-shown
 returns-in-Err-spread_aside-clause-shown g c =
     subst (IsShownBy c.args.place.now.layout.format c.spread_aside.new.frames) (sym c.of_file.ensures) (file_shown c.args.place.now.layout.format c.in_ok-taken.taken.records c.spread_aside.new.frames c.in-Err-spread_aside.fault c.in-Err-spread_aside.ensures.cause)
+
+-- What is asked of the station.
+
+pub returns-in-Ok-spread_aside-clause-calls : goal.returns-in-Ok-spread_aside-clause-calls
+returns-in-Ok-spread_aside-clause-calls g c =
+    let layout = c.args.place.now.layout in
+    let r = c.in_ok-taken.ensures.read in
+    let t = c.in_ok-taken.taken in
+    let runs = c.in_ok-taken.ensures.calls in
+    let packed = c.in-Ok.ensures.calls runs.0 (runs_parts (room_in layout) (used_by t.records) t.written runs.0 (omega (arith, room_some layout c.requires.can.layout)) (omega (arith, r.1.behind, r.1.taken.count)) runs.1) in
+    omega (arith, runs.2, packed.2, packed.1.few, c.in-Ok-spread_aside.ensures.calls, ap (copy_calls (room_in layout) (used_by t.records)) c.segments_at-segments.ensures)

@@ -9,6 +9,8 @@ use Rattle.resize_region.proofs.OldRowLaws.{never_failed, failed_is}
 use Rattle.bulk_load.specs.Packing.{packed_at}
 use Rattle.bulk_load.proofs.PackLaws.{few_segments}
 use Rattle.bulk_load.proofs.PackedLaws as laws
+use Rattle.segment_frames.proofs.PartLaws.{parts_more}
+use Rattle.bulk_load.specs.Spreading.{used_by}
 use Rattle.bulk_load.proofs.packed.read_packed.Goals as goal
 use Rattle.bulk_load.proofs.packed.read_packed.Goals.{After-min-count, After-read_aside}
 
@@ -124,3 +126,13 @@ returns-clause-others g c i le lt =
     let n = c.min-count.result in
     let few : n ≤ places format old = omega (arith, c.min-count.ensures, c.requires.packed.room) in
     laws.read_other format old new n new.slots c.requires.packed.shares few c.read_aside.ensures.rest c.read_aside.ensures.frames c.read_aside.ensures.behind c.in_ok-judge_packed.ensures.held i (omega (arith, le, c.min-count.ensures)) lt
+
+pub returns-clause-calls : goal.returns-clause-calls
+returns-clause-calls g c made is =
+    let s = c.args.packed.now in
+    let is_packed = c.requires.packed in (
+      made + 1,
+      parts_more s.room (used_by c.args.records) (used_by c.args.records - s.unread) _ made is_packed.some is (omega (arith, is_packed.few, is_packed.within, c.requires.none, c.requires.some))
+          (λ more. omega (arith, more, c.min-count.ensures, is_packed.few, is_packed.within)),
+      omega (arith, c.read_aside.ensures.calls),
+    )

@@ -24,3 +24,15 @@ returns-clause-writes g c =
       fault = tt;
       failed = λ is. absurd (never_failed {T = Unit {0}} tt is);
     }
+
+pub returns-clause-calls : goal.returns-clause-calls
+returns-clause-calls g c = c.write_shares.ensures.writes.calls
+
+pub returns-clause-cost : goal.returns-clause-cost
+returns-clause-cost g c = c.write_shares.ensures.writes.cost
+
+pub returns-in_err-write_shares-clause-calls : goal.returns-in_err-write_shares-clause-calls
+returns-in_err-write_shares-clause-calls g c = c.write_shares.ensures.writes.calls
+
+pub returns-in_err-write_shares-clause-cost : goal.returns-in_err-write_shares-clause-cost
+returns-in_err-write_shares-clause-cost g c = c.write_shares.ensures.writes.cost

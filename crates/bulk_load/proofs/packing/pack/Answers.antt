@@ -37,3 +37,9 @@ pub returns-clause-packed : goal.returns-clause-packed
 returns-clause-packed g c = on_ok_weaker c.flush.result (λ flushed told rows is packed.
     flushed told (rows ++ record_of c.args.row.now ∷ []) (put g (goal.at.returns-clause-packed g c).After-put_row rows is)
     (put_packed c.args.place.now rows (record_of c.args.row.now) c.args.taken.now.written (g.S.Station.view c.args.station.now).held (omega (arith, is.count, c.requires.place.behind)) packed)) c.flush.ensures.writes.packed
+
+pub returns-then-slot-all-clause-calls : goal.returns-then-slot-all-clause-calls
+returns-then-slot-all-clause-calls g c = (0, omega arith, omega arith)
+
+pub returns-clause-calls : goal.returns-clause-calls
+returns-clause-calls g c = on_ok_weaker c.flush.result (λ written. (1, omega (arith, written, c.room_of-all.ensures.room), c.flush.ensures.calls)) c.flush.ensures.written

@@ -11,7 +11,7 @@ use Rattle.bulk_load.specs.Loads.{most_records}
 use Rattle.resize_region.specs.Shares.{places}
 use Rattle.bulk_load.specs.Reading.{GivesEntry, IsNextEntry, FitsLine}
 use Rattle.bulk_load.proofs.Calls.{none_spares, spares_on, fill_on}
-use Rattle.bulk_load.proofs.PackLaws.{room_some, cost_on}
+use Rattle.bulk_load.proofs.PackLaws.{room_some, cost_on, runs_on}
 use Rattle.bulk_load.proofs.TakenLaws.{none_taken}
 use Rattle.bulk_load.proofs.ReadLaws.{reading_fault, line_fault, loaded_more}
 use Rattle.bulk_load.proofs.reading.read_text.Goals as goal
@@ -48,6 +48,7 @@ loop-line-init g c = record {
   can = record { layout = c.requires.can.layout; region = c.requires.can.region; reach = c.requires.can.reach; journal = c.start_shares.ensures.journal ∙ c.requires.can.journal; live = c.requires.can.live };
   journal = c.start_shares.ensures.journal;
   cost = omega arith;
+  calls = (0, omega arith, omega arith);
 }
 
 pub start_shares-requires-clause-all : goal.start_shares-requires-clause-all
@@ -98,6 +99,7 @@ loop-line-preserved g c =
       journal = c.take_line.ensures.journal ∙ here.journal;
       cost = cost_on (segment_size c.args.place.now.layout) c.loop-line.taken.written c.take_line.new.taken.written (g.S.Station.view c.args.station.now).travel.written (g.S.Station.view c.loop-line.station).travel.written (g.S.Station.view c.take_line.new.station).travel.written
           c.in-Ok.ensures.onward here.cost c.in-Ok.ensures.cost;
+      calls = runs_on _ 0 c.loop-line.taken.written c.take_line.new.taken.written _ _ _ (omega arith) c.in-Ok.ensures.onward here.calls c.in-Ok.ensures.calls;
     }
 
 -- The end of the text.
@@ -140,3 +142,6 @@ returns-else-taken-clause-faulty g c told =
       ap (loading c.args.place.now.layout.format (most_records c.args.place.now.layout)) end.0 ∙ here.loaded told ∙ ap (reads here.rows) c.if-taken.false,
       number ∙ omega (arith, here.counted, ap (λ (l : List (List ℕ)). length l) end.0),
     )
+
+pub returns-then-taken-clause-calls : goal.returns-then-taken-clause-calls
+returns-then-taken-clause-calls g c = c.loop-line.invariant.calls

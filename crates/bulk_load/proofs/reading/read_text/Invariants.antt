@@ -3,12 +3,12 @@ use Rattle.station.specs.View.{Told}
 use Rattle.station.specs.Steps.{Steps}
 use Rattle.header_gate.specs.Places.{segment_size}
 use Rattle.key_slot.specs.Record.{Record}
-use Rattle.line_source.specs.SourceView.{Told as SourceTold}
+use Rattle.line_source.specs.SourceView.{SourceTold}
 use Rattle.line_source.specs.Progress.{HasGiven}
 use Rattle.map_model.specs.Regions.{Spares}
 use Rattle.bulk_load.specs.Loading.{loading, reads}
 use Rattle.bulk_load.specs.Loads.{most_records}
-use Rattle.bulk_load.specs.Packing.{CanFill, IsTaken, HasPlace, HasPacked}
+use Rattle.bulk_load.specs.Packing.{CanFill, IsTaken, HasPlace, HasPacked, WritesRuns, room_in}
 use Rattle.bulk_load.proofs.reading.read_text.Given as goal
 
 abbrev pub invariant-loop-line : goal.invariant-loop-line
@@ -28,6 +28,7 @@ invariant-loop-line g l = record {
   can : CanFill l.place l.frames (g.S.Station.view l.station);
   journal : l.frames.journal ≡ l.fn.frames.journal;
   cost : (g.S.Station.view l.station).travel.written ≤ (g.S.Station.view l.fn.station).travel.written + segment_size l.place.layout * l.taken.written;
+  calls : WritesRuns (room_in l.place.layout) 0 l.taken.written (g.S.Station.view l.fn.station).calls (g.S.Station.view l.station).calls;
 }
 
 abbrev pub decreases-loop-line : goal.decreases-loop-line

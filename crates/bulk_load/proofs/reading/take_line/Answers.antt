@@ -31,5 +31,6 @@ returns-else-not-ends g c =
       journal = refl;
       steps = none_spares c.args.place.now (g.S.Station.view c.args.station.now) c.requires.can.live;
       cost = omega arith;
+      calls = (0, omega arith, omega arith);
       failed = λ e. absurd (no_disk tt e);
     }

@@ -26,6 +26,7 @@ returns-then-taken-most g c k =
       journal = refl;
       steps = none_spares c.args.place.now (g.S.Station.view c.args.station.now) c.requires.can.live;
       cost = tt;
+      calls = tt;
       failed = λ e. absurd cc;
     }
 
@@ -66,6 +67,7 @@ returns-in-Ok g c k =
       journal = c.pack.ensures.journal;
       steps = c.pack.ensures.steps;
       cost = c.in-Ok.ensures.cost;
+      calls = c.in-Ok.ensures.calls;
       failed = λ e. absurd (no_disk tt e);
     }
 
@@ -81,5 +83,6 @@ returns-in-Err g c k =
       journal = c.pack.ensures.journal;
       steps = c.pack.ensures.steps;
       cost = tt;
+      calls = tt;
       failed = λ e. c.in-Err.ensures.failed (failed_as {T = Unit {0}} c.in-Err.fault c.in-Err.ensures.fault);
     }

@@ -1,4 +1,4 @@
-use Rattle.std.proofs.Common.{arith, ◌≡◌, inl, inr, refl, ℕ, ◌+◌, ◌-◌, ◌*◌, ◌/◌, ◌<◌, sym, ap, ◌∙◌}
+use Rattle.std.proofs.Common.{subst, arith, ◌≡◌, inl, inr, refl, ℕ, ◌+◌, ◌-◌, ◌*◌, ◌/◌, ◌<◌, sym, ap, ◌∙◌}
 use Rattle.std.proofs.lemmas.Bool.{cases_eq}
 use Rattle.std.proofs.lemmas.Result.{err_from_is_err_and}
 use Rattle.station.proofs.Composition.{no_steps, same_on, told_on}
@@ -10,6 +10,9 @@ use Rattle.resize_region.proofs.OldRowLaws.{never_failed}
 use Rattle.bulk_load.proofs.Calls.{fill_same}
 use Rattle.bulk_load.proofs.PackedLaws as laws
 use Rattle.bulk_load.proofs.SpreadLaws.{share_ends, share_run}
+use Rattle.segment_frames.specs.Parts.{GoesInParts}
+use Rattle.segment_frames.proofs.PartLaws.{parts_still, parts_on}
+use Rattle.bulk_load.specs.Spreading.{used_by}
 use Rattle.bulk_load.proofs.spreading.fill_places.Goals as goal
 use Rattle.bulk_load.proofs.spreading.fill_places.Goals.{After-share-size, In_ok-fill_share}
 
@@ -24,6 +27,7 @@ loop-f-init g c = record {
   slots = refl;
   steps = no_steps (g.S.Station.view c.args.station.now);
   unwritten = refl;
+  calls = parts_still _ _ _ _;
   can = c.requires.can;
   are = λ told rows are. are;
   filled = λ told rows are i le lt. absurd (omega (arith, le, lt));
@@ -87,6 +91,7 @@ loop-f-preserved g c =
       slots = done.reads.rest ∙ ap (λ (x : Batch). record x { slots = c.fill_share.new.frames.slots }) inv.slots;
       steps = same_on inv.steps done.reads.steps;
       unwritten = done.reads.unwritten ∙ inv.unwritten;
+      calls = parts_on _ _ _ _ _ _ _ _ inv.calls (subst (λ (room : ℕ). GoesInParts room (used_by c.args.records) (used_by c.args.records - c.loop-f.packed.unread) (used_by c.args.records - c.fill_share.new.packed.unread) (g.S.Station.view c.loop-f.station).calls (g.S.Station.view c.fill_share.new.station).calls) inv.room done.calls);
       can = fill_same c.args.place.now c.loop-f.frames c.fill_share.new.frames inv.can (ap (λ (b : Batch). b.journal) done.reads.rest) done.reads.steps;
       are = λ told rows are. done.reads.are (told_on inv.steps.frame told) rows (inv.are told rows are);
       filled = λ told rows are i le lt. elim (cases_eq i f) [
@@ -123,3 +128,6 @@ returns-clause-rest g c = let none : c.args.low + c.loop-f.f ≡ c.args.low = om
 
 pub returns-clause-filled : goal.returns-clause-filled
 returns-clause-filled g c told rows are i lt = c.loop-f.invariant.filled told rows are i (omega (arith, c.loop-f-test.false)) lt
+
+pub returns-clause-calls : goal.returns-clause-calls
+returns-clause-calls g c = c.loop-f.invariant.calls

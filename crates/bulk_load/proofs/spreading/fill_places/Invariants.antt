@@ -1,4 +1,4 @@
-use Rattle.std.proofs.Common.{◌≡◌, ℕ, ◌+◌, ◌*◌, ◌/◌, ◌<◌, ◌≤◌, List, []}
+use Rattle.std.proofs.Common.{◌≡◌, ◌-◌, ℕ, ◌+◌, ◌*◌, ◌/◌, ◌<◌, ◌≤◌, List, []}
 use Rattle.station.specs.Bytes.{Same}
 use Rattle.station.specs.View.{Told}
 use Rattle.station.specs.Steps.{Steps}
@@ -6,7 +6,8 @@ use Rattle.key_slot.specs.Record.{Record}
 use Rattle.map_model.specs.Array.{segment_at, spread_over}
 use Rattle.resize_region.specs.Shares.{share_in}
 use Rattle.bulk_load.specs.Packing.{CanFill}
-use Rattle.bulk_load.specs.Spreading.{IsPacked, ArePacked}
+use Rattle.bulk_load.specs.Spreading.{IsPacked, ArePacked, used_by}
+use Rattle.segment_frames.specs.Parts.{GoesInParts}
 use Rattle.bulk_load.proofs.spreading.fill_places.Given as goal
 
 abbrev pub invariant-loop-f : goal.invariant-loop-f
@@ -20,6 +21,7 @@ invariant-loop-f g l = record {
   slots : l.frames ≡ record l.fn.frames { slots = l.frames.slots };
   steps : Steps Same (g.S.Station.view l.fn.station) (g.S.Station.view l.station);
   unwritten : (g.S.Station.view l.station).travel.written ≡ (g.S.Station.view l.fn.station).travel.written;
+  calls : GoesInParts l.fn.packed.room (used_by l.records) (used_by l.records - l.fn.packed.unread) (used_by l.records - l.packed.unread) (g.S.Station.view l.fn.station).calls (g.S.Station.view l.station).calls;
   can : CanFill l.place l.frames (g.S.Station.view l.station);
   are : Told (g.S.Station.view l.fn.station) → (rows : List Record) → ArePacked l.place l.records rows l.fn.packed l.fn.frames (g.S.Station.view l.fn.station).held → ArePacked l.place l.records rows l.packed l.frames (g.S.Station.view l.station).held;
   filled : Told (g.S.Station.view l.fn.station) → (rows : List Record) → ArePacked l.place l.records rows l.fn.packed l.fn.frames (g.S.Station.view l.fn.station).held →

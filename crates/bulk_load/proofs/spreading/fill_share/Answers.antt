@@ -1,4 +1,4 @@
-use Rattle.std.proofs.Common.{arith, ◌≡◌, refl, ℕ, ◌-◌, ◌≤◌, List, ◌++◌, length, slice_range, sym, ap, ◌∙◌}
+use Rattle.std.proofs.Common.{subst, arith, ◌≡◌, refl, ℕ, ◌-◌, ◌≤◌, List, ◌++◌, length, slice_range, sym, ap, ◌∙◌}
 use Rattle.std.proofs.lemmas.Result.{err_from_is_err_and}
 use Rattle.station.proofs.Composition.{no_steps, same_on, told_on}
 use Rattle.key_slot.specs.Record.{Record}
@@ -9,6 +9,9 @@ use Rattle.bulk_load.specs.declared.packed.Packed.{Packed}
 use Rattle.bulk_load.proofs.Calls.{fill_same}
 use Rattle.bulk_load.proofs.PackedLaws as laws
 use Rattle.bulk_load.proofs.Slices.{slices_join, slice_none}
+use Rattle.segment_frames.specs.Parts.{GoesInParts}
+use Rattle.segment_frames.proofs.PartLaws.{parts_still, parts_on}
+use Rattle.bulk_load.specs.Spreading.{used_by}
 use Rattle.bulk_load.proofs.spreading.fill_share.Goals as goal
 
 pub loop-have-init : goal.loop-have-init
@@ -23,6 +26,7 @@ loop-have-init g c = record {
   slots = refl;
   steps = no_steps (g.S.Station.view c.args.station.now);
   unwritten = refl;
+  calls = parts_still _ _ _ _;
   can = c.requires.can;
   are = λ told rows are. are;
   share = λ told rows are. c.requires.none ∙ sym (slice_none rows c.args.packed.now.rest);
@@ -58,6 +62,7 @@ loop-have-preserved-in-Continue-1 g c =
       slots = done.reads.rest ∙ ap (λ (x : Batch). record x { slots = c.read_packed.new.frames.slots }) inv.slots;
       steps = same_on inv.steps done.reads.steps;
       unwritten = done.reads.unwritten ∙ inv.unwritten;
+      calls = parts_on _ _ _ _ _ _ _ _ inv.calls (subst (λ (room : ℕ). GoesInParts room (used_by c.args.records) (used_by c.args.records - c.loop-have.packed.unread) (used_by c.args.records - c.read_packed.new.packed.unread) (g.S.Station.view c.loop-have.station).calls (g.S.Station.view c.read_packed.new.station).calls) inv.room done.calls);
       can = fill_same c.args.place.now c.loop-have.frames c.read_packed.new.frames inv.can (ap (λ (b : Batch). b.journal) done.reads.rest) done.reads.steps;
       are = λ told rows are. done.reads.are (told_on inv.steps.frame told) rows (inv.are told rows are);
       share = λ told rows are.
@@ -89,6 +94,7 @@ loop-have-preserved g c =
       slots = done.frames ∙ ap (λ (x : Batch). record x { slots = c.take_last-have.new.frames.slots }) inv.slots;
       steps = inv.steps;
       unwritten = inv.unwritten;
+      calls = subst (λ (n : ℕ). GoesInParts c.args.packed.now.room (used_by c.args.records) (used_by c.args.records - c.args.packed.now.unread) (used_by c.args.records - n) (g.S.Station.view c.args.station.now).calls (g.S.Station.view c.loop-have.station).calls) (sym unread) inv.calls;
       can = record { layout = inv.can.layout; region = inv.can.region; reach = inv.can.reach; journal = ap (λ (b : Batch). b.journal) done.frames ∙ inv.can.journal; live = inv.can.live };
       are = λ told rows are.
           let before = inv.are told rows are in
@@ -131,3 +137,6 @@ returns-clause-filled g c told rows are = c.loop-have.invariant.share told rows 
 
 pub returns-clause-others : goal.returns-clause-others
 returns-clause-others g c i le lt other = c.loop-have.invariant.others i le lt other
+
+pub returns-clause-calls : goal.returns-clause-calls
+returns-clause-calls g c = c.loop-have.invariant.calls

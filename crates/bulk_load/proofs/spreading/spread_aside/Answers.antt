@@ -15,6 +15,10 @@ use Rattle.resize_region.specs.Shares.{places, share_in}
 use Rattle.bulk_load.proofs.Calls.{same_spares, none_spares, spares_on, fill_on, fill_same}
 use Rattle.bulk_load.proofs.PackLaws.{few_segments}
 use Rattle.bulk_load.proofs.SpreadLaws.{begins_early, spread_fits, spent, packed_beside, are_beside, packed_first, are_first}
+use Rattle.segment_frames.specs.Parts.{parts, GoesInParts}
+use Rattle.resize_region.proofs.CopyCalls.{copy_none, copy_read, copy_written, copy_few, halves}
+use Rattle.bulk_load.specs.Packing.{room_in}
+use Rattle.bulk_load.specs.Spreading.{used_by}
 use Rattle.bulk_load.proofs.spreading.spread_aside.Goals as goal
 use Rattle.bulk_load.proofs.spreading.spread_aside.Goals.{After-room_of-all, After-min-count, In_ok-fill_places, In_ok-write_aside}
 
@@ -40,6 +44,7 @@ loop-end-init g c =
       can = c.requires.can;
       journal = refl;
       cost = omega arith;
+      calls = copy_none _ _ _ _ _ _ _;
       are = λ told rows are long packed. are_first c.args.place.now c.args.records rows c.args.frames.now (record { room = c.room_of-all.result / 2; rest = c.args.records; unread = c.used_by.result }) (g.S.Station.view c.args.station.now).held are long half refl c.used_by.ensures packed c.requires.empty;
       written = λ told rows are long packed i le lt. absurd (omega (arith, le, lt));
     }
@@ -147,6 +152,11 @@ loop-end-preserved g c =
       journal = ap (λ (b : Batch). b.journal) clear.rest ∙ ap (λ (b : Batch). b.journal) fill.reads.rest ∙ inv.journal;
       cost = spent (segment_size place.layout) low n c.loop-end.end (g.S.Station.view c.loop-end.station).travel.written (g.S.Station.view c.write_aside.new.station).travel.written ((g.S.Station.view c.args.station.now).travel.written + segment_size place.layout * c.args.segments) (next g at)
           (omega (arith, c.write_aside.ensures.cost, fill.reads.unwritten)) inv.cost;
+      calls =
+          let half : c.loop-end.packed.room ≡ c.room_of-all.result - (c.room_of-all.result - c.room_of-all.result / 2) = omega (arith, inv.halves) in
+          copy_written _ _ _ _ c.args.segments (c.args.segments - c.loop-end.end) (c.args.segments - low) _ _ _ (omega (arith, c.room_of-all.ensures.some))
+          (copy_read _ _ _ _ _ _ _ _ _ _ inv.calls (subst (λ (room : ℕ). GoesInParts room (used_by c.args.records) (used_by c.args.records - c.loop-end.packed.unread) (used_by c.args.records - s.unread) (g.S.Station.view c.loop-end.station).calls (g.S.Station.view c.fill_places.new.station).calls) half fill.calls))
+          (omega (arith, c.loop-end-test.true, inv.upto)) (λ more. omega (arith, more, c.min-count.ensures, inv.upto)) c.write_aside.ensures.calls;
       are = λ told rows are long packed.
           let told_l = told_on inv.steps.frame told in
           let told_m = told_on fill.reads.steps.frame told_l in
@@ -175,3 +185,10 @@ loop-end-preserved g c =
 
 pub returns-clause-spread : goal.returns-clause-spread
 returns-clause-spread g c told rows are long packed i lt = c.loop-end.invariant.written told rows are long packed i (omega (arith, c.loop-end-test.false)) lt
+
+pub returns-clause-calls : goal.returns-clause-calls
+returns-clause-calls g c =
+    let all = c.room_of-all.result in
+    let used = used_by c.args.records in
+    let same = c.room_of-all.ensures.room in
+    omega (arith, copy_few _ _ _ _ _ _ _ _ c.loop-end.invariant.calls, ap (λ (n : ℕ). parts (n - (all - all / 2)) used) same, halves (room_in c.args.place.now.layout) all used c.args.segments same)

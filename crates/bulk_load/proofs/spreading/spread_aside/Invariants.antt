@@ -1,4 +1,4 @@
-use Rattle.std.proofs.Common.{◌≡◌, ℕ, ◌+◌, ◌*◌, ◌/◌, ◌<◌, ◌≤◌, List, [], length}
+use Rattle.std.proofs.Common.{◌≡◌, ◌-◌, ℕ, ◌+◌, ◌*◌, ◌/◌, ◌<◌, ◌≤◌, List, [], length}
 use Rattle.station.specs.View.{Told}
 use Rattle.station.specs.Steps.{Steps}
 use Rattle.header_gate.specs.Places.{segment_size}
@@ -10,6 +10,7 @@ use Rattle.resize_region.specs.Aside.{aside_bytes}
 use Rattle.resize_region.specs.Shares.{share_in}
 use Rattle.bulk_load.specs.Packing.{CanFill, AreRows, HasPacked}
 use Rattle.bulk_load.specs.Spreading.{used_by, IsPacked, ArePacked}
+use Rattle.resize_region.proofs.CopyCalls.{CopyCalls}
 use Rattle.bulk_load.proofs.spreading.spread_aside.Given as goal
 
 abbrev pub invariant-loop-end : goal.invariant-loop-end
@@ -23,6 +24,7 @@ invariant-loop-end g l = record {
   can : CanFill l.place l.frames (g.S.Station.view l.station);
   journal : l.frames.journal ≡ l.fn.frames.journal;
   cost : (g.S.Station.view l.station).travel.written + segment_size l.place.layout * l.end ≤ (g.S.Station.view l.fn.station).travel.written + segment_size l.place.layout * l.segments;
+  calls : CopyCalls (l.all - l.room) (used_by l.records) (used_by l.records - l.packed.unread) l.room l.segments (l.segments - l.end) (g.S.Station.view l.fn.station).calls (g.S.Station.view l.station).calls;
   are : Told (g.S.Station.view l.fn.station) → (rows : List Record) → AreRows l.place.layout.format rows → length rows ≡ l.records → HasPacked l.place rows (used_by l.records) (g.S.Station.view l.fn.station).held →
       ArePacked l.place l.records rows l.packed l.frames (g.S.Station.view l.station).held;
   written : Told (g.S.Station.view l.fn.station) → (rows : List Record) → AreRows l.place.layout.format rows → length rows ≡ l.records → HasPacked l.place rows (used_by l.records) (g.S.Station.view l.fn.station).held →

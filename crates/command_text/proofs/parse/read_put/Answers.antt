@@ -4,14 +4,14 @@ use Rattle.std.proofs.lemmas.Bool.{le-ltb}
 use Rattle.percent_encoding.proofs.PercentLemmas.{percent_decode-nil}
 use Rattle.key_slot.specs.Format.{value_room}
 use Rattle.command_text.specs.declared.command.Command.TheVariants.{Put, OversizedValue}
-use Rattle.command_text.specs.Command.{put_of, with_key, with_value}
+use Rattle.command_text.specs.Command.{put_read, with_key, with_value}
 use Rattle.command_text.proofs.parse.read_put.Goals as goal
 
-no_value : (f : ℕ) (k : List ℕ) → with_key f k (λ key. with_value f [] (λ value. Put key value)) ≡ put_of f (k ∷ [])
+no_value : (f : ℕ) (k : List ℕ) → with_key f k (λ key. with_value f [] (λ value. Put key value)) ≡ put_read f (k ∷ [])
 no_value f k =
     ap (λ (v : List ℕ). with_key f k (λ key. cond (nat_lt (value_room f) (length v)) OversizedValue (Put key v))) percent_decode-nil
     ∙ ap (λ (b : Bool). with_key f k (λ key. cond b OversizedValue (Put key []))) (le-ltb (value_room f) 0 (omega arith))
 
 pub returns-in_default-next_word : goal.returns-in_default-next_word
 returns-in_default-next_word c =
-    c.put.ensures ∙ no_value c.args.format c.in-Some.key.now ∙ ap (put_of c.args.format) (sym (c.in-Some.ensures.0 ∙ ap (λ (l : List (List ℕ)). c.in-Some.key.now ∷ l) c.in_default-next_word.ensures))
+    c.put.ensures ∙ no_value c.args.format c.in-Some.key.now ∙ ap (put_read c.args.format) (sym (c.in-Some.ensures.0 ∙ ap (λ (l : List (List ℕ)). c.in-Some.key.now ∷ l) c.in_default-next_word.ensures))

@@ -1,4 +1,4 @@
-use Rattle.std.proofs.Common.{◌≡◌, ℕ, ◌+◌, ◌*◌, ◌^◌, List, refl, sym, ap, subst, ◌∙◌, arith}
+use Rattle.std.proofs.Common.{◌≡◌, ◌≤◌, ℕ, ◌+◌, ◌*◌, ◌^◌, List, refl, sym, ap, subst, ◌∙◌, arith}
 use Rattle.density_rule.specs.Marks.{no_marks}
 use Rattle.station.proofs.Composition.{no_steps, same_on, told_on}
 use Rattle.header_gate.specs.declared.layout.Layout.{Layout}
@@ -9,7 +9,11 @@ use Rattle.index_file.proofs.Travelling.{counts_on}
 use Rattle.index_file.specs.Counting.{AreCounted, CountFailsAt}
 use Rattle.index_file.proofs.CountingLaws.{count_fails_more}
 use Rattle.index_file.proofs.Indexes.{index_on}
+use Rattle.index_file.proofs.Answering.{never_failed}
+use Rattle.segment_frames.specs.Parts.{InParts}
+use Rattle.segment_frames.proofs.PartLaws.{parts_none, parts_more}
 use Rattle.index_file.proofs.counts.read_counts.Goals as goal
+use Rattle.index_file.proofs.counts.read_counts.Goals.{After-read_count_piece}
 
 -- the same of another height and another file
 moved : (l : Layout) (h g n : ℕ) (counts f e : List ℕ) → h ≡ g → f ≡ e → AreCounted l h n counts f → AreCounted l g n counts e
@@ -27,6 +31,7 @@ loop-first-init g c = record {
   steps = no_steps (g.S.Station.view c.args.station.now);
   counted = λ told. record { counts_are = λ i lt. absurd (omega (arith, lt)); bounds = λ i lt. absurd (omega (arith, lt)) };
   travel = refl;
+  calls = (0, parts_none _ _ _, omega arith);
 }
 
 pub read_count_piece-requires-clause-uncounted : goal.read_count_piece-requires-clause-uncounted
@@ -42,6 +47,12 @@ pub read_count_piece-requires-clause-segments : goal.read_count_piece-requires-c
 read_count_piece-requires-clause-segments g c =
     let tall : 2 ^ c.loop-first.tally.height ≡ 2 ^ c.args.tally.now.height = ap (λ (t : TallyView). 2 ^ t.height) c.loop-first.invariant.kept in
     omega (arith, tall, c.segment_count-end.ensures.count, c.loop-first-test.true)
+
+-- a piece more is read or written
+called : (g : _) (c : After-read_count_piece g) → (made : ℕ) × InParts 1024 (2 ^ c.args.tally.now.height) (c.loop-first.first + c.min-count.result) made × ((g.S.Station.view c.read_count_piece.new.station).calls ≤ (g.S.Station.view c.args.station.now).calls + made)
+called g c =
+    let is = c.loop-first.invariant.calls in
+    (is.0 + 1, parts_more 1024 (2 ^ c.args.tally.now.height) c.loop-first.first (c.loop-first.first + c.min-count.result) is.0 (omega arith) is.1 (omega (arith, c.segment_count-end.ensures.count, c.loop-first-test.true)) (λ more. omega (arith, more, c.min-count.ensures, c.segment_count-end.ensures.count)), omega (arith, is.2, c.read_count_piece.ensures.calls))
 
 pub loop-first-preserved : goal.loop-first-preserved
 loop-first-preserved g c =
@@ -59,10 +70,8 @@ loop-first-preserved g c =
           (c.in-Ok.ensures.counted (told_on i.steps.frame told)
           (moved c.args.layout.now c.args.tally.now.height c.loop-first.tally.height c.loop-first.first c.loop-first.tally.counts (g.S.Station.view c.args.station.now).held (g.S.Station.view c.loop-first.station).held (sym tall) (sym same) (i.counted told)));
       travel = counts_on c.args.layout.now c.loop-first.first c.min-count.result _ _ _ (omega (arith, c.loop-first-test.true)) i.travel c.read_count_piece.ensures.travel;
+      calls = called g (goal.at.loop-first-preserved g c).After-read_count_piece;
     }
-
-pub returns-in-Err-clause-steps : goal.returns-in-Err-clause-steps
-returns-in-Err-clause-steps g c = same_on c.loop-first.invariant.steps c.read_count_piece.ensures.steps
 
 pub returns-in-Err-clause-counts : goal.returns-in-Err-clause-counts
 returns-in-Err-clause-counts g c = record {
@@ -85,17 +94,31 @@ returns-clause-counted g c told =
     let done : c.loop-first.first ≡ 2 ^ c.args.tally.now.height = omega (arith, c.loop-first.invariant.within, c.segment_count-end.ensures.count, c.loop-first-test.false) in
     subst (λ (n : ℕ). AreCounted c.args.layout.now c.args.tally.now.height n c.loop-first.tally.counts (g.S.Station.view c.args.station.now).held) done (c.loop-first.invariant.counted told)
 
-pub returns-in-Err-clause-front : goal.returns-in-Err-clause-front
-returns-in-Err-clause-front g c = record {
-  bytes = 4 * (c.loop-first.first + c.min-count.result);
-  most = omega (arith, c.segment_count-end.ensures.count, c.loop-first-test.true);
-  now_is = counts_on c.args.layout.now c.loop-first.first c.min-count.result _ _ _ (omega (arith, c.loop-first-test.true)) c.loop-first.invariant.travel c.read_count_piece.ensures.travel;
-}
+pub returns-in-Err-clause-reads : goal.returns-in-Err-clause-reads
+returns-in-Err-clause-reads g c =
+    let inv = c.loop-first.invariant in
+    let is = called g (goal.at.returns-in-Err-clause-reads g c).After-read_count_piece in
+    record {
+      steps = same_on inv.steps c.read_count_piece.ensures.steps;
+      travel = tt;
+      front = record {
+        bytes = 4 * (c.loop-first.first + c.min-count.result);
+        most = omega (arith, c.segment_count-end.ensures.count, c.loop-first-test.true);
+        now_is = counts_on c.args.layout.now c.loop-first.first c.min-count.result _ _ _ (omega (arith, c.loop-first-test.true)) inv.travel c.read_count_piece.ensures.travel;
+      };
+      calls = omega (arith, is.2, is.1.few);
+      failed = λ failed. omega (arith, inv.steps.frame.disk_faults, c.in-Err.ensures.failed failed);
+    }
 
-pub returns-clause-travel : goal.returns-clause-travel
-returns-clause-travel g c =
-    let done : c.loop-first.first ≡ 2 ^ c.args.tally.now.height = omega (arith, c.loop-first.invariant.within, c.segment_count-end.ensures.count, c.loop-first-test.false) in
-    c.loop-first.invariant.travel ∙ ap (λ (n : ℕ). after_part (count_place c.args.layout.now 0) (4 * n) (g.S.Station.view c.args.station.now).travel) done
-
-pub returns-clause-front : goal.returns-clause-front
-returns-clause-front g c = record { bytes = 4 * c.loop-first.first; most = omega (arith, c.loop-first.invariant.within); now_is = c.loop-first.invariant.travel }
+pub returns-clause-reads : goal.returns-clause-reads
+returns-clause-reads g c =
+    let inv = c.loop-first.invariant in
+    let is = inv.calls in
+    let done : c.loop-first.first ≡ 2 ^ c.args.tally.now.height = omega (arith, inv.within, c.segment_count-end.ensures.count, c.loop-first-test.false) in
+    record {
+      steps = inv.steps;
+      travel = inv.travel ∙ ap (λ (n : ℕ). after_part (count_place c.args.layout.now 0) (4 * n) (g.S.Station.view c.args.station.now).travel) done;
+      front = record { bytes = 4 * c.loop-first.first; most = omega (arith, inv.within); now_is = inv.travel };
+      calls = omega (arith, is.2, is.1.few);
+      failed = λ failed. absurd (never_failed {T = Unit {0}} tt failed);
+    }

@@ -6,6 +6,7 @@ use Rattle.window_tally.specs.View.{TallyView}
 use Rattle.index_file.specs.Area.{count_place}
 use Rattle.index_file.specs.Judging.{windows_reason, counts_read, row_reason}
 use Rattle.index_file.specs.declared.fault.AreaFault.TheVariants.{Wrong}
+use Rattle.index_file.proofs.Answering.{never_wrong}
 use Rattle.index_file.proofs.JudgingLaws.{counts_are_read, count_fails_reason}
 use Rattle.index_file.proofs.loading.load_counts.Goals as goal
 
@@ -43,3 +44,12 @@ returns-in-Some-clause-refused g c told place e =
 
 pub returns-in-Err-clause-refused : goal.returns-in-Err-clause-refused
 returns-in-Err-clause-refused g c told place e = count_fails_reason c.args.layout.now c.args.tally.now.height (g.S.Station.view c.args.station.now).held place (c.in-Err.ensures.refused told place e)
+
+pub returns-in-Some-clause-reads : goal.returns-in-Some-clause-reads
+returns-in-Some-clause-reads g c = record {
+  steps = c.read_counts.ensures.reads.steps;
+  travel = tt;
+  front = c.read_counts.ensures.reads.front;
+  calls = c.read_counts.ensures.reads.calls;
+  failed = λ failed. absurd (never_wrong {T = Unit {0}} c.wrong_count.result (count_place c.args.layout.now c.first_segment.result) c.wrong_count.ensures failed);
+}

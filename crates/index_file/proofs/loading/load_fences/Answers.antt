@@ -4,6 +4,7 @@ use Rattle.veb_index.specs.Nodes.{fence_place}
 use Rattle.index_file.specs.Area.{node_place}
 use Rattle.index_file.specs.Judging.{fences_reason}
 use Rattle.index_file.specs.declared.fault.AreaFault.TheVariants.{Wrong}
+use Rattle.index_file.proofs.Answering.{never_wrong}
 use Rattle.index_file.proofs.LoadingLaws.{fences_none, fences_some, fences_fail}
 use Rattle.index_file.proofs.loading.load_fences.Goals as goal
 
@@ -21,3 +22,11 @@ returns-in-Some-clause-refused g c told place e =
 
 pub returns-in-Err-clause-refused : goal.returns-in-Err-clause-refused
 returns-in-Err-clause-refused g c told place e = fences_fail c.args.layout.now c.args.h (g.S.Station.view c.args.station.now).held place (c.in-Err.ensures.refused told place e)
+
+pub returns-in-Some-clause-reads : goal.returns-in-Some-clause-reads
+returns-in-Some-clause-reads g c = record {
+  steps = c.read_nodes.ensures.reads.steps;
+  travel = tt;
+  calls = c.read_nodes.ensures.reads.calls;
+  failed = λ failed. absurd (never_wrong {T = Unit {0}} c.wrong_node.result (node_place c.args.layout.now c.fence_position.result) c.wrong_node.ensures failed);
+}

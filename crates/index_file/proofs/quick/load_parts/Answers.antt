@@ -1,4 +1,4 @@
-use Rattle.std.proofs.Common.{◌≡◌, ℕ, ◌-◌, ◌^◌, ◌≤◌, Some, None, sym, ap, subst, ◌∙◌}
+use Rattle.std.proofs.Common.{◌≡◌, arith, ℕ, ◌-◌, ◌^◌, ◌≤◌, Some, None, sym, ap, subst, ◌∙◌}
 use Rattle.std.specs.Prelude.{Option}
 use Rattle.station.specs.View.{Told}
 use Rattle.station.proofs.Composition.{each_held, nothing_on, told_back}
@@ -12,7 +12,7 @@ use Rattle.recovery.specs.Parts.{AgreesWith}
 use Rattle.redo_journal.specs.declared.place.Place.{Place}
 use Rattle.window_tally.specs.View.{TallyView}
 use Rattle.index_file.specs.Judging.{counts_read, area_reason}
-use Rattle.index_file.specs.Reading.{after_area}
+use Rattle.index_file.specs.Reading.{after_area, area_calls}
 use Rattle.index_file.specs.Writing.{AreNodesOf}
 use Rattle.index_file.proofs.QuickLaws.{quick_agrees, loaded_parts, loaded_marks}
 use Rattle.index_file.proofs.SoundLaws.{left_sound}
@@ -45,6 +45,7 @@ returns-in-Ok-load_area-clause-opened g c =
       unrested = loaded_marks parts.tally c.load_area.new.tally kept (ap (λ (t : TallyView). t.marks) c.in-Ok.ensures.tally ∙ ap (λ (t : TallyView). no_marks t.height) (sym c.in-Ok.ensures.tally));
       no_intent = c.in-Ok.ensures.intent;
       travel = c.in-Ok-load_area.ensures.travel ∙ ap (λ (h : ℕ). after_area c.in-Ok.parts.place.layout h (g.S.Station.view c.args.station.now).travel) (sym next);
+      calls = omega (arith, c.load_area.ensures.calls, ap area_calls next);
     }
 
 none_some : (r : Reason) (o : Option Reason) → o ≡ Some r → o ≡ None → ⊥

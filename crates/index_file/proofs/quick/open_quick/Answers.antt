@@ -6,7 +6,7 @@ use Rattle.header_gate.specs.Header.{layout_in}
 use Rattle.header_gate.specs.Places.{page_size}
 use Rattle.header_gate.specs.Reasons.{IsSoundHeader, IsHeader, header_reason}
 use Rattle.map_model.specs.Image.{height_of}
-use Rattle.index_file.specs.Reading.{IsAreaFront}
+use Rattle.index_file.specs.Reading.{IsAreaFront, area_calls}
 use Rattle.header_gate.proofs.Soundness.{sound_of_none}
 use Rattle.index_file.specs.Opening.{IsQuick}
 use Rattle.index_file.proofs.Answering.{err_weaker, given_weaker, ok_weaker, on_ok_any}
@@ -88,3 +88,18 @@ returns-in-Ok-read_header-clause-memory g c is = (
   nothing_on (g.met.S.Station.lawful c.read_header.new.station) (nothing_on (g.met.S.Station.lawful c.sync.new.self) c.in-Ok.ensures.settled c.read_header.ensures.steps) c.open_left.ensures.steps,
   λ told. ap header_reason (sym (c.sync.ensures.steps.held told)) ∙ c.in-Ok-read_header.ensures.sound (told_on c.sync.ensures.steps.frame told),
 )
+
+-- What is asked of the station.
+
+pub returns-in-Ok-read_header-clause-calls : goal.returns-in-Ok-read_header-clause-calls
+returns-in-Ok-read_header-clause-calls g c =
+    given_weaker c.open_left.result _ _ (λ parts is. omega (arith, is.calls, c.read_header.ensures.calls, c.sync.ensures.counted)) c.open_left.ensures.opened
+
+pub returns-in-Ok-read_header-clause-page_calls : goal.returns-in-Ok-read_header-clause-page_calls
+returns-in-Ok-read_header-clause-page_calls g c =
+    ok_weaker c.open_left.result _ _ (λ given same none. omega (arith, same none, c.read_header.ensures.calls, c.sync.ensures.counted)) c.open_left.ensures.no_calls
+
+pub returns-in-Ok-read_header-clause-calls_told : goal.returns-in-Ok-read_header-clause-calls_told
+returns-in-Ok-read_header-clause-calls_told g c told =
+    let is = c.in-Ok-read_header.ensures.header (told_on c.sync.ensures.steps.frame told) in
+    omega (arith, c.open_left.ensures.calls, c.read_header.ensures.calls, c.sync.ensures.counted, ap area_calls (is.height_is ∙ ap height_of (c.sync.ensures.steps.held told)))

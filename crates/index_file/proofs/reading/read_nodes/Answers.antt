@@ -1,4 +1,4 @@
-use Rattle.std.proofs.Common.{◌≡◌, ℕ, ◌+◌, ◌-◌, ◌*◌, ◌^◌, List, refl, sym, ap, subst, ◌∙◌, arith}
+use Rattle.std.proofs.Common.{◌≡◌, ◌≤◌, ℕ, ◌+◌, ◌-◌, ◌*◌, ◌^◌, List, refl, sym, ap, subst, ◌∙◌, arith}
 use Rattle.station.proofs.Composition.{no_steps, same_on, told_on}
 use Rattle.index_file.specs.Area.{node_place}
 use Rattle.index_file.specs.Reading.{FailsAt, after_part}
@@ -6,7 +6,11 @@ use Rattle.index_file.proofs.Travelling.{nodes_on}
 use Rattle.index_file.specs.Writing.{AreNodesOf}
 use Rattle.index_file.proofs.ReadingLaws.{fails_more}
 use Rattle.index_file.proofs.Indexes.{index_on}
+use Rattle.index_file.proofs.Answering.{never_failed}
+use Rattle.segment_frames.specs.Parts.{InParts}
+use Rattle.segment_frames.proofs.PartLaws.{parts_none, parts_more}
 use Rattle.index_file.proofs.reading.read_nodes.Goals as goal
+use Rattle.index_file.proofs.reading.read_nodes.Goals.{After-read_node_piece}
 
 pub loop-first-init : goal.loop-first-init
 loop-first-init g c = record {
@@ -17,7 +21,14 @@ loop-first-init g c = record {
   steps = no_steps (g.S.Station.view c.args.station.now);
   taken = λ told x lt. absurd (omega (arith, lt));
   travel = refl;
+  calls = (0, parts_none _ _ _, omega arith);
 }
+
+-- a piece more is read or written
+called : (g : _) (c : After-read_node_piece g) → (made : ℕ) × InParts 64 (2 ^ c.args.h - 1) (c.loop-first.first + c.min-count.result) made × ((g.S.Station.view c.read_node_piece.new.station).calls ≤ (g.S.Station.view c.args.station.now).calls + made)
+called g c =
+    let is = c.loop-first.invariant.calls in
+    (is.0 + 1, parts_more 64 (2 ^ c.args.h - 1) c.loop-first.first (c.loop-first.first + c.min-count.result) is.0 (omega arith) is.1 (omega (arith, c.node_count-end.ensures, c.loop-first-test.true)) (λ more. omega (arith, more, c.min-count.ensures, c.node_count-end.ensures)), omega (arith, is.2, c.read_node_piece.ensures.calls))
 
 pub loop-first-preserved : goal.loop-first-preserved
 loop-first-preserved g c =
@@ -33,10 +44,8 @@ loop-first-preserved g c =
           let next = c.in-Ok.ensures.taken (told_on i.steps.frame told) (subst (λ (f : List ℕ). AreNodesOf c.args.layout.now.format c.args.layout.now c.args.h c.loop-first.index.fences c.loop-first.first f) (sym same) (i.taken told)) in
           subst (λ (f : List ℕ). AreNodesOf c.args.layout.now.format c.args.layout.now c.args.h c.read_node_piece.new.index.fences (c.loop-first.first + c.min-count.result) f) same next;
       travel = nodes_on c.args.layout.now c.loop-first.first c.min-count.result _ _ _ (omega (arith, c.loop-first-test.true)) i.travel c.read_node_piece.ensures.travel;
+      calls = called g (goal.at.loop-first-preserved g c).After-read_node_piece;
     }
-
-pub returns-in-Err-clause-steps : goal.returns-in-Err-clause-steps
-returns-in-Err-clause-steps g c = same_on c.loop-first.invariant.steps c.read_node_piece.ensures.steps
 
 pub returns-in-Err-clause-refused : goal.returns-in-Err-clause-refused
 returns-in-Err-clause-refused g c told place e =
@@ -58,10 +67,28 @@ returns-in-Err-clause-front g c = record {
   now_is = nodes_on c.args.layout.now c.loop-first.first c.min-count.result _ _ _ (omega (arith, c.loop-first-test.true)) c.loop-first.invariant.travel c.read_node_piece.ensures.travel;
 }
 
-pub returns-clause-travel : goal.returns-clause-travel
-returns-clause-travel g c =
-    let done : c.loop-first.first ≡ 2 ^ c.args.h - 1 = omega (arith, c.loop-first.invariant.within, c.node_count-end.ensures, c.loop-first-test.false) in
-    c.loop-first.invariant.travel ∙ ap (λ (n : ℕ). after_part (node_place c.args.layout.now 0) (64 * n) (g.S.Station.view c.args.station.now).travel) done
-
 pub returns-clause-front : goal.returns-clause-front
 returns-clause-front g c = record { bytes = 64 * c.loop-first.first; most = omega (arith, c.loop-first.invariant.within); now_is = c.loop-first.invariant.travel }
+
+pub returns-in-Err-clause-reads : goal.returns-in-Err-clause-reads
+returns-in-Err-clause-reads g c =
+    let inv = c.loop-first.invariant in
+    let is = called g (goal.at.returns-in-Err-clause-reads g c).After-read_node_piece in
+    record {
+      steps = same_on inv.steps c.read_node_piece.ensures.steps;
+      travel = tt;
+      calls = omega (arith, is.2, is.1.few);
+      failed = λ failed. omega (arith, inv.steps.frame.disk_faults, c.in-Err.ensures.failed failed);
+    }
+
+pub returns-clause-reads : goal.returns-clause-reads
+returns-clause-reads g c =
+    let inv = c.loop-first.invariant in
+    let is = inv.calls in
+    let done : c.loop-first.first ≡ 2 ^ c.args.h - 1 = omega (arith, inv.within, c.node_count-end.ensures, c.loop-first-test.false) in
+    record {
+      steps = inv.steps;
+      travel = inv.travel ∙ ap (λ (n : ℕ). after_part (node_place c.args.layout.now 0) (64 * n) (g.S.Station.view c.args.station.now).travel) done;
+      calls = omega (arith, is.2, is.1.few);
+      failed = λ failed. absurd (never_failed {T = Unit {0}} tt failed);
+    }

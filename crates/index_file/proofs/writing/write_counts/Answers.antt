@@ -1,11 +1,14 @@
-use Rattle.std.proofs.Common.{◌≡◌, ℕ, ◌^◌, ◌≤◌, List, length, refl, arith, ap, subst, ◌∙◌}
+use Rattle.std.proofs.Common.{◌≡◌, ◌+◌, ℕ, ◌^◌, ◌≤◌, List, length, refl, arith, ap, subst, ◌∙◌}
 use Rattle.station.proofs.Composition.{each_on, no_steps, touched_on, told_on, weaken}
 use Rattle.station.specs.Bytes.{byte}
 use Rattle.header_gate.specs.Places.{file_length}
 use Rattle.index_file.specs.Area.{count_place}
 use Rattle.index_file.specs.Writing.{AreCountsOf}
 use Rattle.index_file.proofs.Indexes.{index_on}
+use Rattle.segment_frames.specs.Parts.{InParts}
+use Rattle.segment_frames.proofs.PartLaws.{parts_none, parts_more}
 use Rattle.index_file.proofs.writing.write_counts.Goals as goal
+use Rattle.index_file.proofs.writing.write_counts.Goals.{After-write_count_piece}
 
 pub loop-first-init : goal.loop-first-init
 loop-first-init g c = record {
@@ -16,7 +19,14 @@ loop-first-init g c = record {
   written = λ told x lt. absurd (omega (arith, lt));
   cost = omega arith;
   no_reads = refl;
+  calls = (0, parts_none _ _ _, omega arith);
 }
+
+-- a piece more is read or written
+called : (g : _) (c : After-write_count_piece g) → (made : ℕ) × InParts 1024 (2 ^ c.args.tally.now.height) (c.loop-first.first + c.min-count.result) made × ((g.S.Station.view c.write_count_piece.new.station).calls ≤ (g.S.Station.view c.args.station.now).calls + made)
+called g c =
+    let is = c.loop-first.invariant.calls in
+    (is.0 + 1, parts_more 1024 (2 ^ c.args.tally.now.height) c.loop-first.first (c.loop-first.first + c.min-count.result) is.0 (omega arith) is.1 (omega (arith, c.segment_count-end.ensures.count, c.loop-first-test.true)) (λ more. omega (arith, more, c.min-count.ensures, c.segment_count-end.ensures.count)), omega (arith, is.2, c.write_count_piece.ensures.calls))
 
 pub loop-first-preserved : goal.loop-first-preserved
 loop-first-preserved g c =
@@ -30,6 +40,7 @@ loop-first-preserved g c =
       written = λ told. c.in_ok-write_count_piece.ensures.written (told_on i.steps.frame told) (i.written told);
       cost = omega (arith, c.write_count_piece.ensures.cost, i.cost);
       no_reads = c.write_count_piece.ensures.no_reads ∙ i.no_reads;
+      calls = called g (goal.at.loop-first-preserved g c).After-write_count_piece;
     }
 
 pub returns-in_err-write_count_piece-clause-steps : goal.returns-in_err-write_count_piece-clause-steps
@@ -39,3 +50,9 @@ pub returns-clause-written : goal.returns-clause-written
 returns-clause-written g c told =
     let done : c.loop-first.first ≡ 2 ^ c.args.tally.now.height = omega (arith, c.loop-first.invariant.within, c.segment_count-end.ensures.count, c.loop-first-test.false) in
     subst (λ (n : ℕ). AreCountsOf c.args.layout.now c.args.tally.now.counts n (g.S.Station.view c.loop-first.station).held) done (c.loop-first.invariant.written told)
+
+pub returns-in_err-write_count_piece-clause-calls : goal.returns-in_err-write_count_piece-clause-calls
+returns-in_err-write_count_piece-clause-calls g c = let is = called g (goal.at.returns-in_err-write_count_piece-clause-calls g c).After-write_count_piece in omega (arith, is.2, is.1.few)
+
+pub returns-clause-calls : goal.returns-clause-calls
+returns-clause-calls g c = let is = c.loop-first.invariant.calls in omega (arith, is.2, is.1.few)

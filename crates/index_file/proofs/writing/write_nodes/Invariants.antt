@@ -1,4 +1,4 @@
-use Rattle.std.proofs.Common.{◌≡◌, ◌+◌, ◌-◌, ◌*◌, ◌^◌, ◌≤◌, length}
+use Rattle.std.proofs.Common.{◌≡◌, ◌+◌, ◌-◌, ◌*◌, ◌^◌, ◌≤◌, ℕ, length}
 use Rattle.station.specs.Bytes.{Touched}
 use Rattle.station.specs.View.{Told, EachHeld}
 use Rattle.station.specs.Steps.{Steps}
@@ -7,6 +7,7 @@ use Rattle.index_file.specs.Clean.{IsAreaPlace}
 use Rattle.key_slot.specs.Format.{wide}
 use Rattle.index_file.specs.Reading.{HasIndex}
 use Rattle.index_file.specs.Writing.{AreNodesOf}
+use Rattle.segment_frames.specs.Parts.{InParts}
 use Rattle.index_file.proofs.writing.write_nodes.Given as goal
 
 abbrev pub invariant-loop-first : goal.invariant-loop-first
@@ -18,6 +19,7 @@ invariant-loop-first g l = record {
   written : Told (g.S.Station.view l.fn.station) → AreNodesOf wide l.layout l.h l.index.fences l.first (g.S.Station.view l.station).held;
   cost : (g.S.Station.view l.station).travel.written ≤ (g.S.Station.view l.fn.station).travel.written + 64 * l.first;
   no_reads : (g.S.Station.view l.station).travel.read ≡ (g.S.Station.view l.fn.station).travel.read;
+  calls : (made : ℕ) × InParts 64 (2 ^ l.h - 1) l.first made × ((g.S.Station.view l.station).calls ≤ (g.S.Station.view l.fn.station).calls + made);
 }
 
 abbrev pub decreases-loop-first : goal.decreases-loop-first

@@ -1,4 +1,4 @@
-use Rattle.std.proofs.Common.{◌≡◌, ◌≤◌, ◌<◌, ◌+◌, ◌-◌, ◌^◌, ℕ, List, [], length, get_or, take, drop, sym, ap, subst, inl, inr, ◌∙◌, arith}
+use Rattle.std.proofs.Common.{◌≡◌, ◌<◌, ◌+◌, ◌-◌, ◌^◌, ℕ, List, [], length, get_or, take, sym, ap, subst, inl, inr, ◌∙◌, arith}
 use Rattle.std.specs.FinMap.{entries}
 use Rattle.std.proofs.lemmas.Result.{err_from_is_err_and}
 use Rattle.std.proofs.Math.Pow.{pow_mono}
@@ -11,7 +11,6 @@ use Rattle.header_gate.specs.Places.{height_limit}
 use Rattle.header_gate.specs.declared.layout.Layout.{Layout}
 use Rattle.range_scan.specs.ReaderView.{ReaderView}
 use Rattle.range_scan.specs.Reading.{page_in, page_fault, next_page, behind}
-use Rattle.range_scan.specs.Faults.{IsDamageAt}
 use Rattle.range_scan.specs.Checking.{LieAbove}
 use Rattle.range_scan.specs.Walk.{after_walk}
 use Rattle.range_scan.proofs.Walks.{walk_none}
@@ -52,6 +51,7 @@ loop-page-init g c =
       early = λ told. omega (arith, next);
       steps = no_steps (g.S.Station.view a.station.now);
       reads = sym (walk_none a.layout a.region a.first c.new-reader.result.next (g.S.Station.view a.station.now).travel (sym next));
+      calls = omega arith;
     }
 
 -- the bytes that are read next are those of the file at entry
@@ -101,6 +101,7 @@ returns-in_err-next_counted-clause-reads g c =
       to = c.loop-page.reader.next + 1;
       travel = walk_from a.layout c.loop-page.reader.layout a.region c.loop-page.reader.region a.first c.loop-page.reader.next c.next_counted.new.reader.next _ _ _ inv.near.layout_is inv.near.region_is inv.reads c.next_counted.ensures.reads inv.near.onward (omega (arith, over.next_is))
           ∙ ap (λ (n : ℕ). after_walk a.layout a.region a.first n (g.S.Station.view a.station.now).travel) over.next_is;
+      calls = omega (arith, inv.calls, c.next_counted.ensures.calls, inv.near.onward, over.next_is);
       some = omega (arith, inv.near.onward);
       two = omega (arith, c.next_counted.ensures.is_reader.within, over.next_is, over.end_is, inv.near.two);
       within = omega (arith, c.next_counted.ensures.is_reader.within, over.next_is, over.end_is, inv.near.within);
@@ -123,6 +124,7 @@ returns-then-place-len-clause-reads g c =
       from = a.first;
       to = c.next_counted.new.reader.next;
       travel = walk_from a.layout c.loop-page.reader.layout a.region c.loop-page.reader.region a.first c.loop-page.reader.next c.next_counted.new.reader.next _ _ _ inv.near.layout_is inv.near.region_is inv.reads c.next_counted.ensures.reads inv.near.onward (omega (arith, next));
+      calls = omega (arith, inv.calls, c.next_counted.ensures.calls, inv.near.onward, next);
       some = omega (arith, inv.near.onward, next);
       two = omega (arith, c.next_counted.ensures.is_reader.within, end, inv.near.two);
       within = omega (arith, c.next_counted.ensures.is_reader.within, end, inv.near.within);
@@ -194,6 +196,7 @@ loop-page-preserved g c =
       ];
       steps = same_on inv.steps c.next_counted.ensures.steps;
       reads = walk_from a.layout c.loop-page.reader.layout a.region c.loop-page.reader.region a.first c.loop-page.reader.next c.next_counted.new.reader.next _ _ _ inv.near.layout_is inv.near.region_is inv.reads c.next_counted.ensures.reads inv.near.onward (omega (arith, next));
+      calls = omega (arith, inv.calls, c.next_counted.ensures.calls, inv.near.onward, next);
     }
 
 pub returns-clause-reads : goal.returns-clause-reads
@@ -207,6 +210,7 @@ returns-clause-reads g c =
       from = a.first;
       to = c.next_counted.new.reader.next;
       travel = walk_from a.layout c.loop-page.reader.layout a.region c.loop-page.reader.region a.first c.loop-page.reader.next c.next_counted.new.reader.next _ _ _ inv.near.layout_is inv.near.region_is inv.reads c.next_counted.ensures.reads inv.near.onward (omega (arith, next));
+      calls = omega (arith, inv.calls, c.next_counted.ensures.calls, inv.near.onward, next);
       some = omega (arith, inv.near.some, next, at_end);
       two = omega (arith, inv.near.two, next, at_end);
       within = omega (arith, inv.near.within, next, at_end);

@@ -19,6 +19,7 @@ invariant-loop-page g l = record {
   early : Told (g.S.Station.view l.fn.station) → l.reader.next ≤ l.fn.first + 1;
   steps : Steps Same (g.S.Station.view l.fn.station) (g.S.Station.view l.station);
   reads : (g.S.Station.view l.station).travel ≡ after_walk l.fn.layout l.fn.region l.fn.first l.reader.next (g.S.Station.view l.fn.station).travel;
+  calls : (g.S.Station.view l.station).calls ≤ (g.S.Station.view l.fn.station).calls + (l.reader.next - l.fn.first);
 }
 
 abbrev pub decreases-loop-page : goal.decreases-loop-page

@@ -1,8 +1,7 @@
-use Rattle.std.proofs.Common.{◌≡◌, ◌+◌, ℕ, Bool, true, false, cond, Option, Some, drop, sym, ap, ◌∙◌}
-use Rattle.std.specs.Prelude.{slice_get}
+use Rattle.std.proofs.Common.{◌+◌, Bool, cond, Option, sym, ap, ◌∙◌}
 use Rattle.std.specs.Cmp.Lexicographic.{texts_ties}
-use Rattle.key_slot.specs.Record.{Bytes, key_cmp}
-use Rattle.range_scan.specs.Seeking.{is_at, stands_at}
+use Rattle.key_slot.specs.Record.{Bytes}
+use Rattle.range_scan.specs.Seeking.{is_at}
 use Rattle.range_scan.proofs.Lookings.{place_at}
 use Rattle.range_scan.proofs.ahead.place_past.Goals as goal
 

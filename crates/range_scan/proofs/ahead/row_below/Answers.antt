@@ -1,4 +1,4 @@
-use Rattle.std.proofs.Common.{◌≡◌, true, Option, Some, sym, ap, refl, ◌∙◌}
+use Rattle.std.proofs.Common.{Option, sym, ap, ◌∙◌}
 use Rattle.key_slot.specs.Record.{Bytes, key_cmp}
 use Rattle.key_slot.specs.Row.{record_of}
 use Rattle.std.specs.Ordering.{is_lt}

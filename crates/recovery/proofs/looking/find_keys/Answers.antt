@@ -28,6 +28,7 @@ loop-segment-preserved g c =
       steps = same_on invariant.steps look.steps;
       unwritten = look.unwritten ∙ invariant.unwritten;
       reads = omega (arith, invariant.reads, look.reads_one, one_more (segment_size layout) i);
+      calls = omega (arith, invariant.calls, look.calls);
     }
 
 pub returns-clause-found : goal.returns-clause-found

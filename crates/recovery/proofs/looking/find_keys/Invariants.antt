@@ -15,4 +15,5 @@ invariant-loop-segment g l = record {
   steps : Steps Same (g.S.Station.view l.fn.station) (g.S.Station.view l.station);
   unwritten : (g.S.Station.view l.station).travel.written ≡ (g.S.Station.view l.fn.station).travel.written;
   reads : (g.S.Station.view l.station).travel.read ≤ (g.S.Station.view l.fn.station).travel.read + segment_size l.parts.place.layout * l.segment;
+  calls : (g.S.Station.view l.station).calls ≤ (g.S.Station.view l.fn.station).calls + l.segment;
 }

@@ -1,4 +1,4 @@
-use Rattle.std.proofs.Common.{◌≡◌, ◌*◌, inl, List, length, Some, None, refl, sym, ap, subst, ◌∙◌, arith}
+use Rattle.std.proofs.Common.{◌≡◌, ◌*◌, ◌^◌, ◌<◌, ◌≤◌, inl, List, length, Some, None, refl, sym, ap, subst, ◌∙◌, arith}
 use Rattle.std.specs.Prelude.{is_some}
 use Rattle.std.proofs.Math.Pow.{pow_mono}
 use mathlib.Core.Bool.{true≢false}
@@ -56,5 +56,8 @@ returns-in-Err-clause-damaged g c told =
 
 pub returns-in-Err-clause-causes : goal.returns-in-Err-clause-causes
 returns-in-Err-clause-causes g c =
+    let parts = c.args.parts.now in
     let shows = c.in-Err.ensures.damage in
-    subst (λ (fault : StoreFault). IsRepairFault (repair_fault fault)) (sym shows.2) (shown_reread _ _ _ shows.0 shows.1)
+    let tall : parts.tally.height ≤ 16 = omega (arith, c.requires.back.parts_are.is_tally.height_is, c.requires.back.parts_are.is_tally.hmax_is) in
+    let few : c.args.segment < 2 ^ 16 = omega (arith, c.requires.in_store, pow_mono {i = parts.tally.height} {j = 16} tall) in
+    subst (λ (fault : StoreFault). IsRepairFault (repair_fault fault)) (sym shows.2) (few, shown_reread _ _ _ shows.0 shows.1)

@@ -39,7 +39,9 @@ returns-in-Ok-clause-damaged g c = IfErr-weaker c.judge_frames.result _ _ (λ fa
     b (kept_in c.args.first counts) fault (named g (goal.at.returns-in-Ok-clause-damaged g c).After-read_batch) refl (λ f lt. window_count c.args.place.now c.args.first counts a.held has c.args.runs c.requires.within f lt) shows)) c.judge_frames.ensures.fault
 
 pub returns-in-Ok-clause-cause : goal.returns-in-Ok-clause-cause
-returns-in-Ok-clause-cause g c = IfErr-weaker c.judge_frames.result _ _ (λ fault shows. shown_now c.args.place.now.layout.format c.read_batch.new.frames c.args.first (g.P.Plan.plan c.args.plan.now).counts fault shows) c.judge_frames.ensures.fault
+returns-in-Ok-clause-cause g c =
+    let is = named g (goal.at.returns-in-Ok-clause-cause g c).After-read_batch in
+    IfErr-weaker c.judge_frames.result _ _ (λ fault shows. shown_now c.args.place.now.layout.format c.read_batch.new.frames c.args.first (g.P.Plan.plan c.args.plan.now).counts c.args.runs is c.requires.within fault shows) c.judge_frames.ensures.fault
 
 pub returns-in-Ok-clause-reads : goal.returns-in-Ok-clause-reads
 returns-in-Ok-clause-reads g c = both_read c.args.place.now c.args.runs (g.S.Station.view c.args.station.now).travel (g.S.Station.view c.read_batch.new.station).travel c.in-Ok.ensures.reads

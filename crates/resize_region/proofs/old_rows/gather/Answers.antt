@@ -52,8 +52,9 @@ loop-have-preserved-in_ok-read_on g c =
           (subst (λ (held : List ℕ). rows_ahead (array_of held) c.read_on.new.rows ≡ rows_ahead (array_of held) c.loop-have.rows) (inv.steps.held told) (done.same (told_on inv.steps.frame told)))
           ∙ inv.same told;
       steps = same_on inv.steps c.read_on.ensures.reads.steps;
-      reads = walked_on c.args.place.now c.args.tally.now c.args.rows.now c.loop-have.rows c.read_on.new.rows a (g.S.Station.view c.loop-have.station) (g.S.Station.view c.read_on.new.station) inv.steps inv.reads inv.onward
+      reads = walked_on c.args.place.now c.args.tally.now c.args.rows.now c.loop-have.rows c.read_on.new.rows a (g.S.Station.view c.loop-have.station) (g.S.Station.view c.read_on.new.station) inv.steps inv.reads inv.onward inv.calls
           c.read_on.ensures.reads.onward c.read_on.ensures.reads.reads;
+      calls = omega (arith, inv.calls, c.read_on.ensures.reads.calls, inv.onward, c.read_on.ensures.reads.onward);
       onward = omega (arith, inv.onward, c.read_on.ensures.reads.onward);
       reach = omega (arith, inv.reach, ap (λ (f : Fixed). f.reach) c.read_on.ensures.reads.steps.frame.fixed);
       stands = each_on Stands Stands c.read_on.ensures.reads.steps inv.stands (λ d i is step. subst Stands (sym step) is);
@@ -63,7 +64,7 @@ pub returns-in_err-read_on-clause-reads : goal.returns-in_err-read_on-clause-rea
 returns-in_err-read_on-clause-reads g c =
     let p = err_from_is_err_and c.from_residual.result c.from_residual.ensures.1 in
     let inv = c.loop-have.invariant in
-    reads_err c.args.place.now c.args.tally.now c.args.rows.now c.loop-have.rows c.read_on.new.rows (g.S.Station.view c.args.station.now) (g.S.Station.view c.loop-have.station) (g.S.Station.view c.read_on.new.station) inv.steps inv.reads inv.onward
+    reads_err c.args.place.now c.args.tally.now c.args.rows.now c.loop-have.rows c.read_on.new.rows (g.S.Station.view c.args.station.now) (g.S.Station.view c.loop-have.station) (g.S.Station.view c.read_on.new.station) inv.steps inv.reads inv.onward inv.calls
     c.from_residual.result c.in_err-read_on.field-0.0 (rw p.2 at p.1) c.in_err-read_on.ensures.reads
 
 pub loop-have-preserved : goal.loop-have-preserved
@@ -98,6 +99,7 @@ loop-have-preserved g c =
           ap (λ (l : List Record). l ++ (drop (held.place + 1) held.page.rows ++ behind)) c.put_row.ensures.share ∙ ahead_taken share held.page.rows behind held.place r there ∙ inv.same told;
       steps = inv.steps;
       reads = inv.reads;
+      calls = inv.calls;
       onward = inv.onward;
       reach = inv.reach;
       stands = inv.stands;

@@ -24,6 +24,7 @@ invariant-loop-have g l = record {
   same : Told (g.S.Station.view l.fn.station) → share_in wide l.f l.frames ++ rows_ahead (array_of (g.S.Station.view l.fn.station).held) l.rows ≡ rows_ahead (array_of (g.S.Station.view l.fn.station).held) l.fn.rows;
   steps : Steps Same (g.S.Station.view l.fn.station) (g.S.Station.view l.station);
   reads : (g.S.Station.view l.station).travel ≡ after_walk l.place.layout l.place.region l.fn.rows.reader.next l.rows.reader.next (g.S.Station.view l.fn.station).travel;
+  calls : (g.S.Station.view l.station).calls ≤ (g.S.Station.view l.fn.station).calls + (l.rows.reader.next - l.fn.rows.reader.next);
   onward : l.fn.rows.reader.next ≤ l.rows.reader.next;
   reach : file_length l.place.layout ≤ (g.S.Station.view l.station).fixed.reach;
   stands : EachHeld (StandsFor l.place l.tally) (g.S.Station.view l.station);

@@ -74,6 +74,7 @@ returns-in-Err-clause-reads g c =
     record {
       steps = c.next_counted.ensures.steps;
       reads = c.next_counted.ensures.reads ∙ (λ i. after_walk (among.layout_is i) (among.region_is i) old.next c.next_counted.new.reader.next a.travel);
+      calls = c.next_counted.ensures.calls;
       onward = omega (arith, over.next_is);
       upto = omega (arith, over.next_is, lt);
       damaged = λ told.

@@ -1,4 +1,4 @@
-use Rattle.std.proofs.Common.{◌≡◌, ◌-◌, ◌≤◌}
+use Rattle.std.proofs.Common.{◌≡◌, ◌+◌, ◌-◌, ◌≤◌}
 use Rattle.station.specs.Bytes.{Same}
 use Rattle.station.specs.View.{Told, EachHeld}
 use Rattle.station.specs.Steps.{Steps}
@@ -16,6 +16,7 @@ invariant-loop g l = record {
   order : Told (g.S.Station.view l.fn.station) → IsInOrder (array_of (g.S.Station.view l.fn.station).held) l.rows;
   steps : Steps Same (g.S.Station.view l.fn.station) (g.S.Station.view l.station);
   reads : (g.S.Station.view l.station).travel ≡ after_walk l.place.layout l.place.region l.fn.rows.reader.next l.rows.reader.next (g.S.Station.view l.fn.station).travel;
+  calls : (g.S.Station.view l.station).calls ≤ (g.S.Station.view l.fn.station).calls + (l.rows.reader.next - l.fn.rows.reader.next);
   onward : l.fn.rows.reader.next ≤ l.rows.reader.next;
   reach : file_length l.place.layout ≤ (g.S.Station.view l.station).fixed.reach;
   stands : EachHeld (StandsFor l.place l.tally) (g.S.Station.view l.station);

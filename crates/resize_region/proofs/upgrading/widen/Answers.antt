@@ -1,4 +1,4 @@
-use Rattle.std.proofs.Common.{arith, ◌≡◌, inl, refl, ℕ, ◌-◌, ◌^◌, List, length, sum, sym, ap, subst, ◌∙◌}
+use Rattle.std.proofs.Common.{◌≤◌, ◌+◌, arith, ◌≡◌, inl, refl, ℕ, ◌-◌, ◌^◌, List, length, sum, sym, ap, subst, ◌∙◌}
 use Rattle.std.proofs.lemmas.Nat.{pow_pos}
 use Rattle.std.proofs.lemmas.Result.{err_from_is_err_and}
 use Rattle.std.proofs.Math.Pow.{pow_mono}
@@ -21,6 +21,8 @@ use Rattle.resize_region.proofs.OldRowLaws.{rose_on, failed_as, never_failed}
 use Rattle.resize_region.proofs.ResizeLaws.{has_counts, spare_by, array_wide, stands_wide, flips_widen}
 use Rattle.resize_region.proofs.UpgradeLaws.{upgraded_low, upgraded_room, upgraded_bounds, own_bounds, spreads_err}
 use Rattle.resize_region.proofs.WalkLaws.{walks_beside}
+use Rattle.segment_frames.specs.Lists.{most_segments}
+use Rattle.segment_frames.specs.Parts.{parts}
 use Rattle.resize_region.proofs.upgrading.widen.Goals as goal
 use Rattle.resize_region.proofs.upgrading.widen.Goals.{After-segments_at, After-copy_wide, In_ok-copy_wide}
 
@@ -31,6 +33,11 @@ tall g c = omega (arith, c.min-height.ensures, c.height.ensures.height)
 -- and its segments
 wide_count : (g : _) (c : After-segments_at g) → c.segments_at.result ≡ 2 ^ upgraded_height c.args.place.now.layout c.args.tally.now.height
 wide_count g c = c.segments_at.ensures ∙ ap (λ (h : ℕ). 2 ^ h) (tall g c)
+
+-- the calls that write them
+called : (g : _) (c : After-segments_at g) (now before : ℕ) → now ≤ before + (2 ^ c.args.tally.now.height + parts (most_segments (widened c.args.place.now.layout)) c.segments_at.result)
+    → now ≤ before + (2 ^ c.args.tally.now.height + parts (most_segments (widened c.args.place.now.layout)) (2 ^ upgraded_height c.args.place.now.layout c.args.tally.now.height))
+called g c now before few = omega (arith, few, ap (parts (most_segments (widened c.args.place.now.layout))) (wide_count g c))
 
 pub copy_wide-requires-clause-can : goal.copy_wide-requires-clause-can
 copy_wide-requires-clause-can g c =
@@ -101,7 +108,7 @@ returns-in_err-copy_wide-clause-spread g c =
     let fault = c.in_err-copy_wide.field-0.0 in
     let wrote = c.in_err-copy_wide.ensures.writes in
     spreads_err c.args.place.now c.args.place.now c.args.tally.now (g.S.Station.view c.args.station.now) (g.S.Station.view c.copy_wide.new.station) c.from_residual.result fault (rw p.2 at p.1)
-    (weaken wrote.steps (λ d i left step. spare g after d i left step)) refl (omega (arith, wrote.cost, wide_count g at)) c.copy_wide.ensures.reads wrote.damaged wrote.cause
+    (weaken wrote.steps (λ d i left step. spare g after d i left step)) refl (omega (arith, wrote.cost, wide_count g at)) c.copy_wide.ensures.reads (omega (arith, called g at _ _ c.copy_wide.ensures.calls)) wrote.damaged wrote.cause
     (λ is. wrote.failed (failed_as fault is))
 
 pub returns-in_err-make_live-clause-spread : goal.returns-in_err-make_live-clause-spread
@@ -120,6 +127,7 @@ returns-in_err-make_live-clause-spread g c =
     (andthen wrote.steps c.make_live.ensures.steps (λ d i left step. spare g after d i left step) (λ d e i left one mid two. both g in_ok d e i left one two)) refl
     (omega (arith, wrote.cost, c.make_live.ensures.cost, wide_count g at))
     (read.0, read.1, walks_beside c.args.place.now 0 read.0 a.travel b.travel n.travel read.2 c.make_live.ensures.no_reads)
+    (omega (arith, called g at _ _ c.copy_wide.ensures.calls, c.make_live.ensures.calls))
     (λ told. c.in_err-make_live.ensures.fault) (inl c.in_err-make_live.ensures.fault)
     (λ is. rose_on a b n.disk_faults wrote.steps.frame.disk_faults (c.in_err-make_live.ensures.failed (failed_as fault is)))
 
@@ -157,6 +165,7 @@ returns-clause-spread g c =
       place_kept = tt;
       cost = omega (arith, wrote.cost, c.make_live.ensures.cost, wide_count g at);
       reads = (read.0, read.1, walks_beside place 0 read.0 a.travel b.travel n.travel read.2 c.make_live.ensures.no_reads);
+      calls = omega (arith, called g at _ _ c.copy_wide.ensures.calls, c.make_live.ensures.calls);
       whole = walks_beside place 0 (2 ^ t.height) a.travel b.travel n.travel c.in_ok-copy_wide.ensures.whole c.make_live.ensures.no_reads;
       damaged = tt;
       cause = tt;

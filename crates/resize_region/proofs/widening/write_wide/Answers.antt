@@ -34,6 +34,9 @@ use Rattle.resize_region.proofs.SourceLaws.{at_place}
 use Rattle.resize_region.proofs.WalkLaws.{walks_none, walks_on, walks_beside}
 use Rattle.resize_region.proofs.WideLaws.{wide_layout, wide_length, wide_fits}
 use Rattle.resize_region.proofs.WritingLaws.{spent, on, total, writes_err, writes_failed}
+use Rattle.segment_frames.specs.Lists.{most_segments}
+use Rattle.segment_frames.specs.Parts.{InParts}
+use Rattle.segment_frames.proofs.PartLaws.{parts_none, parts_more}
 use Rattle.resize_region.proofs.widening.write_wide.Goals as goal
 use Rattle.resize_region.proofs.widening.write_wide.Goals.{After-gather, In_ok-gather}
 
@@ -63,6 +66,7 @@ loop-t-init g c =
       rest = λ told. ahead_start (array_of (g.S.Station.view c.args.station.now).held) c.args.rows.now (0 * c.args.records / c.args.segments) c.requires.none c.requires.start none;
       written = λ told i lt. absurd (omega (arith, lt));
       cost = omega arith;
+      calls = (0, parts_none _ _ _, omega arith);
       reads =
           let t = (g.S.Station.view c.args.station.now).travel in
           subst (λ (n : ℕ). Walks place 0 n t t) (sym start) (walks_none place t);
@@ -79,6 +83,21 @@ unwritten : (g : _) (c : After-gather g) → (g.S.Station.view c.gather.new.stat
 unwritten g c =
     let place = c.args.place.now in
     ap (λ (t : Travel). t.written) c.gather.ensures.reads.reads ∙ walk_written place.layout place.region c.loop-t.rows.reader.next c.gather.new.rows.reader.next (g.S.Station.view c.loop-t.station).travel
+
+-- the calls with it, and with a part that is written
+called : (g : _) (c : After-gather g) → (made : ℕ) × InParts (most_segments (widened c.args.place.now.layout)) c.args.segments (c.loop-t.t - c.loop-t.f) made × ((g.S.Station.view c.gather.new.station).calls ≤ (g.S.Station.view c.args.station.now).calls + (c.gather.new.rows.reader.next + made))
+called g c =
+    let is = c.loop-t.invariant.calls in
+    (is.0, is.1, omega (arith, is.2, c.gather.ensures.reads.calls, c.gather.ensures.reads.onward))
+
+parted : (g : _) (c : After-gather g) {now : ℕ} → now ≤ (g.S.Station.view c.gather.new.station).calls + 1 → (c.loop-t.t + 1 < c.args.segments → most_segments (widened c.args.place.now.layout) ≤ c.loop-t.f + 1)
+    → (made : ℕ) × InParts (most_segments (widened c.args.place.now.layout)) c.args.segments (c.loop-t.t + 1 - 0) made × (now ≤ (g.S.Station.view c.args.station.now).calls + (c.gather.new.rows.reader.next + made))
+parted g c one full =
+    let is = called g c in (
+      is.0 + 1,
+      parts_more (most_segments (widened c.args.place.now.layout)) c.args.segments (c.loop-t.t - c.loop-t.f) (c.loop-t.t + 1 - 0) is.0 (omega (arith, c.requires.can.layout.least)) is.1 (omega (arith, c.loop-t-test.true)) (λ more. omega (arith, full (omega (arith, more)), c.loop-t.invariant.within)),
+      omega (arith, is.2, one),
+    )
 
 -- the file after it
 stands : (g : _) (c : After-gather g) → EachHeld (StandsFor c.args.place.now c.args.tally.now) (g.S.Station.view c.gather.new.station)
@@ -155,13 +174,13 @@ returns-in_err-write_places-clause-writes g c =
     c.from_residual-in_err-write_places.result c.in_err-write_places.field-0.0 (rw p.2 at p.1)
     (andthen steps c.write_places.ensures.steps (λ d i left step. step) (λ d e i left first mid second. free_on place.layout place.region d e i first second))
     (ap (λ (b : Batch). b.journal) c.gather.ensures.rest ∙ inv.journal)
-    (total n (g.S.Station.view c.args.station.now).travel.written (g.S.Station.view c.gather.new.station).travel.written (g.S.Station.view c.write_places.new.station).travel.written c.loop-t.t c.loop-t.f c.args.segments one c.write_places.ensures.cost inv.within c.loop-t-test.true)
+    (total n (g.S.Station.view c.args.station.now).travel.written (g.S.Station.view c.gather.new.station).travel.written (g.S.Station.view c.write_places.new.station).travel.written c.loop-t.t c.loop-t.f c.args.segments one c.write_places.ensures.writes.cost inv.within c.loop-t-test.true)
     c.in_err-write_places.ensures.fault steps.frame.disk_faults c.in_err-write_places.ensures.failed
 
 pub returns-in_err-write_places-clause-reads : goal.returns-in_err-write_places-clause-reads
 returns-in_err-write_places-clause-reads g c =
     walks_beside c.args.place.now 0 c.gather.new.rows.reader.next (g.S.Station.view c.args.station.now).travel (g.S.Station.view c.gather.new.station).travel (g.S.Station.view c.write_places.new.station).travel
-    (walked g (goal.at.returns-in_err-write_places-clause-reads g c).After-gather) c.write_places.ensures.no_reads
+    (walked g (goal.at.returns-in_err-write_places-clause-reads g c).After-gather) c.write_places.ensures.writes.no_reads
 
 -- The records.
 
@@ -291,8 +310,9 @@ loop-t-preserved-then-not-fits_more g c =
                 subst (λ (q : ℕ). IsSegment wide (segment_at lists q) (aside_bytes (in_wide place) q w.held)) there
                 (subst (λ (rs : List Record). IsSegment wide rs (aside_bytes (in_wide place) (first + j) w.held)) (kept g at told j in_run) (c.in_ok-write_places.ensures.written told_f j in_run (fits g at told j in_run)))
           ];
-      cost = omega (arith, inv.cost, unwritten g after, c.write_places.ensures.cost, spent (segment_size (widened place.layout)) k f inv.within);
-      reads = walks_beside place 0 c.gather.new.rows.reader.next a.travel before.travel w.travel (walked g after) c.write_places.ensures.no_reads;
+      cost = omega (arith, inv.cost, unwritten g after, c.write_places.ensures.writes.cost, spent (segment_size (widened place.layout)) k f inv.within);
+      calls = parted g after c.write_places.ensures.writes.calls (λ more. omega (arith, c.fits_more.ensures.full c.if-not-fits_more.true more));
+      reads = walks_beside place 0 c.gather.new.rows.reader.next a.travel before.travel w.travel (walked g after) c.write_places.ensures.writes.no_reads;
     }
 
 pub loop-t-preserved : goal.loop-t-preserved
@@ -326,6 +346,10 @@ loop-t-preserved g c =
       rest = λ told. rest g at told;
       written = λ told i low. written g at told i low;
       cost = omega (arith, inv.cost, unwritten g after, on (segment_size (widened place.layout)) k f);
+      calls =
+          let is = called g after in
+          let same : k - f ≡ k + 1 - (f + 1) = omega arith in
+          (is.0, subst (λ (n : ℕ). InParts (most_segments (widened place.layout)) m n is.0) same is.1, is.2);
       reads = walked g after;
     }
 
@@ -349,3 +373,14 @@ returns-clause-writes g c =
       cause = tt;
       failed = λ is. absurd (never_failed {T = Unit {0}} tt is);
     }
+
+pub returns-in_err-gather-clause-calls : goal.returns-in_err-gather-clause-calls
+returns-in_err-gather-clause-calls g c = let is = called g (goal.at.returns-in_err-gather-clause-calls g c).After-gather in omega (arith, is.2, is.1.few)
+
+pub returns-in_err-write_places-clause-calls : goal.returns-in_err-write_places-clause-calls
+returns-in_err-write_places-clause-calls g c =
+    let is = parted g (goal.at.returns-in_err-write_places-clause-calls g c).After-gather c.write_places.ensures.writes.calls (λ more. omega (arith, c.fits_more.ensures.full c.if-not-fits_more.true more)) in
+    omega (arith, is.2, is.1.few)
+
+pub returns-clause-calls : goal.returns-clause-calls
+returns-clause-calls g c = let is = c.loop-t.invariant.calls in omega (arith, is.2, is.1.few)

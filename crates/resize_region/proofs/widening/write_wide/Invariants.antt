@@ -12,6 +12,8 @@ use Rattle.resize_region.specs.OldRows.{IsAmongRows, IsInOrder, rows_left, rows_
 use Rattle.resize_region.specs.Shares.{HasShares, share_in}
 use Rattle.resize_region.specs.Source.{Walks}
 use Rattle.resize_region.specs.Upgraded.{widened, in_wide}
+use Rattle.segment_frames.specs.Lists.{most_segments}
+use Rattle.segment_frames.specs.Parts.{InParts}
 use Rattle.resize_region.proofs.widening.write_wide.Given as goal
 
 abbrev pub invariant-loop-t : goal.invariant-loop-t
@@ -34,6 +36,7 @@ invariant-loop-t g l = record {
   rest : Told (g.S.Station.view l.fn.station) → rows_ahead (array_of (g.S.Station.view l.fn.station).held) l.rows ≡ drop (l.t * l.records / l.segments) (rows (array_of (g.S.Station.view l.fn.station).held));
   written : Told (g.S.Station.view l.fn.station) → HasWritten (in_wide l.place) (spread_over l.segments (rows (array_of (g.S.Station.view l.fn.station).held))) (l.t - l.f) (g.S.Station.view l.station).held;
   cost : (g.S.Station.view l.station).travel.written ≤ (g.S.Station.view l.fn.station).travel.written + segment_size (widened l.place.layout) * (l.t - l.f);
+  calls : (made : ℕ) × InParts (most_segments (widened l.place.layout)) l.segments (l.t - l.f) made × ((g.S.Station.view l.station).calls ≤ (g.S.Station.view l.fn.station).calls + (l.rows.reader.next + made));
   reads : Walks l.place 0 l.rows.reader.next (g.S.Station.view l.fn.station).travel (g.S.Station.view l.station).travel;
 }
 

@@ -13,7 +13,7 @@ use Rattle.window_tally.proofs.PlaceLaws.{segment_window, get_or-leaves_of}
 use Rattle.window_tally.proofs.KeptLaws.{Becomes, kept_tree, place_kept, becomes_at, updated_becomes}
 use Rattle.window_tally.proofs.Tally.update.Goals as goal
 use Rattle.window_tally.proofs.Tally.update.Goals.{After-deref_mut, After-count_update}
-use Rattle.density_rule.specs.declared.TheConstants.{SEGMENT_SLOTS}
+use Rattle.density_rule.specs.declared.TheConstants.{SEGMENT_RECORDS}
 
 pub set_count-requires-clause-tree : goal.set_count-requires-clause-tree
 set_count-requires-clause-tree c = subst (IsTree c.self.inside.height) (sym c.deref_mut.ensures.value) (kept_tree c.self.inside.hmax c.self.inside.height c.self.inside.counts.items c.self.inside.marks.items c.self.invariant.by)
@@ -29,7 +29,7 @@ count_is c =
     get_or_read c.self.inside.counts.items c.place_of.result c.index-count.result.now below c.index-count.ensures 0 ∙ ap (λ p. get_or c.self.inside.counts.items p 0) c.place_of.ensures
     ∙ sym (get_or-leaves_of c.self.inside.height c.args.segment c.self.inside.counts.items (in_store c))
 
-by_add : (change : Change) (n : ℕ) → (change ≡ Add → n < SEGMENT_SLOTS) → adds change ≡ true → n < SEGMENT_SLOTS
+by_add : (change : Change) (n : ℕ) → (change ≡ Add → n < SEGMENT_RECORDS) → adds change ≡ true → n < SEGMENT_RECORDS
 by_add Add n room e = room refl
 by_add Take n room e = cc
 
@@ -47,7 +47,7 @@ updated c leaf =
     let marks_size : length c.count_update.new.marks ≡ c.self.inside.marks.len = search rules in
     let marks_same : length c.count_update.new.marks ≡ length c.self.inside.marks.items = search rules in
     let in_store : c.args.segment < 2 ^ c.self.inside.height = subst (λ (t : TallyView). c.args.segment < 2 ^ t.height) (sym c.self.view_is) c.requires.in_store in
-    let room = subst (λ (t : TallyView). c.args.change ≡ Add → get_or t.counts c.args.segment 0 < SEGMENT_SLOTS) (sym c.self.view_is) c.requires.room in
+    let room = subst (λ (t : TallyView). c.args.change ≡ Add → get_or t.counts c.args.segment 0 < SEGMENT_RECORDS) (sym c.self.view_is) c.requires.room in
     let some = subst (λ (t : TallyView). c.args.change ≡ Take → 1 ≤ get_or t.counts c.args.segment 0) (sym c.self.view_is) c.requires.some in
     let set_was = subst (λ xs. HasCounts height c.set_count.new.counts (set (leaves_of height xs) c.args.segment c.changed.result)) c.deref_mut.ensures.value c.set_count.ensures in
     let has = subst (λ n. HasCounts height c.set_count.new.counts (set leaves c.args.segment n)) (c.changed.ensures ∙ ap (count_after (adds c.args.change)) leaf) set_was in

@@ -1,11 +1,14 @@
-use Rattle.std.proofs.Common.{◌<◌, ◌≤◌, subst, ap, ◌∙◌, arith, rules}
+use Rattle.std.proofs.Common.{Result, Ok, ◌<◌, ◌≤◌, subst, ap, ◌∙◌, arith, rules}
 use Rattle.std.proofs.lemmas.Grind.{common_steps}
 use Rattle.station.proofs.Composition.{no_steps}
 use Rattle.density_rule.specs.Bounds.{upper_of}
 use Rattle.header_gate.specs.declared.layout.TheConstants.{INTENT_VERSION}
+use Rattle.segment.specs.declared.fault.StoreFault.{StoreFault}
+use Rattle.pma_store.specs.declared.at_once.Tried.{Tried}
+use Rattle.pma_store.specs.AtOnce.{TriesOnce}
 use Rattle.pma_store.specs.Batching.{AppliesBatch, version_of}
 use Rattle.pma_store.specs.Store.{StoreView, limit_of}
-use Rattle.pma_store.proofs.Batched.{full_batch, judged_then, judging_fails, no_batch}
+use Rattle.pma_store.proofs.Batched.{full_batch, judged_then, no_batch}
 use Rattle.pma_store.proofs.array.OpenArray.apply_batch.Goals as goal
 
 pub returns-then-self-lt-INTENT_VERSION : goal.returns-then-self-lt-INTENT_VERSION
@@ -13,17 +16,15 @@ returns-then-self-lt-INTENT_VERSION g c =
     let early : version_of c.args.self.now < INTENT_VERSION = first_of (search rules, grind (arith, common_steps)) in
     no_batch c.args.intent.now c.args.self.now c.requires.open (g.met.S.Station.lawful c.args.station.now) (no_steps (g.S.Station.view c.args.station.now)) early
 
-pub returns-in-Ok-Some : goal.returns-in-Ok-Some
-returns-in-Ok-Some g c =
-    let judges = c.judge_items.ensures in
+pub returns-in-Ok-Judged : goal.returns-in-Ok-Judged
+returns-in-Ok-Judged g c =
+    let judges = subst (λ (r : Result Tried StoreFault). TriesOnce c.args.intent.now r c.args.self.now c.try_at_once.new.self (g.S.Station.view c.args.station.now) (g.S.Station.view c.try_at_once.new.station)) (c.in-Ok-Judged.is ∙ ap Ok c.in-Ok-Judged.field-0-is) c.try_at_once.ensures in
     judged_then c.args.intent.now c.run_batch.result c.args.self.now c.run_batch.new.self c.requires.open (g.met.S.Station.lawful c.args.station.now) judges.steps judges.unwritten c.run_batch.ensures.made
-    (subst (λ (v : StoreView). AppliesBatch c.args.intent.now c.run_batch.result v c.run_batch.new.self (g.S.Station.view c.judge_items.new.station) (g.S.Station.view c.run_batch.new.station)) judges.store c.run_batch.ensures.applied)
+    (subst (λ (v : StoreView). AppliesBatch c.args.intent.now c.run_batch.result v c.run_batch.new.self (g.S.Station.view c.try_at_once.new.station) (g.S.Station.view c.run_batch.new.station)) judges.store c.run_batch.ensures.applied)
 
-pub returns-in-Ok-None : goal.returns-in-Ok-None
-returns-in-Ok-None g c =
-    full_batch c.args.intent.now c.args.self.now c.judge_items.new.self c.upper-most.result c.requires.open (g.met.S.Station.lawful c.args.station.now)
+pub returns-in-Ok-Full : goal.returns-in-Ok-Full
+returns-in-Ok-Full g c =
+    full_batch c.args.intent.now c.args.self.now c.try_at_once.new.self c.upper-most.result c.requires.open (g.met.S.Station.lawful c.args.station.now)
     (subst (λ (v : StoreView). INTENT_VERSION ≤ version_of v) c.self.view_is c.if-self-lt-INTENT_VERSION.false)
-    (c.upper-most.ensures ∙ ap upper_of c.height_limit.ensures.limit ∙ ap (λ (v : StoreView). upper_of (limit_of v)) c.self.view_is) (rw c.in-Ok-None.field-0-is at c.in-Ok-None.ensures)
-
-pub returns-in-Err : goal.returns-in-Err
-returns-in-Err g c = judging_fails c.args.intent.now c.in-Err.fault c.args.self.now c.judge_items.new.self c.requires.open c.in-Err.ensures
+    (c.upper-most.ensures ∙ ap upper_of c.height_limit.ensures.limit ∙ ap (λ (v : StoreView). upper_of (limit_of v)) c.self.view_is)
+    (subst (λ (r : Result Tried StoreFault). TriesOnce c.args.intent.now r c.args.self.now c.try_at_once.new.self (g.S.Station.view c.args.station.now) (g.S.Station.view c.try_at_once.new.station)) (c.in-Ok-Full.is ∙ ap Ok c.in-Ok-Full.field-0-is) c.try_at_once.ensures)

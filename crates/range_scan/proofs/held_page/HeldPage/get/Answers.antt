@@ -35,4 +35,5 @@ returns-in-Ok g c =
       damaged = tt;
       steps = c.read.ensures.steps;
       reads = c.read.ensures.reads;
+      calls = c.read.ensures.calls;
     }

@@ -12,7 +12,7 @@ use Rattle.range_scan.proofs.sweep.Sweep.reach_next.Goals as goal
 
 pub returns-then-self-clause-sweeps : goal.returns-then-self-clause-sweeps
 returns-then-self-clause-sweeps g c =
-    sweeps_still false c.args.self.now c.args.self.now (g.S.Station.view c.args.station.now) (g.S.Station.view c.args.station.now) refl (subst IsSweep c.self.view_is c.self.invariant.2) c.requires.open c.requires.sweeping (no_steps (g.S.Station.view c.args.station.now)) refl
+    sweeps_still false c.args.self.now c.args.self.now (g.S.Station.view c.args.station.now) (g.S.Station.view c.args.station.now) refl (subst IsSweep c.self.view_is c.self.invariant.2) c.requires.open c.requires.sweeping (no_steps (g.S.Station.view c.args.station.now)) refl (omega arith)
 
 pub returns-in-Ok-clause-more : goal.returns-in-Ok-clause-more
 returns-in-Ok-clause-more g c told =

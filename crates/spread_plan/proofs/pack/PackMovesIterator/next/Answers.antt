@@ -1,5 +1,5 @@
 use Rattle.std.proofs.Common.{◌≡◌, ◌+◌, ◌-◌, ◌/◌, List, ◌∷◌, ℕ, subst, sym, ap, ◌∙◌, ◌<◌, arith}
-use Rattle.density_rule.specs.declared.TheConstants.{SEGMENT_SLOTS}
+use Rattle.density_rule.specs.declared.TheConstants.{SEGMENT_RECORDS}
 use Rattle.spread_plan.specs.Moves.{counts_moved}
 use Rattle.spread_plan.specs.States.{PlanView, IsPacking, moves_to_pack, packing_view}
 use Rattle.spread_plan.proofs.Counts.{counts_on, packing_moved}
@@ -25,5 +25,5 @@ returns-clause-steps c =
     let some : s.next < s.end = omega (arith, c.loop-self-test.false, is.forward) in
     let view = sym c.self.view_is ∙ sym c.loop-self.invariant.1 in (
       ap (λ (p : PlanView). p.moves) view ∙ coming_then s.rest.now s.segments s.records s.next s.end is some c.min-end.result c.min-end.ensures,
-      packing_moved s.rest.now s.segments s.records s.next s.end is some c.min-end.result c.min-end.ensures ∙ ap (λ (p : PlanView). counts_moved (record { from = s.segments - 1; to = s.next / SEGMENT_SLOTS; count = c.min-end.result - s.next }) p.counts) (sym view),
+      packing_moved s.rest.now s.segments s.records s.next s.end is some c.min-end.result c.min-end.ensures ∙ ap (λ (p : PlanView). counts_moved (record { from = s.segments - 1; to = s.next / SEGMENT_RECORDS; count = c.min-end.result - s.next }) p.counts) (sym view),
     )

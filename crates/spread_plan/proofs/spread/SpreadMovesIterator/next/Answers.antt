@@ -1,5 +1,5 @@
 use Rattle.std.proofs.Common.{◌-◌, ◌<◌, ◌/◌, length, ap, subst, sym, ◌∙◌, arith, refl, rules}
-use Rattle.density_rule.specs.declared.TheConstants.{SEGMENT_SLOTS}
+use Rattle.density_rule.specs.declared.TheConstants.{SEGMENT_RECORDS}
 use Rattle.spread_plan.specs.Moves.{counts_moved}
 use Rattle.spread_plan.specs.States.{PlanView, IsSpreading, moves_to_spread}
 use Rattle.spread_plan.proofs.Counts.{counts_spread_on, spreading_moved}
@@ -21,7 +21,7 @@ returns-clause-goes c =
     let s = c.loop-self.self-inside in
     let is = c.loop-self.invariant.0 in
     let some : s.start < s.end = omega (arith, c.loop-self-test.false, is.forward) in
-    let gives = ap (λ (p : PlanView). p.moves) (sym c.self.view_is ∙ sym c.loop-self.invariant.1) ∙ spread_then s.records s.segments s.to s.start s.end is some ((s.end - 1) / SEGMENT_SLOTS) c.max-first.result refl c.max-first.ensures in
+    let gives = ap (λ (p : PlanView). p.moves) (sym c.self.view_is ∙ sym c.loop-self.invariant.1) ∙ spread_then s.records s.segments s.to s.start s.end is some ((s.end - 1) / SEGMENT_RECORDS) c.max-first.result refl c.max-first.ensures in
     let shorter = ap length gives in search rules
 
 pub returns-clause-steps : goal.returns-clause-steps
@@ -29,7 +29,7 @@ returns-clause-steps c =
     let s = c.loop-self.self-inside in
     let is = c.loop-self.invariant.0 in
     let some : s.start < s.end = omega (arith, c.loop-self-test.false, is.forward) in
-    let from = (s.end - 1) / SEGMENT_SLOTS in
+    let from = (s.end - 1) / SEGMENT_RECORDS in
     let view = sym c.self.view_is ∙ sym c.loop-self.invariant.1 in (
       ap (λ (p : PlanView). p.moves) view ∙ spread_then s.records s.segments s.to s.start s.end is some from c.max-first.result refl c.max-first.ensures,
       spreading_moved s.records s.segments s.to s.start s.end is some from c.max-first.result refl c.max-first.ensures ∙ ap (λ (p : PlanView). counts_moved (record { from = from; to = s.to; count = s.end - c.max-first.result }) p.counts) (sym view),

@@ -1,0 +1,44 @@
+//! What the items of a batch would change.
+
+ghost use Rattle.std.specs.Prelude.{◌≡◌, List, Some, IfOk, IfSome, is_ok};
+ghost use Rattle.key_slot.specs.Record.{IsAscending};
+ghost use Rattle.map_model.specs.Store.{Update};
+ghost use Rattle.map_model.specs.Array.{Array, segment_at, segment_for};
+ghost use Rattle.map_model.specs.ArrayUpdates.{key_of};
+ghost use Rattle.segment.specs.Rows.{key_at};
+ghost use Rattle.one_commit.specs.Fitting.{is_put, change_before, with_change};
+ghost use Rattle.one_commit.specs.declared.changes.ItemChange.{ItemChange as OneChange};
+
+use window_tally::Change;
+
+/// An item that adds a record to a segment, or takes one from it.
+#[derive(Clone, Copy)]
+pub struct ItemChange {
+    /// The segment to which its key belongs before any item is made.
+    pub segment: u32,
+    pub change: Change,
+    /// Whether it takes the first record of the segment.
+    pub first: bool,
+}
+
+/// What an item changes, a put or a removal, where a search of the segment to which its key belongs has found the key, or
+/// the place where it would stand.
+pub fn change_of(puts: bool, segment: u32, found: Result<u32, u32>) -> Option<ItemChange>
+    ensures segment { IfSome result (λ change. change.segment ≡ segment) }
+    ensures change { (segments : Array) (u : Update) (more : List OneChange) → is_put u ≡ puts → segment_for segments (key_of u) ≡ segment → IsAscending (segment_at segments segment) → IfOk found (λ place. key_at (segment_at segments segment) place ≡ Some (key_of u)) → change_before (is_ok found) segments u more ≡ with_change result more }
+{
+    match (puts, found) {
+        (true, Err(_)) => Some(ItemChange {
+            segment,
+            change: Change::Add,
+            first: false,
+        }),
+        (false, Ok(place)) => Some(ItemChange {
+            segment,
+            change: Change::Take,
+            first: place == 0,
+        }),
+        (true, Ok(_)) => None,
+        (false, Err(_)) => None,
+    }
+}

@@ -1,0 +1,121 @@
+-- How many items of a batch edit a segment, what they are charged, and what they cost at least.
+use Rattle.std.proofs.Common.{◌≡◌, ℕ, zero, suc, ◌+◌, ◌*◌, ◌^◌, ◌<◌, ◌≤◌, Bool, true, false, cond, not, ◌||◌, nat_lt, List, [], ◌∷◌, length, get_or, Option, Some, None, refl, sym, ap, ◌∙◌, arith, is_some}
+use mathlib.Core.Bool.{true≢false}
+use Rattle.std.specs.Str.{bytes_eq}
+use Rattle.std.specs.FinMap.{contains_key}
+use Rattle.std.proofs.lemmas.Nat.{pow_pos}
+use Rattle.density_rule.specs.declared.Window.{Window}
+use Rattle.density_rule.specs.Bounds.{upper_of}
+use Rattle.header_gate.specs.declared.layout.Layout.{Layout}
+use Rattle.header_gate.specs.Places.{height_limit}
+use Rattle.map_model.specs.Array.{Array, rows}
+use Rattle.map_model.specs.ArrayState.{ArrayState, UpdateReport, next_state, report_of}
+use Rattle.map_model.specs.ArrayUpdates.{has_key, key_of}
+use Rattle.map_model.specs.Holding.{HoldsMap, IsBalancedArray}
+use Rattle.map_model.specs.Items.{ItemCounts, count_item, count_items, are_distinct, has_item, first_full_from, meets_full}
+use Rattle.std.specs.Cmp.Lexicographic.{nat_list_eq_equiv}
+use Rattle.key_slot.specs.Record.{Bytes}
+use Rattle.key_slot.proofs.SegmentLaws.{times_up}
+use Rattle.map_model.proofs.Entries.{find-rows, length-rows}
+use Rattle.map_model.proofs.Resuming.{get_other}
+use Rattle.map_model.specs.Store.{Map, Update, bind, unbind, map_after}
+use Rattle.map_model.proofs.UpdateLaws.{holds_after, balanced_after}
+use Rattle.one_commit.specs.Editing.{charge_one, charge_by}
+use Rattle.one_commit.proofs.Alike.{both_true, neither_true, not_true}
+use Rattle.pma_store.specs.Changing.{most_written, window_cost}
+use Rattle.pma_store.specs.Costing.{has_effect, report_cost, update_cost_in, updates_cost}
+
+-- how many of the items edit a segment, by what they do
+abbrev pub edits_in : ItemCounts → ℕ
+edits_in c = c.stored + c.replaced + c.removed
+
+-- whether one does, by whether its key is there
+abbrev one : Update → Bool → ℕ
+one (bind key value) there = 1
+one (unbind key) there = cond there 1 0
+
+counts_one : (m : Map) (u : Update) (c : ItemCounts) → edits_in (count_item m u c) ≡ edits_in c + one u (contains_key m (key_of u))
+counts_one m (bind key value) c = by (contains_key m key)
+  where
+    by : (b : Bool) → edits_in (cond b (record c { replaced = c.replaced + 1 }) (record c { stored = c.stored + 1 })) ≡ edits_in c + 1
+    by true = omega arith
+    by false = omega arith
+counts_one m (unbind key) c = by (contains_key m key)
+  where
+    by : (b : Bool) → edits_in (cond b (record c { removed = c.removed + 1 }) (record c { absent = c.absent + 1 })) ≡ edits_in c + cond b 1 0
+    by true = omega arith
+    by false = omega arith
+
+charged_one : (u : Update) (there : Bool) → charge_one there u ≡ 2 * one u there
+charged_one (bind key value) there = refl
+charged_one (unbind key) true = refl
+charged_one (unbind key) false = refl
+
+-- no other item has the key of one
+apart : (key : Bytes) (us : List Update) (k : ℕ) (d : Update) → k < length us → has_item key us ≡ false → bytes_eq (key_of (get_or us k d)) key ≡ false
+apart key [] k d lt none = absurd (omega arith)
+apart key (u ∷ us) zero d lt none = nat_list_eq_equiv.symm (key_of u) key ∙ (neither_true (bytes_eq key (key_of u)) (has_item key us) none).0
+apart key (u ∷ us) (suc k) d lt none = apart key us k d (omega arith) (neither_true (bytes_eq key (key_of u)) (has_item key us) none).1
+
+-- two images are charged for each
+pub charges_edits : (segments : Array) (hmax : ℕ) (m : Map) (items : List Update) (c : ItemCounts) → are_distinct items ≡ true → ((k : ℕ) (d : Update) → k < length items → contains_key m (key_of (get_or items k d)) ≡ has_key segments (key_of (get_or items k d)))
+    → 2 * edits_in (count_items hmax m items c) ≡ 2 * edits_in c + charge_by segments items
+charges_edits segments hmax m [] c distinct there = omega arith
+charges_edits segments hmax m (u ∷ us) c distinct there =
+    let parts = both_true (not (has_item (key_of u) us)) (are_distinct us) distinct in
+    let none = not_true (has_item (key_of u) us) parts.0 in
+    let rest = charges_edits segments hmax (map_after hmax m u) us (count_item m u c) parts.1 (λ k d lt. ap is_some (get_other hmax m u (key_of (get_or us k d)) (apart (key_of u) us k d lt none)) ∙ there (suc k) d (omega (arith, lt))) in
+    let own : charge_one (has_key segments (key_of u)) u ≡ 2 * one u (contains_key m (key_of u)) = charged_one u (has_key segments (key_of u)) ∙ ap (λ (b : Bool). 2 * one u b) (sym (there 0 u (omega arith))) in
+    omega (arith, rest, counts_one m u c, own)
+
+-- Each writes at least its commit.
+
+least_cost : (l : Layout) (height : ℕ) (r : UpdateReport) → 8196 * l.format ≤ report_cost l height r
+least_cost l height r = by r.resized r.spread
+  where
+    windows : (w : Option Window) → 8196 * l.format ≤ window_cost l w
+    windows None = omega arith
+    windows (Some w) = let some = pow_pos w.height in let split : most_written l w.height ≡ (65568 * l.format + 24) * 2 ^ w.height = refl in omega (arith, split, times_up (65568 * l.format + 24) 1 (2 ^ w.height) some)
+
+    by : (b : Bool) (w : Option Window) → 8196 * l.format ≤ report_cost l height (record { spread = w; cause = r.cause; resized = b })
+    by true w = omega arith
+    by false w = windows w
+
+has_one : (l : Layout) (s : ArrayState) (u : Update) → HoldsMap (height_limit l) s.map s.height s.array → meets_full (height_limit l) s.map u ≡ false → 8196 * l.format * one u (contains_key s.map (key_of u)) ≤ update_cost_in l s u
+has_one l s (bind key value) holds room =
+    let present = find-rows (rows s.array) s.map holds.rows_are key in
+    let size = length-rows (rows s.array) s.map holds.rows_are in
+    let effect : has_effect (height_limit l) s.array (bind key value) ≡ true =
+    ap (λ (b : Bool). b || nat_lt (length (rows s.array)) (upper_of (height_limit l))) present ∙ ap (λ (n : ℕ). contains_key s.map key || nat_lt n (upper_of (height_limit l))) size ∙ not_false _ room in
+    let cost : update_cost_in l s (bind key value) ≡ report_cost l (next_state (height_limit l) s (bind key value)).height (report_of (height_limit l) s (bind key value)) =
+    ap (λ (b : Bool). cond b (report_cost l (next_state (height_limit l) s (bind key value)).height (report_of (height_limit l) s (bind key value))) 0) effect in
+    omega (arith, cost, least_cost l (next_state (height_limit l) s (bind key value)).height (report_of (height_limit l) s (bind key value)))
+  where
+    not_false : (b : Bool) → not b ≡ false → b ≡ true
+    not_false true e = refl
+    not_false false e = absurd (true≢false e)
+has_one l s (unbind key) holds room =
+    let present = find-rows (rows s.array) s.map holds.rows_are key in
+    let cost = least_cost l (next_state (height_limit l) s (unbind key)).height (report_of (height_limit l) s (unbind key)) in
+    by (contains_key s.map key) present cost
+  where
+    by : (b : Bool) → has_key s.array key ≡ b → 8196 * l.format ≤ report_cost l (next_state (height_limit l) s (unbind key)).height (report_of (height_limit l) s (unbind key)) → 8196 * l.format * cond b 1 0 ≤ update_cost_in l s (unbind key)
+    by true e cost = omega (arith, cost, ap (λ (b : Bool). cond b (report_cost l (next_state (height_limit l) s (unbind key)).height (report_of (height_limit l) s (unbind key))) 0) e)
+    by false e cost = omega arith
+
+pub costs_edits : (l : Layout) (s : ArrayState) (items : List Update) (i : ℕ) (c : ItemCounts) → HoldsMap (height_limit l) s.map s.height s.array → IsBalancedArray s.height s.array → first_full_from (height_limit l) s.map i items ≡ None
+    → 8196 * l.format * edits_in (count_items (height_limit l) s.map items c) ≤ 8196 * l.format * edits_in c + updates_cost l s items
+costs_edits l s [] i c holds balanced room = omega arith
+costs_edits l s (u ∷ us) i c holds balanced room =
+    let hmax = height_limit l in
+    let parts = split (meets_full hmax s.map u) (first_full_from hmax (map_after hmax s.map u) (suc i) us) room in
+    let rest = costs_edits l (next_state hmax s u) us (suc i) (count_item s.map u c) (holds_after hmax s.map s.height s.array holds balanced u) (balanced_after hmax s.map s.height s.array holds balanced u) parts.1 in
+    let sum : 8196 * l.format * (edits_in c + one u (contains_key s.map (key_of u))) ≡ 8196 * l.format * edits_in c + 8196 * l.format * one u (contains_key s.map (key_of u)) = distributes (8196 * l.format) (edits_in c) (one u (contains_key s.map (key_of u))) in
+    omega (arith, rest, ap (λ (n : ℕ). 8196 * l.format * n) (counts_one s.map u c), sum, has_one l s u holds parts.0)
+  where
+    split : (b : Bool) (x : Option ℕ) → cond b (Some i) x ≡ None → (b ≡ false) × (x ≡ None)
+    split true x e = absurd cc
+    split false x e = (refl, e)
+
+    distributes : (n x y : ℕ) → n * (x + y) ≡ n * x + n * y
+    distributes n x y = grind arith

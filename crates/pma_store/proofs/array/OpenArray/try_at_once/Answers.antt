@@ -1,0 +1,148 @@
+use Rattle.std.proofs.Common.{◌≡◌, ℕ, ◌*◌, ◌^◌, ◌<◌, ◌≤◌, List, length, take, get_or, Result, Ok, Err, Some, None, refl, sym, ap, subst, ◌∙◌, arith}
+use Rattle.std.proofs.lemmas.List.{length-take-le}
+use Rattle.station.specs.View.{Told}
+use Rattle.station.proofs.Composition.{told_back}
+use Rattle.density_rule.specs.Bounds.{upper_of}
+use Rattle.header_gate.specs.declared.layout.TheConstants.{INTENT_VERSION}
+use Rattle.map_model.specs.Image.{array_of, map_of}
+use Rattle.segment.specs.declared.fault.StoreFault.{StoreFault}
+use Rattle.segment.specs.declared.fault.StoreFault.TheVariants.{Failed}
+use Rattle.pma_store.specs.declared.at_once.Tried.{Tried}
+use Rattle.pma_store.specs.AtOnce.{TriesOnce}
+use Rattle.pma_store.specs.Batching.{AppliesBatch, done_by, version_of}
+use Rattle.pma_store.specs.Inside.{view_of}
+use Rattle.pma_store.specs.Judging.{JudgesItems, counts_of, edits_of, judged_of}
+use Rattle.pma_store.specs.Looked.{BelongThere, HasLooked}
+use Rattle.pma_store.specs.Store.{StoreView, IsOpenOn, limit_of}
+use Rattle.pma_store.proofs.AppliedOnce.{committed, not_committed}
+use Rattle.pma_store.proofs.Batched.{judged_then, judging_fails}
+use Rattle.pma_store.proofs.ItemsApplied.{tall_of}
+use Rattle.pma_store.proofs.Committed.{IsReadyAtOnce, judges, looks_fail}
+use Rattle.pma_store.proofs.Making.{opens_on, stands_there}
+use Rattle.pma_store.proofs.Standing.{rows_ascend}
+use Rattle.pma_store.proofs.array.OpenArray.try_at_once.Goals as goal
+use Rattle.pma_store.proofs.array.OpenArray.try_at_once.Goals.{in-Ok-commit_edits, in-Err-commit_edits, After-find_segments, After-look_over}
+
+-- the store is open before it
+opened : (g : _) (c : After-find_segments g) → IsOpenOn (view_of c.self.inside) (g.S.Station.view c.args.station.now)
+opened g c = subst (λ (s : StoreView). IsOpenOn s (g.S.Station.view c.args.station.now)) (sym c.self.view_is) c.requires.open
+
+belong : (g : _) (c : After-find_segments g) → Told (g.S.Station.view c.args.station.now) → BelongThere (array_of (g.S.Station.view c.args.station.now).held) c.find_segments.new.segments c.args.intent.now
+belong g c told =
+    let s = view_of c.self.inside in
+    let a = g.S.Station.view c.args.station.now in
+    let stands = stands_there s (opened g c).on told in
+    c.find_segments.ensures.found (array_of a.held) stands.index (rows_ascend s.place.layout s.place.region s.tally.height s.tally.counts a.held stands.balanced.stands)
+
+within : (g : _) (c : After-find_segments g) → (k : ℕ) → k < length c.find_segments.new.segments → get_or c.find_segments.new.segments k 0 < 2 ^ c.self.inside.tally.height
+within g c k lt = subst (λ (h : ℕ). get_or c.find_segments.new.segments k 0 < 2 ^ h) c.self.invariant.index_height (c.find_segments.ensures.within k (omega (arith, lt, c.find_segments.ensures.size)))
+
+pub look_over-requires-clause-belong : goal.look_over-requires-clause-belong
+look_over-requires-clause-belong g c = belong g (goal.at.look_over-requires-clause-belong g c).After-find_segments
+
+-- behind the look the store is as it was
+same : (g : _) (c : After-look_over g) → record (view_of c.self.inside) { journal = c.look_over.new.frames.journal } ≡ view_of c.self.inside
+same g c = ap (λ (j : ℕ). record (view_of c.self.inside) { journal = j }) (c.look_over.ensures.journal ∙ sym c.self.invariant.journal)
+
+pub returns-in-Err : goal.returns-in-Err
+returns-in-Err g c =
+    let here = (goal.at.returns-in-Err g c).After-look_over in
+    let found = (goal.at.returns-in-Err g c).After-find_segments in
+    let s = view_of c.self.inside in
+    let a = g.S.Station.view c.args.station.now in
+    let b = g.S.Station.view c.look_over.new.station in
+    let items = c.args.intent.now in
+    subst (λ (v : StoreView). AppliesBatch items (Err c.in-Err.fault) v (record s { journal = c.look_over.new.frames.journal }) a b) c.self.view_is
+    (subst (λ (t : StoreView). AppliesBatch items (Err c.in-Err.fault) s t a b) (sym (same g here))
+    (judging_fails items c.in-Err.fault s s (opened g found) (looks_fail items c.in-Err.fault s c.find_segments.new.segments c.look_over.new.frames c.look_over.new.look (tall_of s c.self.invariant) c.in-Err.ensures)))
+
+-- the most records, for the store's fields
+most : (g : _) (c : After-find_segments g) → c.args.most ≡ upper_of (limit_of (view_of c.self.inside))
+most g c = c.requires.most ∙ ap (λ (s : StoreView). upper_of (limit_of s)) (sym c.self.view_is)
+
+pub returns-in_default : goal.returns-in_default
+returns-in_default g c =
+    let here = (goal.at.returns-in_default g c).After-look_over in
+    let found = (goal.at.returns-in_default g c).After-find_segments in
+    let s = view_of c.self.inside in
+    let a = g.S.Station.view c.args.station.now in
+    let b = g.S.Station.view c.look_over.new.station in
+    let items = c.args.intent.now in
+    subst (λ (v : StoreView). JudgesItems items (Ok None) v (record s { journal = c.look_over.new.frames.journal }) a b) c.self.view_is
+    (subst (λ (t : StoreView). JudgesItems items (Ok None) s t a b) (sym (same g here))
+    (judges items s c.find_segments.new.segments c.look_over.new.frames c.look_over.new.look (opened g found).on c.find_segments.ensures.size (belong g found) (within g found) c.in-Ok.ensures
+    c.records.result c.args.most None (most g found) c.records.ensures c.in_default.ensures.judged tt))
+
+pub returns-in_default-list_fitting : goal.returns-in_default-list_fitting
+returns-in_default-list_fitting g c =
+    let here = (goal.at.returns-in_default-list_fitting g c).After-look_over in
+    let found = (goal.at.returns-in_default-list_fitting g c).After-find_segments in
+    let s = view_of c.self.inside in
+    let a = g.S.Station.view c.args.station.now in
+    let b = g.S.Station.view c.look_over.new.station in
+    let items = c.args.intent.now in
+    subst (λ (v : StoreView). JudgesItems items (Ok (Some c.in-Some.judged)) v (record s { journal = c.look_over.new.frames.journal }) a b) c.self.view_is
+    (subst (λ (t : StoreView). JudgesItems items (Ok (Some c.in-Some.judged)) s t a b) (sym (same g here))
+    (judges items s c.find_segments.new.segments c.look_over.new.frames c.look_over.new.look (opened g found).on c.find_segments.ensures.size (belong g found) (within g found) c.in-Ok.ensures
+    c.records.result c.args.most (Some c.in-Some.judged) (most g found) c.records.ensures c.in-Some.ensures.judged c.in-Some.ensures.found))
+
+pub slice_bounds-changes-end : goal.slice_bounds-changes-end
+slice_bounds-changes-end g c = omega (arith, c.in-Some-list_fitting.ensures.most, c.type_inv.changes)
+
+pub slice_bounds-commit_edits-end : goal.slice_bounds-commit_edits-end
+slice_bounds-commit_edits-end g c = sym (length-take-le c.in-Some-list_fitting.count c.list_fitting.new.changes (omega (arith, c.in-Some-list_fitting.ensures.most, c.list_fitting.auto.changes)))
+
+still : (g : _) (c : After-look_over g) → IsOpenOn (view_of c.self.inside) (g.S.Station.view c.args.station.now) → IsOpenOn (view_of c.self.inside) (g.S.Station.view c.look_over.new.station)
+still g c is = opens_on (view_of c.self.inside) (view_of c.self.inside) (g.met.S.Station.lawful c.args.station.now) is c.look_over.ensures.steps refl
+
+pub commit_edits-requires-clause-nothing : goal.commit_edits-requires-clause-nothing
+commit_edits-requires-clause-nothing g c = (still g (goal.at.commit_edits-requires-clause-nothing g c).After-look_over (opened g (goal.at.commit_edits-requires-clause-nothing g c).After-find_segments)).on.settled
+
+pub returns : goal.returns
+returns g c =
+    let here = (goal.at.returns g c).After-look_over in
+    let found = (goal.at.returns g c).After-find_segments in
+    let s = view_of c.self.inside in
+    let a = g.S.Station.view c.args.station.now in
+    let b = g.S.Station.view c.look_over.new.station in
+    let e = g.S.Station.view c.commit_edits.new.station in
+    let items = c.args.intent.now in
+    let numbers = c.find_segments.new.segments in
+    let look = c.look_over.new.look in
+    let frames = c.look_over.new.frames in
+    let judged = c.in-Some.judged in
+    let changes = take c.in-Some-list_fitting.count c.list_fitting.new.changes in
+    let steps = c.look_over.ensures.steps in
+    let is = opened g found in
+    let law = g.met.S.Station.lawful c.args.station.now in
+    let law_b = g.met.S.Station.lawful c.look_over.new.station in
+    let version : INTENT_VERSION ≤ version_of s = subst (λ (v : StoreView). INTENT_VERSION ≤ version_of v) (sym c.self.view_is) c.requires.version in
+    let held = λ (told : Told b). sym (steps.held (told_back steps.frame told)) in
+    let ready : IsReadyAtOnce items s numbers frames look judged changes b = record {
+      is = still g here is;
+      store = c.self.invariant;
+      intent = c.len-len.ensures.intent;
+      loaded = c.in-Ok.ensures.loaded;
+      looked = λ told. subst (λ (x : List ℕ). HasLooked s.place.layout.format (array_of x) numbers items frames look (2 ^ s.tally.height)) (held told) (c.in-Ok.ensures.looked (told_back steps.frame told));
+      belong = λ told. subst (λ (x : List ℕ). BelongThere (array_of x) numbers items) (held told) (belong g found (told_back steps.frame told));
+      journal = c.look_over.ensures.journal;
+      fits = c.in-Some-list_fitting.ensures.fits;
+    } in
+    let tells = judges items s numbers frames look is.on c.find_segments.ensures.size (belong g found) (within g found) c.in-Ok.ensures c.records.result c.args.most (Some judged) (most g found) c.records.ensures c.in-Some.ensures.judged c.in-Some.ensures.found in
+    let judged_is = λ (told : Told b). tells.judged (told_back steps.frame told) ∙ ap (λ (x : List ℕ). judged_of (limit_of s) (map_of x) items) (held told) in
+    let index = c.commit_edits.new.index in
+    let tally = c.commit_edits.new.tally in
+    let journal = c.commit_edits.ensures.journal ∙ c.look_over.ensures.journal ∙ sym c.self.invariant.journal in
+    subst (λ (v : StoreView). TriesOnce items c.match-commit_edits.result v (record s { tally = tally; index = index; journal = c.commit_edits.new.frames.journal }) a e) c.self.view_is (elim c.match-commit_edits.branch [
+      | in-Ok-commit_edits w ↦
+          subst (λ (r : Result Tried StoreFault). TriesOnce items r s (record s { tally = tally; index = index; journal = c.commit_edits.new.frames.journal }) a e) (sym w.result-is)
+          (subst (λ (j : ℕ). AppliesBatch items (Ok (done_by (counts_of judged) (2 * edits_of judged))) s (record s { tally = tally; index = index; journal = j }) a e) (sym journal)
+          (judged_then items (Ok (done_by (counts_of judged) (2 * edits_of judged))) s (record s { tally = tally; index = index }) is law steps c.look_over.ensures.unwritten (λ none. absurd cc)
+          (committed items s numbers frames look judged changes ready law_b version judged_is c.in-Some.ensures.total (g.met.S.Station.lawful c.commit_edits.new.station) index tally w.in-Ok-commit_edits.ensures.committed)))
+      | in-Err-commit_edits w ↦
+          let commits = w.in-Err-commit_edits.ensures.committed in
+          subst (λ (r : Result Tried StoreFault). TriesOnce items r s (record s { tally = tally; index = index; journal = c.commit_edits.new.frames.journal }) a e) (sym w.result-is)
+          (subst (λ (t : StoreView). AppliesBatch items (Err Failed) s t a e) (sym (λ τ. record s { tally = commits.unchanged.1 τ; index = commits.unchanged.0 τ; journal = journal τ }))
+          (judged_then items (Err Failed) s s is law steps c.look_over.ensures.unwritten tt
+          (not_committed items s numbers frames look judged changes ready law_b version judged_is c.in-Some.ensures.total _ commits.frames)))
+    ])

@@ -1,0 +1,48 @@
+use Rattle.std.proofs.Common.{◌≡◌, ℕ, ◌*◌, ◌%◌, List, [], refl, sym, ap, ◌∙◌, arith, inl}
+use Rattle.std.proofs.lemmas.List.{nil_from_length}
+use Rattle.std.proofs.lemmas.Result.{on_ok_weaker}
+use Rattle.station.proofs.Composition.{no_steps, weaken}
+use Rattle.header_gate.specs.Header.{gate}
+use Rattle.header_gate.specs.Recovered.{recovered, laid_over}
+use Rattle.redo_journal.specs.Commit.{frame_byte}
+use Rattle.pma_store.proofs.FittingLaws.{laid_nothing}
+use Rattle.pma_store.proofs.Touching.{untouched}
+use Rattle.pma_store.proofs.at_once.commit_frames.Goals as goal
+
+pub returns-then-count-eq0-clause-committed : goal.returns-then-count-eq0-clause-committed
+returns-then-count-eq0-clause-committed g c =
+    let a = g.S.Station.view c.args.station.now in
+    let place = c.args.place.now in
+    let frames = c.args.frames.now in
+    let none : frames.numbers ≡ [] = nil_from_length frames.numbers (omega (arith, c.requires.pages, ap (λ (n : ℕ). place.layout.format * n) c.if-count-eq0.true)) in
+    record {
+      steps = weaken (no_steps a) (λ d i left same. record {
+        commits = record {
+          whole = inl (ap (recovered place.layout) same);
+          table = λ odd. absurd (omega (arith, odd, ap gate same, (c.requires.settled d left).gate_even));
+          touched = untouched d i same;
+        };
+        some = λ odd. absurd (omega (arith, odd, ap gate same, (c.requires.settled d left).gate_even));
+      });
+      laid = λ told. sym (ap (λ (l : List ℕ). laid_over place.layout place.region l (frame_byte frames.slots) (recovered place.layout a.held)) none ∙ laid_nothing place.layout place.region (frame_byte frames.slots) (recovered place.layout a.held));
+      closed = λ told. (c.requires.settled a.held (inl (told, refl))).gate_even;
+      settled = c.requires.nothing;
+      none = λ zero. refl;
+      cost = omega arith;
+      unread = refl;
+      cause = tt;
+    }
+
+pub returns-clause-committed : goal.returns-clause-committed
+returns-clause-committed g c =
+    let place = c.args.place.now in
+    record {
+      steps = weaken c.commit.ensures.steps (λ d i left step. record { commits = step; some = λ odd. omega (arith, c.if-count-eq0.false) });
+      laid = c.commit.ensures.laid;
+      closed = on_ok_weaker c.commit.result (λ zero told. ap (λ (n : ℕ). n % 2) (zero told)) c.commit.ensures.closed;
+      settled = c.commit.ensures.settled;
+      none = λ zero. absurd (omega (arith, zero, c.if-count-eq0.false));
+      cost = omega (arith, c.commit.ensures.cost, c.requires.pages);
+      unread = c.commit.ensures.no_reads;
+      cause = c.commit.ensures.cause;
+    }

@@ -1,0 +1,88 @@
+-- A batch as one commit: what it writes, and what it leaves in memory.
+use Rattle.std.specs.Prelude.{◌≡◌, ℕ, ◌+◌, ◌*◌, ◌<◌, ◌≤◌, ◌^◌, true, All, List, length, get_or, Some, None, Result, Ok, Err, OnOk, OnErr}
+use Rattle.station.specs.View.{View, Told, NothingPending, Rose}
+use Rattle.station.specs.Steps.{Steps}
+use Rattle.cost_ledger.specs.Potential.{potential_of}
+use Rattle.density_rule.specs.Windows.{IsBalanced}
+use Rattle.header_gate.specs.Header.{gate}
+use Rattle.header_gate.specs.Recovered.{recovered, laid_over}
+use Rattle.key_slot.specs.Record.{IsAscending}
+use Rattle.map_model.specs.Array.{Array, rows, segment_at}
+use Rattle.map_model.specs.Store.{Update}
+use Rattle.one_commit.specs.declared.changes.ItemChange.{ItemChange}
+use Rattle.one_commit.specs.Editing.{counts_by, marks_by_changes}
+use Rattle.one_commit.specs.Fitting.{changes_in, fit_one_commit}
+use Rattle.redo_journal.specs.Commit.{Commits, frame_byte}
+use Rattle.redo_journal.specs.Frames.{Batch}
+use Rattle.redo_journal.specs.declared.place.Place.{Place}
+use Rattle.segment.specs.Rows.{key_at}
+use Rattle.segment.specs.declared.fault.StoreFault.{StoreFault}
+use Rattle.segment_frames.specs.Lists.{held_lists, segments_in}
+use Rattle.station.specs.declared.station.Failed.{Failed}
+use Rattle.veb_index.specs.View.{IndexView, fence_of}
+use Rattle.window_tally.specs.View.{TallyView, IsTally}
+use Rattle.pma_store.specs.declared.at_once.Tried.{Tried}
+use Rattle.pma_store.specs.declared.at_once.Tried.TheVariants.{Full, Judged, Done}
+use Rattle.pma_store.specs.declared.judging.Judged.{Judged as JudgedItems}
+use Rattle.pma_store.specs.declared.look.Look.{Look}
+use Rattle.pma_store.specs.Batching.{AppliesBatch, done_by}
+use Rattle.pma_store.specs.Judging.{JudgesItems, counts_of, edits_of}
+use Rattle.pma_store.specs.Looked.{BelongThere, HasFound}
+use Rattle.pma_store.specs.Store.{StoreView}
+
+-- number k of the segments of a batch
+abbrev pub number_of : ℕ → Batch → ℕ → ℕ
+number_of format b k = get_or (segments_in format b.numbers) k 0
+
+-- the fences of the first n segments of a batch are their first keys, and the others stay
+pub record RenewsFences (format : ℕ) (b : Batch) (n : ℕ) (old new : IndexView) : Type 0 where
+  pub hmax : new.hmax ≡ old.hmax
+  pub height : new.height ≡ old.height
+  pub set : (k : ℕ) → k < n → 0 < number_of format b k → fence_of new (number_of format b k) ≡ key_at (segment_at (held_lists format b) k) 0
+  pub others : (i : ℕ) → ((k : ℕ) → k < n → number_of format b k ≡ i → ⊥) → fence_of new i ≡ fence_of old i
+
+-- The items of a batch fit one commit, with so many changes: the frames hold each edited segment, and no more segments than
+-- items edit one.
+pub record FitsCommit (numbers : List ℕ) (items : List Update) (look : Look) (judged : JudgedItems) (tally : TallyView) (changes : List ItemChange) : Type 0 where
+  pub whole : look.whole ≡ true
+  pub few : look.count ≤ edits_of judged
+  pub listed : length changes ≤ length items
+  pub in_store : All (λ c. c.segment < 2 ^ tally.height) changes
+  pub changes_are : (array : Array) → 0 < length array → IsAscending (rows array) → BelongThere array numbers items → HasFound array numbers items look.found (2 ^ tally.height) → changes ≡ changes_in array items
+  pub fit : fit_one_commit tally.height tally.counts changes ≡ true
+
+-- A commit of the pages of so many segments. Where the gate is odd, there is one.
+pub record CommitsPages (place : Place) (count : ℕ) (b : Batch) (old new : List ℕ) : Type 0 where
+  pub commits : Commits place.layout place.region b.numbers (frame_byte b.slots) old new
+  pub some : gate new ≡ 1 → 0 < count
+
+-- The pages in frames were committed, or nothing was done where there are none.
+pub record CommitsFrames (place : Place) (count : ℕ) (result : Result (Unit {0}) Failed) (b : Batch) (a c : View) : Type 0 where
+  pub steps : Steps (CommitsPages place count b) a c
+  pub laid : OnOk result (Told a → recovered place.layout c.held ≡ laid_over place.layout place.region b.numbers (frame_byte b.slots) (recovered place.layout a.held))
+  pub closed : OnOk result (Told a → gate c.held ≡ 0)
+  pub settled : OnOk result (NothingPending c)
+  pub none : count ≡ 0 → c.travel.written ≡ a.travel.written
+  pub cost : c.travel.written ≤ a.travel.written + (8196 * place.layout.format * count + 6)
+  pub unread : c.travel.read ≡ a.travel.read
+  pub cause : OnErr result (Rose a.disk_faults c.disk_faults)
+
+-- Besides, the fences of the edited segments were set, and the changes counted, but not where it failed.
+pub record CommitsEdits (place : Place) (look : Look) (changes : List ItemChange) (result : Result (Unit {0}) Failed) (b : Batch) (index next_index : IndexView) (tally next_tally : TallyView) (a c : View) : Type 0 where
+  pub frames : CommitsFrames place look.count result b a c
+  pub fences : OnOk result (RenewsFences place.layout.format b look.count index next_index)
+  pub counted : OnOk result (next_tally ≡ record tally { counts = counts_by changes tally.counts; marks = marks_by_changes tally.height changes tally.marks })
+  pub is_tally : IsTally next_tally
+  pub balanced : IsBalanced next_tally.height next_tally.counts
+  pub sizes : (next_tally.hmax ≡ tally.hmax) × (next_tally.height ≡ tally.height)
+  pub index_sizes : (next_index.hmax ≡ index.hmax) × (next_index.height ≡ index.height)
+  pub paid : OnOk result (potential_of next_tally ≤ potential_of tally + 512 * length changes)
+  pub unchanged : OnErr result ((next_index ≡ index) × (next_tally ≡ tally))
+
+-- What it came to that a batch was tried as one commit: it was judged alone, or it was made, with two images charged for each
+-- item that edits a segment.
+abbrev pub TriesOnce : List Update → Result Tried StoreFault → StoreView → StoreView → View → View → Type 0
+TriesOnce items (Ok Full) s t a b = JudgesItems items (Ok None) s t a b
+TriesOnce items (Ok (Judged judged)) s t a b = JudgesItems items (Ok (Some judged)) s t a b
+TriesOnce items (Ok (Done judged)) s t a b = AppliesBatch items (Ok (done_by (counts_of judged) (2 * edits_of judged))) s t a b
+TriesOnce items (Err fault) s t a b = AppliesBatch items (Err fault) s t a b

@@ -1,0 +1,153 @@
+//! Batches that are one commit, or grow, spread and shrink a store, or take the first record of a segment, stopped at each
+//! call: what is left opens with none of their items or with all of them, and with all of them where a byte of the reply was
+//! said. Where a call failed, that opening is stopped at each of its calls too.
+
+use super::rows::{Part, answered};
+use super::stops::{
+    CALLS, Keys, PICKS, noted, range_reply, range_reply_behind, see_faults, see_opened,
+};
+use Part::{Put, Remove};
+use std::alloc::Global;
+use std::process::Abort;
+use std::test::Fail;
+
+// The height limit of a new store, a script on it, a batch, the keys before it, and after it some records and the keys behind
+// them.
+type Batch = (
+    &'static str,
+    &'static [Part],
+    &'static [u8],
+    Keys,
+    (&'static [u8], u32),
+    Keys,
+);
+
+const ONE_SEGMENT: Batch = (
+    "0",
+    &[],
+    b"batch put a 1 ; put b ; remove c\n",
+    (1, 0),
+    (b"record a 1\nrecord b\n", 2),
+    (1, 0),
+);
+
+// Behind the removal of the first record of a segment comes a new key of it, so the items are made one by one.
+const TAKES_FIRST: Batch = (
+    "2",
+    &[Put(1, 65), Remove(1, 55)],
+    b"batch put k066 ; remove k060 ; put k067\n",
+    (56, 65),
+    (b"record k056\nrecord k057\nrecord k058\nrecord k059\n", 4),
+    (61, 67),
+);
+
+// The same keys in another order are one commit.
+const TAKES_FIRST_LAST: Batch = (
+    "2",
+    &[Put(1, 65), Remove(1, 55)],
+    b"batch put k067 ; put k066 ; remove k060\n",
+    (56, 65),
+    (b"record k056\nrecord k057\nrecord k058\nrecord k059\n", 4),
+    (61, 67),
+);
+
+const GROWS: Batch = (
+    "2",
+    &[Put(1, 64)],
+    b"batch put k065 ; remove k001 ; put k002 x ; remove zz\n",
+    (1, 64),
+    (b"record k002 x\n", 1),
+    (3, 65),
+);
+
+const SPREADS: Batch = (
+    "2",
+    &[Put(1, 96)],
+    b"batch put k097 ; remove k001\n",
+    (1, 96),
+    (b"", 0),
+    (2, 97),
+);
+
+const SHRINKS: Batch = (
+    "2",
+    &[Put(1, 65), Remove(1, 55)],
+    b"batch remove k056 ; put a\n",
+    (56, 65),
+    (b"record a\n", 1),
+    (57, 65),
+);
+
+// Stops a session behind each of its calls.
+fn see_stops(
+    rt: &impl Abort,
+    alloc: Global,
+    file: &[u8],
+    line: &[u8],
+    maps: (&[u8], &[u8]),
+) -> Result<(), Fail> {
+    let station = noted(rt, alloc, file, line)?;
+    for calls in 0..CALLS {
+        if calls as usize > station.noted() {
+            return Ok(());
+        }
+        let is_answered = station.said_after(calls) > 0;
+        for pick in PICKS {
+            let image = station.crash_image(alloc, calls, pick)?;
+            see_opened(rt, alloc, &image, maps, is_answered)?;
+        }
+    }
+    Err("the session makes more calls".into())
+}
+
+// Sees what a fault or a stop at each call of a batch leaves.
+fn see_batch(rt: &impl Abort, alloc: Global, batch: &Batch, fails: bool) -> Result<(), Fail> {
+    let (height, parts, line, before, records, after) = *batch;
+    let file = answered(rt, alloc, height, None, parts)?;
+    let before = range_reply(alloc, before)?;
+    let after = range_reply_behind(alloc, records, after)?;
+    let maps = (before.as_slice(), after.as_slice());
+    if fails {
+        see_faults(rt, alloc, &file, line, maps)
+    } else {
+        see_stops(rt, alloc, &file, line, maps)
+    }
+}
+
+#[test]
+fn a_failed_call_leaves_none_or_all(rt: HostRuntime) -> Result<(), Fail> {
+    see_batch(&rt, rt.alloc(), &ONE_SEGMENT, true)?;
+    see_batch(&rt, rt.alloc(), &SHRINKS, true)
+}
+
+#[test]
+fn a_failed_call_of_a_batch_that_takes_a_first_record(rt: HostRuntime) -> Result<(), Fail> {
+    see_batch(&rt, rt.alloc(), &TAKES_FIRST, true)?;
+    see_batch(&rt, rt.alloc(), &TAKES_FIRST_LAST, true)
+}
+
+#[test]
+fn a_failed_call_of_a_batch_that_grows(rt: HostRuntime) -> Result<(), Fail> {
+    see_batch(&rt, rt.alloc(), &GROWS, true)
+}
+
+#[test]
+fn a_failed_call_of_a_batch_that_spreads(rt: HostRuntime) -> Result<(), Fail> {
+    see_batch(&rt, rt.alloc(), &SPREADS, true)
+}
+
+#[test]
+fn a_stop_leaves_none_or_all(rt: HostRuntime) -> Result<(), Fail> {
+    for batch in [&ONE_SEGMENT, &GROWS, &SPREADS, &SHRINKS] {
+        see_batch(&rt, rt.alloc(), batch, false)?;
+    }
+    Ok(())
+}
+
+#[test]
+fn a_stop_of_a_batch_that_takes_a_first_record(rt: HostRuntime) -> Result<(), Fail> {
+    for batch in [&TAKES_FIRST, &TAKES_FIRST_LAST] {
+        see_batch(&rt, rt.alloc(), batch, false)?;
+    }
+    Ok(())
+}

@@ -1,0 +1,129 @@
+//! Worked sessions with cursors: what they give while records come and go, what their names are, and how many there may be.
+
+use super::rows::{Part, answered, push_lines};
+use super::sessions::{SMOOTH, created, push_key, see_kept, see_session};
+use Part::Lines;
+use std::test::Fail;
+
+// A script on a new store of height limit 2, and its replies.
+type Row = (&'static [u8], &'static [u8]);
+
+const WALKS: &[Row] = &[
+    (
+        b"put a\nput b\nput c\nput d\nopen x * *\nnext x\nremove b\nput bb\nnext x\nput a0\nnext x\nnext x\nnext x\nnext x\n",
+        b"stored\nstored\nstored\nstored\nopened\nrecord a\nremoved\nstored\nrecord bb\nstored\nrecord c\nrecord d\nend\nno cursor\n",
+    ),
+    (
+        b"put a\nput b\nput c\nput d\nput e\nopen x * *\nnext x\nbatch remove b ; put cc ; remove e\nnext x\nnext x\nnext x\nnext x\n",
+        b"stored\nstored\nstored\nstored\nstored\nopened\nrecord a\nbatch stored=1 replaced=0 removed=2 absent=0\nrecord c\nrecord cc\nrecord d\nend\n",
+    ),
+    // bounds, and a value that is bound while the cursor is open
+    (
+        b"put a\nput b 1\nput c\nput d\nopen x b d\nput b 2\nnext x\nput bz 3\nnext x\nnext x\nnext x\n",
+        b"stored\nstored\nstored\nstored\nopened\nreplaced\nrecord b 2\nstored\nrecord bz 3\nrecord c\nend\n",
+    ),
+    // the records themselves are removed on the way, down to none
+    (
+        b"put a\nput b\nopen x * *\nnext x\nremove a\nnext x\nremove b\nnext x\nopen x b a\nnext x\n",
+        b"stored\nstored\nopened\nrecord a\nremoved\nrecord b\nremoved\nend\nopened\nend\n",
+    ),
+    // two over the same records go their own ways; a cursor counts as no update
+    (
+        b"put a\nput b\nopen x * *\nopen y b *\nnext x\nnext y\nnext y\nnext x\nclose x\nnext x\ncost\n",
+        b"stored\nstored\nopened\nopened\nrecord a\nrecord b\nend\nrecord b\nclosed\nno cursor\ncost updates=2 charge=4 bound=1060\n",
+    ),
+    // the manual's
+    (
+        b"put a 1\nput b 2\nput c 3\nopen x * *\nnext x\nput aa 9\nremove b\nnext x\nput a0 9\nremove aa\nnext x\nnext x\nnext x\n",
+        b"stored\nstored\nstored\nopened\nrecord a 1\nstored\nremoved\nrecord aa 9\nstored\nremoved\nrecord c 3\nend\nno cursor\n",
+    ),
+];
+
+// Names of cursors, and lines that are no commands.
+const NAMES: &[Row] = &[
+    (
+        b"put a\nopen * * *\nnext %2A\nopen %2a * *\nclose *\nnext *\n",
+        b"stored\nopened\nrecord a\ncursor open\nclosed\nno cursor\n",
+    ),
+    (
+        b"close x\nopen x * *\nclose x\nopen x * *\nnext x\nopen x * *\n",
+        b"no cursor\nopened\nclosed\nopened\nend\nopened\n",
+    ),
+    (
+        b"open abcdefghijklmnopqrstuvwxy * *\nopen x * abcdefghijklmnopqrstuvwxy\nnext abcdefghijklmnopqrstuvwxy\nopen x *\nopen x * * 1\nnext\nclose x y\nnext x\n",
+        b"oversized key 24\noversized key 24\noversized key 24\nbad words\nbad words\nbad words\nbad words\nno cursor\n",
+    ),
+];
+
+#[test]
+fn cursors_are_answered(rt: HostRuntime) -> Result<(), Fail> {
+    for rows in [WALKS, NAMES] {
+        for (script, want) in rows {
+            answered(&rt, rt.alloc(), "2", None, &[Lines(script, want)])?;
+        }
+    }
+    Ok(())
+}
+
+#[test]
+fn a_seventeenth_finds_no_room(rt: HostRuntime) -> Result<(), Fail> {
+    let mut script = Vec::new(rt.alloc());
+    let mut want = Vec::new(rt.alloc());
+    for number in 1..=16u32 {
+        script.extend_from_slice(b"open ")?;
+        push_key(&mut script, number)?;
+        script.extend_from_slice(b" * *\n")?;
+        want.extend_from_slice(b"opened\n")?;
+    }
+    script.extend_from_slice(
+        b"open x * *\nopen k003 * *\nclose k003\nopen x * *\nopen k003 * *\nnext x\nopen k003 * *\n",
+    )?;
+    want.extend_from_slice(b"no room 16\ncursor open\nclosed\nopened\nno room 16\nend\nopened\n")?;
+    let (_, empty) = created(rt.alloc(), "0", None)?;
+    see_session(&rt, rt.alloc(), empty.held(), &script, SMOOTH, (0, &want))?;
+    Ok(())
+}
+
+// The 127th record grows the store, and others before it spread its segments: the cursor goes on behind its key.
+#[test]
+fn a_cursor_goes_on_through_growth(rt: HostRuntime) -> Result<(), Fail> {
+    let mut script = Vec::new(rt.alloc());
+    let mut want = Vec::new(rt.alloc());
+    push_lines(&mut script, b"put ", 1, 65)?;
+    script.extend_from_slice(b"open x * *\n")?;
+    for _ in 1..=65 {
+        want.extend_from_slice(b"stored\n")?;
+    }
+    want.extend_from_slice(b"opened\n")?;
+    for number in 66..=127 {
+        push_lines(&mut script, b"put ", number, number)?;
+        script.extend_from_slice(b"next x\n")?;
+        want.extend_from_slice(b"stored\nrecord ")?;
+        push_key(&mut want, number - 65)?;
+        want.push(b'\n')?;
+    }
+    script.extend_from_slice(b"check\n")?;
+    want.extend_from_slice(b"check ok records=127 height=2\n")?;
+    let (_, empty) = created(rt.alloc(), "2", None)?;
+    see_session(&rt, rt.alloc(), empty.held(), &script, SMOOTH, (0, &want))?;
+    Ok(())
+}
+
+// Cursors end with the run, and what is asked of them leaves every byte of the file.
+#[test]
+fn cursors_end_with_the_run(rt: HostRuntime) -> Result<(), Fail> {
+    let file = answered(
+        &rt,
+        rt.alloc(),
+        "0",
+        None,
+        &[Lines(b"put a\nopen x * *\n", b"stored\nopened\n")],
+    )?;
+    see_kept(
+        &rt,
+        rt.alloc(),
+        &file,
+        b"next x\nopen x * *\nnext x\nnext x\n",
+        (0, b"no cursor\nopened\nrecord a\nend\n"),
+    )
+}
