@@ -26,12 +26,11 @@ use Rattle.key_slot.specs.Segment.{segment_bytes}
 use Rattle.key_slot.proofs.SegmentLaws.{times_up}
 use Rattle.map_model.specs.Array.{Array, counts_of, segment_at}
 use Rattle.map_model.specs.ArrayState.{ArrayState, HasState, next_states}
-use Rattle.map_model.specs.ArrayUpdates.{key_of}
 use Rattle.map_model.specs.Batches.{IsNone, IsSegmentImage, LaysBatch}
 use Rattle.map_model.specs.Holding.{HoldsMap, IsBalancedArray}
 use Rattle.map_model.specs.Image.{Represents, array_of, height_of, map_of, slot_format}
 use Rattle.map_model.specs.Items.{map_after_items}
-use Rattle.map_model.specs.Store.{Map, Update}
+use Rattle.map_model.specs.Store.{Map, Update, key_of}
 use Rattle.map_model.proofs.Recovering.{kept}
 use Rattle.map_model.proofs.SessionLaws.{holds_of}
 use Rattle.one_commit.specs.declared.changes.ItemChange.{ItemChange}

@@ -14,12 +14,11 @@ use Rattle.header_gate.specs.Header.{intent_gate}
 use Rattle.header_gate.specs.Places.{height_limit}
 use Rattle.map_model.specs.ArrayState.{ArrayState, next_state, next_states}
 use Rattle.map_model.specs.Array.{segment_at, segment_for}
-use Rattle.map_model.specs.ArrayUpdates.{key_of}
 use Rattle.segment.specs.Rows.{value_of}
 use Rattle.map_model.specs.Charges.{charge_after}
 use Rattle.map_model.specs.Image.{RepresentsMap, array_of, map_of}
 use Rattle.map_model.specs.Items.{AreAdmitted, are_distinct, charge_after_items, map_after_items}
-use Rattle.map_model.specs.Store.{Map, Update, map_after}
+use Rattle.map_model.specs.Store.{Map, Update, map_after, key_of}
 use Rattle.key_slot.proofs.SegmentLaws.{times_up}
 use Rattle.map_model.proofs.Recovering.{determined}
 use Rattle.map_model.proofs.Resuming.{get_before}

@@ -11,11 +11,11 @@ use Rattle.key_slot.specs.Record.{Record, key_cmp, is_record, IsAscending}
 use Rattle.key_slot.specs.Segment.{FitsSegment}
 use Rattle.key_slot.proofs.Truth.{first, second}
 use Rattle.map_model.specs.Array.{Array, rows, segment_at, segment_for}
-use Rattle.map_model.specs.ArrayUpdates.{has_key, key_of}
+use Rattle.map_model.specs.ArrayUpdates.{has_key, edited}
 use Rattle.map_model.specs.Items.{are_distinct}
-use Rattle.map_model.specs.Store.{Update, bind, unbind}
+use Rattle.map_model.specs.Store.{Update, bind, unbind, key_of}
 use Rattle.map_model.proofs.Belonging.{segment_for_is, rows-find}
-use Rattle.one_commit.specs.Editing.{edited, edited_by, edits, items_for}
+use Rattle.one_commit.specs.Editing.{edited_by, edits, items_for}
 use Rattle.header_gate.specs.Places.{IsSlotFormat}
 use Rattle.header_gate.specs.Places.{segment_place, segment_size}
 use Rattle.one_commit.specs.Touched.{IsLeastOf}

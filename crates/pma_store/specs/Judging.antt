@@ -4,10 +4,9 @@ use Rattle.std.specs.FinMap.{contains_key}
 use Rattle.station.specs.Bytes.{Same}
 use Rattle.station.specs.View.{View, Told, Rose}
 use Rattle.station.specs.Steps.{Steps}
-use Rattle.map_model.specs.ArrayUpdates.{key_of}
 use Rattle.map_model.specs.Image.{map_of}
 use Rattle.map_model.specs.Items.{ItemCounts, no_items, count_items, first_full}
-use Rattle.map_model.specs.Store.{Map, Update, bind, unbind}
+use Rattle.map_model.specs.Store.{Map, Update, bind, unbind, key_of}
 use Rattle.segment.specs.declared.fault.StoreFault.{StoreFault}
 use Rattle.segment.specs.declared.fault.StoreFault.TheVariants.{Failed}
 use Rattle.pma_store.specs.declared.judging.Judged.{Judged}

@@ -12,10 +12,9 @@ use Rattle.station.specs.Steps.{Steps}
 use Rattle.key_slot.specs.Record.{Record, is_record}
 use Rattle.key_slot.specs.Segment.{FitsSegment}
 use Rattle.map_model.specs.Array.{Array, segment_at, segment_for}
-use Rattle.map_model.specs.ArrayUpdates.{key_of}
 use Rattle.map_model.specs.Batches.{IsNone}
 use Rattle.map_model.specs.Image.{array_of}
-use Rattle.map_model.specs.Store.{Update}
+use Rattle.map_model.specs.Store.{Update, key_of}
 use Rattle.one_commit.specs.Editing.{edited_by, items_for}
 use Rattle.redo_journal.specs.Frames.{Batch}
 use Rattle.redo_journal.specs.declared.place.Place.{Place}

@@ -9,8 +9,7 @@ use Rattle.header_gate.specs.Header.{layout_in}
 use Rattle.header_gate.specs.Places.{height_limit, segment_size}
 use Rattle.header_gate.specs.Reasons.{or_else}
 use Rattle.key_slot.specs.Record.{Bytes, Record}
-use Rattle.map_model.specs.Store.{Map, Update, bind, unbind}
-use Rattle.map_model.specs.ArrayUpdates.{key_of}
+use Rattle.map_model.specs.Store.{Map, Update, bind, unbind, key_of}
 use Rattle.map_model.specs.Image.{height_of, map_of}
 use Rattle.segment.specs.Rows.{value_of}
 use Rattle.batch_intent.specs.declared.places.TheConstants.{INTENT_SIZE}

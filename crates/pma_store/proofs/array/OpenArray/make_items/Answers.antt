@@ -4,9 +4,8 @@ use Rattle.batch_intent.specs.Spelling.{fits_item}
 use Rattle.batch_intent.proofs.Kept.{all_at}
 use Rattle.header_gate.specs.declared.layout.Layout.{Layout}
 use Rattle.map_model.specs.Array.{segment_at, segment_for}
-use Rattle.map_model.specs.ArrayUpdates.{key_of}
 use Rattle.map_model.specs.Image.{array_of}
-use Rattle.map_model.specs.Store.{Update, unbind}
+use Rattle.map_model.specs.Store.{Update, unbind, key_of}
 use Rattle.segment.specs.Rows.{value_of}
 use Rattle.pma_store.specs.Items.{IsAsFound, MakesItem}
 use Rattle.pma_store.specs.Judging.{found_at}

@@ -1,16 +1,13 @@
 -- What was read along is judged as what is read.
-use Rattle.std.proofs.Common.{◌≡◌, ◌+◌, ◌-◌, ◌<◌, ◌≤◌, ℕ, true, List, [], ◌∷◌, T, length, drop, take, refl, sym, ap, subst, ◌∙◌, arith}
+use Rattle.std.proofs.Common.{◌≡◌, ◌+◌, ◌-◌, ◌<◌, ℕ, true, List, [], ◌∷◌, T, length, drop, take, refl, sym, ap, subst, ◌∙◌, arith}
 use Rattle.std.specs.List.{list_all}
-use Rattle.header_gate.specs.declared.layout.Layout.{Layout}
 use Rattle.key_slot.specs.Record.{Bytes, Record, is_record}
-use Rattle.key_slot.specs.Segment.{FitsSegment, IsSegment}
+use Rattle.key_slot.specs.Segment.{IsSegment}
 use Rattle.range_scan.specs.Bounds.{are_before, are_from}
 use Rattle.range_scan.specs.ReaderView.{ReaderView, IsReader}
 use Rattle.range_scan.specs.Reading.{last_behind, page_in}
-use Rattle.range_scan.specs.Running.{StepsBy, first_of, pages_in, read_for, rest_of}
-use Rattle.range_scan.specs.SweepRuns.{IsSweepRun}
-use Rattle.range_scan.specs.SweepView.{SweepView, IsSweep, judged}
-use Rattle.range_scan.specs.Sweeping.{IsSweeping}
+use Rattle.range_scan.specs.Running.{StepsBy, first_of, pages_in, read_for}
+use Rattle.range_scan.specs.SweepView.{SweepView, IsSweep}
 use Rattle.range_scan.specs.Taking.{Turns}
 use Rattle.range_scan.proofs.Going.{sweep_over}
 use Rattle.range_scan.proofs.Onward.{sweeping_read}
