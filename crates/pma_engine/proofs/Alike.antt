@@ -1,14 +1,13 @@
 -- Files that differ in the clean gate alone: an opening makes the same of them.
-use Rattle.std.proofs.Common.{◌≡◌, ◌⊎◌, inl, inr, ℕ, ◌+◌, ◌-◌, ◌*◌, ◌^◌, ◌%◌, ◌<◌, ◌≤◌, ◌&&◌, nat_le, nat_lt, cond, Bool, List, [], length, take, drop, length-drop, get_or-drop, refl, sym, ap, subst, ◌∙◌, arith, Option, Some, None}
+use Rattle.std.proofs.Common.{◌≡◌, inl, inr, ℕ, ◌+◌, ◌-◌, ◌*◌, ◌^◌, ◌%◌, ◌≤◌, ◌&&◌, nat_le, nat_lt, cond, List, [], length, take, drop, length-drop, get_or-drop, sym, ap, subst, ◌∙◌, arith, Some, None}
 use Rattle.std.specs.Prelude.{◌==◌}
 use Rattle.std.specs.FinMap.{from_sorted}
 use Rattle.std.proofs.lemmas.Bool.{cases_lt}
 use Rattle.std.proofs.lemmas.List.{ext_get_or, get_or_past}
-use Rattle.station.specs.Bytes.{byte, InRange, Touched}
+use Rattle.station.specs.Bytes.{byte, Touched}
 use Rattle.density_rule.specs.Marks.{no_marks}
 use Rattle.header_gate.specs.declared.layout.Layout.{Layout}
 use Rattle.header_gate.specs.declared.layout.TheConstants.{INTENT_VERSION}
-use Rattle.header_gate.specs.declared.reason.Reason.{Reason}
 use Rattle.header_gate.specs.declared.reason.Reason.TheVariants.{Length}
 use Rattle.header_gate.specs.Header.{number, gate, intent_gate, live_copy, layout_in, height_in, format_in, segment_in}
 use Rattle.header_gate.specs.Places.{page_size, table_place, image_place, region_place, segment_place, segment_size, copy_place, height_limit, pages_at}
@@ -19,17 +18,17 @@ use Rattle.header_gate.proofs.Recoveries.{table_same}
 use Rattle.header_gate.proofs.RecoveredBytes.{byte-recovered, length-recovered}
 use Rattle.header_gate.proofs.RecoveredPages.{page_before}
 use Rattle.map_model.specs.Array.{Array, rows}
-use Rattle.map_model.specs.ArrayState.{ArrayState, next_states, opened_state}
+use Rattle.map_model.specs.ArrayState.{next_states, opened_state}
 use Rattle.map_model.specs.Batches.{IsUnnamed}
 use Rattle.map_model.specs.Holding.{IsBalancedArray}
-use Rattle.map_model.specs.Image.{Represents, array_from, array_in, array_of, height_of, live_segment, map_of, slot_format}
+use Rattle.map_model.specs.Image.{Represents, array_from, array_in, array_of, height_of, live_segment, map_of}
 use Rattle.map_model.specs.Items.{AreAdmitted, first_full, map_after_items}
 use Rattle.map_model.specs.Reasons.{array_reason, reason_of}
 use Rattle.map_model.specs.Repairing.{repair}
-use Rattle.map_model.specs.Store.{Map, Update}
+use Rattle.map_model.specs.Store.{Map}
 use Rattle.map_model.proofs.Reasonings.{represents_of_none, none_of_represents}
 use Rattle.map_model.proofs.Unnamed.{unnamed_represents}
-use Rattle.batch_intent.specs.declared.places.TheConstants.{INTENT, INTENT_SIZE}
+use Rattle.batch_intent.specs.declared.places.TheConstants.{INTENT}
 use Rattle.batch_intent.specs.Gate.{form_reason, intent_area, reason_at}
 use Rattle.batch_intent.specs.Judging.{wrong_place}
 use Rattle.batch_intent.specs.Means.{Means, MeansMap, full_reason, fullness_reason, has_pending, opened_items_state, opening_reason, pending}

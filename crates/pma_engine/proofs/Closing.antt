@@ -1,16 +1,15 @@
 -- The closing of an index, and what keeps one closed.
-use Rattle.std.proofs.Common.{◌≡◌, ◌⊎◌, inl, inr, ℕ, ◌+◌, ◌*◌, ◌^◌, ◌≤◌, ◌%◌, ◌<◌, Bool, true, false, cond, List, length, refl, sym, ap, subst, ◌∙◌, arith}
+use Rattle.std.proofs.Common.{◌≡◌, ◌⊎◌, inl, inr, ℕ, ◌+◌, ◌*◌, ◌^◌, ◌≤◌, ◌<◌, Bool, true, false, cond, List, length, refl, sym, ap, subst, ◌∙◌, arith}
 use Rattle.std.specs.Prelude.{◌==◌}
 use Rattle.std.proofs.lemmas.Bool.Decides.{nat_tests}
 use Rattle.station.specs.Bytes.{byte, Same, Touched}
-use Rattle.station.specs.View.{View, Fixed, Told, Honest, EachHeld, NothingPending, Lawful, attached_by}
-use Rattle.station.specs.Steps.{Steps, Says, LeavesOnly}
-use Rattle.station.specs.declared.travel.Travel.{Travel}
-use Rattle.station.proofs.Composition.{each_on, only_held, same_on, on_same, told_on, honest_back, weaken}
+use Rattle.station.specs.View.{View, Fixed, Told, Honest, EachHeld, NothingPending, Lawful}
+use Rattle.station.specs.Steps.{Steps, Says}
+use Rattle.station.proofs.Composition.{same_on, on_same, told_on, weaken}
 use Rattle.station.proofs.Sayings.{each_says, leaves_in, leaves_on}
 use Rattle.header_gate.specs.declared.layout.Layout.{Layout}
 use Rattle.header_gate.specs.declared.layout.TheConstants.{INDEXED}
-use Rattle.header_gate.specs.Header.{layout_in, number}
+use Rattle.header_gate.specs.Header.{layout_in}
 use Rattle.header_gate.proofs.NumberLaws.{number_same}
 use Rattle.header_gate.proofs.RecoveredPages.{page_before}
 use Rattle.map_model.specs.Regions.{IsSparePlace}
@@ -19,9 +18,9 @@ use Rattle.pma_store.specs.Batching.{IsBatchPlace}
 use Rattle.pma_store.specs.Items.{IsItemPlace}
 use Rattle.pma_store.specs.Touching.{IsUpdatePlace, Updates}
 use Rattle.recovery.specs.Restores.{LeavesFile}
-use Rattle.index_file.specs.Clean.{IsClean, IsCleanPlace, IsOpenIndex, IsShut, KeepsClean, version_of}
+use Rattle.index_file.specs.Clean.{IsClean, IsOpenIndex, IsShut, KeepsClean, version_of}
 use Rattle.index_file.proofs.CleanLaws.{clean_shut}
-use Rattle.index_file.proofs.Keeping.{keeps_on, shut_on, shut_stays}
+use Rattle.index_file.proofs.Keeping.{shut_on, shut_stays}
 use Rattle.pma_engine.specs.Carrying.{Looks}
 use Rattle.pma_engine.specs.Closing.{ClosesAtMost, IsButClosed, StaysShut, WritesGate, closing_cost, leaving_cost}
 

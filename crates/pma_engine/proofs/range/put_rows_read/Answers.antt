@@ -1,5 +1,4 @@
-use Rattle.std.proofs.Common.{◌≡◌, ◌<◌, ◌+◌, ◌++◌, [], List, ℕ, length, sym, ap, ◌∙◌, append_assoc, arith}
-use Rattle.key_slot.specs.Record.{Record}
+use Rattle.std.proofs.Common.{◌++◌, [], List, ℕ, sym, ap, ◌∙◌, append_assoc, arith}
 use Rattle.pma_engine.specs.Ranging.{TakesAlong, row_text}
 use Rattle.pma_engine.proofs.Pieces.{row_text-append}
 use Rattle.pma_engine.proofs.Ranging.{along_takes, along_turns, along_on}
