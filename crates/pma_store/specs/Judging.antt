@@ -4,13 +4,13 @@ use Rattle.std.specs.FinMap.{contains_key}
 use Rattle.station.specs.Bytes.{Same}
 use Rattle.station.specs.View.{View, Told, Rose}
 use Rattle.station.specs.Steps.{Steps}
-use Rattle.map_model.specs.ArrayUpdates.{key_of}
 use Rattle.map_model.specs.Image.{map_of}
 use Rattle.map_model.specs.Items.{ItemCounts, no_items, count_items, first_full}
-use Rattle.map_model.specs.Store.{Map, Update, bind, unbind}
+use Rattle.map_model.specs.Store.{Map, Update, bind, unbind, key_of}
 use Rattle.segment.specs.declared.fault.StoreFault.{StoreFault}
 use Rattle.segment.specs.declared.fault.StoreFault.TheVariants.{Failed}
 use Rattle.pma_store.specs.declared.judging.Judged.{Judged}
+use Rattle.pma_store.specs.BatchCalls.{LooksOnce}
 use Rattle.pma_store.specs.Damaging.{IsMetLooking}
 use Rattle.pma_store.specs.Looking.{TellsOther}
 use Rattle.pma_store.specs.Store.{StoreView, limit_of}
@@ -78,6 +78,7 @@ pub record JudgesItems (items : List Update) (result : Result (Option Judged) St
   pub store : t ≡ s
   pub steps : Steps Same a b
   pub unwritten : b.travel.written ≡ a.travel.written
+  pub looks : LooksOnce items s.tally.height a b
   pub met : IfErr result (λ fault. IsMetLooking s.place s.tally fault b)
   pub damaged : IfErr result (λ fault. Told a → fault ≡ Failed)
   pub counted : IfErr result (TellsOther (2 ^ limit_of s))
