@@ -56,16 +56,33 @@ awk '{ print "put name/" $2, $1 }' "$folder/numbers" | all_said stored
 edges put <"$folder/edges" | all_said stored
 
 # Edges come and go: each fifth is removed, and every end of a chain of two becomes an edge of its own, up to 300 of them.
-awk 'NR % 5 == 0' "$folder/edges" >"$folder/gone"
-edges remove <"$folder/gone" | all_said removed
+awk 'NR % 5 == 0' "$folder/edges" | sort -k2,2 >"$folder/gone"
 awk 'NR % 5' "$folder/edges" >"$folder/stayed"
 awk '{ print $2, $1 }' "$folder/stayed" | sort >"$folder/by_end"
 sort "$folder/stayed" | join -o 1.2,2.2 "$folder/by_end" - | awk '
     NR == FNR { is[$1, $2] = 1; next }
     $1 != $2 && !is[$1, $2]++ && ++n <= 300 { print $1, $2, "through" }
 ' "$folder/stayed" - >"$folder/new"
-edges put <"$folder/new" | all_said stored
 cat "$folder/stayed" "$folder/new" >"$folder/now"
+
+# A cursor walks over all edges meanwhile: a step behind each change, and then to the end, since there are at most 3300.
+{
+    echo 'open walk out/ out0'
+    { edges remove <"$folder/gone"; edges put <"$folder/new"; } | awk '{ print; print "next walk" }'
+    awk 'BEGIN { for (n = 0; n <= 3300; n++) print "next walk" }'
+} | "$program" run "$store" >"$folder/replies"
+awk '$1 != "record"' "$folder/replies" | sort -u >"$folder/others"
+printf '%s\n' end 'no cursor' opened removed stored >"$folder/expected"
+differ "$folder/others" "$folder/expected" 'the replies to changes and steps'
+
+# It gives each edge that stayed once, in order, and else none but those that came or went.
+awk '$1 == "record" { split($2, key, "/"); print key[2], key[3], $3 }' "$folder/replies" >"$folder/walked"
+sort -u "$folder/walked" >"$folder/expected"
+differ "$folder/walked" "$folder/expected" 'the order of a walk'
+cat "$folder/gone" "$folder/new" |
+    awk 'NR == FNR { other[$0] = 1; next } !other[$0]' - "$folder/walked" >"$folder/kept"
+sort "$folder/stayed" >"$folder/expected"
+differ "$folder/kept" "$folder/expected" 'the edges that stayed, in a walk'
 
 # Neighbours of a package both ways: of the one with the most edges. `0` is the byte behind `/`.
 most=$(awk '{ n[$1]++; n[$2]++ } END { for (p in n) print n[p], p }' "$folder/now" |
@@ -96,4 +113,4 @@ echo 'range * *' | "$program" run "$store" | awk '$1 == "record" { print $2, $3 
 { edges put <"$folder/now" | awk '{ print $2, $3 }'; awk '{ print "name/" $2, $1 }' "$folder/numbers"; } |
     sort >"$folder/expected"
 differ "$folder/all" "$folder/expected" 'the store'
-for file in now neighbours reached; do awk -v what="$file" 'END { print "graph: " NR " " what }' "$folder/$file"; done
+for file in now walked neighbours reached; do awk -v what="$file" 'END { print "graph: " NR " " what }' "$folder/$file"; done

@@ -18,6 +18,7 @@ tried() {
 }
 
 tried table "$examples/table.sh" "$program"
+tried index "$examples/index.sh" "$program"
 tried graph "$examples/graph.sh" "$program"
 
 "$program" create "$folder/client.pma" 4

@@ -1,6 +1,7 @@
 #!/bin/sh
-# Changes one record of each example's store behind its back, just before it looks: the first record of the first range of its
-# nth look, or of the store where that is empty, gets another value or is removed. Ends with 1 where an example doesn't end with 1 then.
+# Changes one record of each example's store behind its back, just before it looks: the first record of the first range, or of the
+# cursor, of its nth look, or of the store where that is empty, gets another value or is removed. Ends with 1 where an example doesn't
+# end with 1 then.
 # Usage: tools/behind.sh [PROGRAM]
 set -u
 tools=$(dirname "$(realpath "$0")")
@@ -13,8 +14,12 @@ cat >"$BEHIND_FOLDER/pma" <<'END'
 #!/bin/sh
 [ "$1" = run ] || exec "$BEHIND_PROGRAM" "$@"
 cat >"$BEHIND_FOLDER/script"
-read -r word low high limit <"$BEHIND_FOLDER/script"
-if [ "$word" = range ]; then
+read -r word low high more <"$BEHIND_FOLDER/script"
+if [ "$word" = open ]; then
+    low=$high
+    high=$more
+fi
+if [ "$word" = range ] || [ "$word" = open ]; then
     echo >>"$BEHIND_FOLDER/ranges"
     if [ "$(wc -l <"$BEHIND_FOLDER/ranges")" -eq "$BEHIND_TURN" ]; then
         key=$(printf 'range %s %s 1\nrange * * 1\n' "$low" "$high" | "$BEHIND_PROGRAM" run "$2" |
@@ -40,7 +45,7 @@ tried() {
 }
 
 failed=0
-for example in "$tools"/../examples/table.sh "$tools"/../examples/graph.sh; do
+for example in "$tools"/../examples/table.sh "$tools"/../examples/index.sh "$tools"/../examples/graph.sh; do
     for BEHIND_WAY in changed removed; do
         BEHIND_TURN=1
         while tried "$example"; do

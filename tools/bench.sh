@@ -1,6 +1,7 @@
 #!/usr/bin/env bash
 # Processor time of get, absent get, put of a present and of an absent key, beside a loop of the same system calls; that of a
-# scan of a million records beside `cat` of the file; and the instructions of the first where `valgrind` is installed.
+# scan of a million records beside `cat` of the file; and, where `valgrind` and `strace` are installed, instructions and system
+# calls, which are the same on every machine, beside those of the program before it had records of 40 and 80 bytes.
 # Usage: tools/bench.sh [PROGRAM [COMMANDS]], outside the gate.
 set -eu
 tools=$(dirname "$(realpath "$0")")
@@ -32,22 +33,63 @@ echo
 printf '%-30s %9s %12s\n' "$records records" 'to a file' 'to /dev/null'
 printf '%-30s %7s s %10s s\n' 'range * *' "$(least "$folder/scan" scan)" "$(least /dev/null scan)"
 printf '%-30s %7s s %10s s\n' 'cat of the file' "$(least "$folder/scan" cat "$folder/many.pma")" "$(least /dev/null cat "$folder/many.pma")"
-rm -f "$folder/many.pma" "$folder/scan"
+rm -f "$folder/scan"
 
-command -v valgrind >/dev/null || exit 0
+store=$folder/store.pma many=$folder/many.pma script=$folder/script
 
-# The instructions that the program executes on a script of so many lines.
+# The instructions that the program executes on a store and the script.
 instructions() {
-    valgrind --tool=callgrind --callgrind-out-file=/dev/null "$program" run "$folder/store.pma" <"$folder/script" 2>&1 >/dev/null |
+    valgrind --tool=callgrind --callgrind-out-file=/dev/null "$program" run "$1" <"$script" 2>&1 >/dev/null |
         sed -n 's/.*Collected : \([0-9]*\).*/\1/p'
 }
 
-echo
-printf '%-30s %12s\n' command instructions
-: >"$folder/script"
-empty=$(instructions)
-count=1000
-for line in 'get key-07' 'get kez-07' 'put key-07 value-of-some-bytes'; do
-    yes "$line" | head -n $count >"$folder/script"
-    printf '%-30s %12s\n' "$line" $((($(instructions) - empty) / count))
-done
+# The system calls of these names that it makes.
+calls() {
+    strace -f -qq -e trace="$2" -e signal=none -o "$folder/calls" "$program" run "$1" <"$script" >/dev/null
+    wc -l <"$folder/calls"
+}
+
+# What a way of counting finds for the lines of a file, each of them, without what it finds where there is none.
+each() {
+    local lines=$1 with
+    shift
+    cp "$lines" "$script"
+    with=$("$@")
+    : >"$script"
+    echo $(((with - $("$@") + $(wc -l <"$lines") / 2) / $(wc -l <"$lines")))
+}
+
+# A file with a line so many times.
+many_of() {
+    yes "$1" | head -n 1000 >"$folder/lines"
+    echo "$folder/lines"
+}
+
+count() {
+    printf '%-50s %10s %10s\n' "$@"
+}
+
+echo 'range * *' >"$folder/all"
+seq -f 'range key-%07.0f * 100' 1 997 $((records - 100)) >"$folder/hundreds"
+if command -v valgrind >/dev/null; then
+    echo
+    count 'instructions' now before
+    count 'get of a present key' "$(each "$(many_of 'get key-07')" instructions "$store")" 13295
+    count 'get of an absent key' "$(each "$(many_of 'get kez-07')" instructions "$store")" 13084
+    count 'put of a present key' "$(each "$(many_of 'put key-07 value-of-some-bytes')" instructions "$store")" 15246
+    count 'range of 10' "$(each "$(many_of 'range key-07 * 10')" instructions "$store")" -
+    count "a record of a scan of $records, no opening" "$(($(each "$folder/all" instructions "$many") / records))" 489
+    : >"$script"
+    count "opening a store of $records" "$(instructions "$many")" -
+fi
+if command -v strace >/dev/null; then
+    echo
+    count 'system calls' now before
+    count 'get of a present key' "$(each "$(many_of 'get key-07')" calls "$store" all)" 2
+    count 'put of a present key' "$(each "$(many_of 'put key-07 value-of-some-bytes')" calls "$store" all)" 11
+    count 'range of 100, 30 records a segment' "$(each "$folder/hundreds" calls "$many" all)" 10
+    count "reads of a scan of $records" "$(each "$folder/all" calls "$many" pread64)" 32768
+    count 'its writes' "$(each "$folder/all" calls "$many" write)" 32768
+    : >"$script"
+    count "reads of opening a store of $records" "$(calls "$many" pread64)" 32768
+fi

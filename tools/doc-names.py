@@ -4,7 +4,8 @@
 Usage: tools/doc-names.py. Ends with 1 where a name is gone. What stands between backticks is taken for
   a path, where it has a `/` or ends as a file does: such a file or folder is there, or its end is that of one that is, a part in
     capitals and a `*` standing for any;
-  a name, where words are joined by `.` or `::`, as `Ran.left`: all of them stand in one file, a crate's name counting for its files;
+  a name, where words are joined by `.` or `::`, as `Ran.left`: all of them stand in one file, a crate's name counting for its files,
+    and what follows a record, a struct or a function behind a `.` is a field or a clause of one with this name;
   a formula, where it has digits, operators and single letters or words in capitals: its other words alone are looked for;
   a line, as `refused line N`: each word is looked for, but one in capitals, which stands for any.
 Blocks of lines between ``` are passed over. Comments of the source don't count.
@@ -20,6 +21,8 @@ PATH = re.compile(r"[\w.*-]+(?:/[\w.*-]*)+|[\w-]+\.(?:rt|antt|md|sh|py|edit|txt|
 NAME = re.compile(r"\.?[^\W\d][\w'-]*(?:(?:\.|::)[^\W\d][\w'-]*)*")
 FREE = re.compile(r"[A-Z]+|\w")  # stands for any word, or for a number
 MADE = "./pma", "out/"  # by `make`
+HOLDER = re.compile(r"(?m)^ *(?:pub(?:\(crate\))? )?(?:record|struct|fn) ([\w'-]+)")  # what has fields or clauses
+MEMBER = re.compile(r"(?m)^ +(?:pub(?:\(crate\))? )?(?:(?:ensures|requires) ([\w'-]+) \{|([\w'-]+) ?: )")
 GIVEN = {"rt", "std", "strace", "libc"}  # the toolchain's, and the system's
 
 top = pathlib.Path(__file__).resolve().parent.parent
@@ -39,10 +42,18 @@ class Sources:
         files = [f for s in ("*/src/**/*.rt", "*/specs/**/*.antt", "*/must-fail/*.edit", "*/args") for f in sorted(crates.glob(s))]
         files += [top / "Makefile", top / "crates.txt"]
         self.words = {f: set(f.relative_to(top).with_suffix("").parts) for f in files}
+        self.members: dict[str, set[str]] = {}
         for f, words in self.words.items():
             words.update(WORD.findall(code_of(f)), re.findall(r"\w+", code_of(f)))
+            if f.suffix in (".rt", ".antt"):
+                self.add_members(HOLDER.split(code_of(f)))
         self.words[top] = {f.name for f in top.iterdir()}
         self.paths = [str(f.relative_to(top)) for f in top.rglob("*") if not {".git", "out"} & set(f.relative_to(top).parts)]
+
+    def add_members(self, pieces: list[str]):
+        """From the text of a file, cut at the names of what has fields or clauses."""
+        for holder, text in zip(pieces[1::2], pieces[2::2]):
+            self.members.setdefault(holder, set()).update(a or b for a, b in MEMBER.findall(text))
 
     def has_path(self, path: str) -> bool:
         ending = re.sub(r"\\\*|\b[A-Z]+\b(?!\\\.md)", "[^/]+", re.escape(path.removeprefix("./").strip("/")))
@@ -51,6 +62,9 @@ class Sources:
     @functools.cache
     def has_name(self, name: str) -> bool:
         parts = [p for p in re.split(r"\.|::", name) if p]
+        pairs = re.findall(r"([\w'-]+)\.(?=([\w'-]+))", name)
+        if any(holder in self.members and member not in self.members[holder] for holder, member in pairs):
+            return False
         return any(set(parts) <= words for words in self.words.values())
 
     @functools.cache

@@ -11,8 +11,7 @@ use Rattle.station.specs.Bytes.{byte, InRange, SameBut}
 use Rattle.key_slot.specs.Padded.{padded}
 use Rattle.key_slot.specs.declared.sizes.TheConstants.{MAX_KEY_LEN, MAX_VALUE_LEN}
 use Rattle.batch_intent.specs.declared.places.TheConstants.{INTENT_SIZE}
-use Rattle.map_model.specs.Store.{Update, unbind}
-use Rattle.map_model.specs.ArrayUpdates.{key_of}
+use Rattle.map_model.specs.Store.{Update, unbind, key_of}
 use Rattle.map_model.specs.Items.{has_item, are_distinct}
 use Rattle.batch_intent.specs.declared.intent.IntentFault.TheVariants.{TooMany, Repeated, TooLong}
 use Rattle.batch_intent.specs.declared.intent.TheConstants.{MOST_ITEMS}

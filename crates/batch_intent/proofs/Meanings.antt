@@ -16,7 +16,7 @@ use Rattle.map_model.specs.Image.{Represents, RepresentsMap, height_of, slot_for
 use Rattle.map_model.specs.Batches.{IsUnnamed}
 use Rattle.map_model.proofs.Unnamed.{unnamed_represents, layout_same, format_same}
 use Rattle.map_model.proofs.Recovering.{determined}
-use Rattle.map_model.proofs.Resuming.{resumed_same, resumed_admitted}
+use Rattle.map_model.proofs.Resuming.{resumed_same, resumed_admitted, map_of_items}
 use Rattle.batch_intent.specs.Spelling.{IsIntent, Spells, items_in, fits_item}
 use Rattle.batch_intent.specs.Gate.{IsIntentPlace, IsIntentGatePlace, intent_area, Intends}
 use Rattle.batch_intent.specs.Means.{has_pending, pending, Means, MeansMap, meant_map, KeepsIntent, IsApart, InBatch, map_after_all}
@@ -96,7 +96,7 @@ means_pending image base height items is some spells admitted =
       idle = λ none. absurd (cc);
       form = λ _. spells;
       admitted = admitted;
-      map_is = refl;
+      map_is = map_of_items (height_limit (layout_in image)) (record { map = base; height = height }) items;
     }
 
 -- the items of the intent are those that are read from it
@@ -107,11 +107,15 @@ items_are image m height means = by_gate (has_pending image) refl
     by_gate true some = sym (some_pending image some ∙ spelled_items (slot_format image) means.items (intent_area image) (length-intent_area image) (means.form some))
     by_gate false none = means.idle none ∙ sym (none_pending image none)
 
+-- the map is the one after the items
+pub map_made : (image : List ℕ) (m : Map) (height : ℕ) (means : Means image m height) → map_after_items (height_limit (layout_in image)) means.base means.items ≡ m
+map_made image m height means = sym (map_of_items (height_limit (layout_in image)) (record { map = means.base; height = height }) means.items) ∙ means.map_is
+
 -- a file means one map
 pub meant_one : (image : List ℕ) (m : Map) (height : ℕ) → Means image m height → (m ≡ meant_map image) × (height ≡ height_of image)
 meant_one image m height means =
     let own = determined image means.base height means.represents in
-    (sym means.map_is ∙ (λ t. map_after_items (height_limit (layout_in image)) (own.0 t) (items_are image m height means t)), own.1)
+    (sym (map_made image m height means) ∙ (λ t. map_after_items (height_limit (layout_in image)) (own.0 t) (items_are image m height means t)), own.1)
 
 -- The same intent.
 

@@ -34,7 +34,7 @@ pub record Means (image : List ℕ) (m : Map) (height : ℕ) : Type 0 where
   pub idle : has_intent (layout_in image) image ≡ false → items ≡ []
   pub form : has_intent (layout_in image) image ≡ true → Spells (slot_format image) items (intent_area image)
   pub admitted : first_full (height_limit (layout_in image)) base items ≡ None
-  pub map_is : map_after_items (height_limit (layout_in image)) base items ≡ m
+  pub map_is : (state_after_items (height_limit (layout_in image)) (record { map = base; height = height }) items).map ≡ m
 
 -- this map, and the height to which the items lead: what a session on the image begins with
 abbrev pub meant_state : {image : List ℕ} {m : Map} {height : ℕ} → Means image m height → State

@@ -1,8 +1,7 @@
 -- When an intent takes no further item.
 use Rattle.std.specs.Prelude.{nat_le, nat_lt, if◌then◌else◌, List, [], ◌∷◌, ◌++◌, length, Option, Some, None}
 use Rattle.batch_intent.specs.declared.places.TheConstants.{INTENT_SIZE}
-use Rattle.map_model.specs.Store.{Update}
-use Rattle.map_model.specs.ArrayUpdates.{key_of}
+use Rattle.map_model.specs.Store.{Update, key_of}
 use Rattle.map_model.specs.Items.{has_item}
 use Rattle.batch_intent.specs.declared.intent.IntentFault.{IntentFault}
 use Rattle.batch_intent.specs.declared.intent.IntentFault.TheVariants.{TooMany, Repeated, TooLong}

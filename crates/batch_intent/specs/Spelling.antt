@@ -5,8 +5,7 @@ use Rattle.std.specs.List.{flat_map, list_all}
 use Rattle.station.specs.Bytes.{byte}
 use Rattle.batch_intent.specs.declared.places.TheConstants.{INTENT_SIZE}
 use Rattle.key_slot.specs.Record.{is_record}
-use Rattle.map_model.specs.Store.{Update, bind, unbind}
-use Rattle.map_model.specs.ArrayUpdates.{key_of}
+use Rattle.map_model.specs.Store.{Update, bind, unbind, key_of}
 use Rattle.map_model.specs.Items.{are_distinct}
 use Rattle.batch_intent.specs.declared.intent.TheConstants.{MOST_ITEMS}
 

@@ -5,7 +5,7 @@ ghost use Rattle.std.specs.Str.{bytes_eq};
 ghost use Rattle.station.specs.Bytes.{byte, InRange, SameBut};
 ghost use Rattle.batch_intent.specs.declared.places.TheConstants.{INTENT_SIZE};
 ghost use Rattle.key_slot.specs.declared.sizes.TheConstants.{MAX_KEY_LEN, MAX_VALUE_LEN};
-ghost use Rattle.map_model.specs.ArrayUpdates.{key_of};
+ghost use Rattle.map_model.specs.Store.{key_of};
 ghost use Rattle.map_model.specs.Items.{has_item};
 ghost use Rattle.batch_intent.specs.Items.{update_of};
 ghost use Rattle.batch_intent.specs.Spelling as spelling;

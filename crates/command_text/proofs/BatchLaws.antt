@@ -9,8 +9,7 @@ use Rattle.std.proofs.lemmas.List.Splits.{length-slice_split}
 use Rattle.percent_encoding.specs.Percent.{percent_decode}
 use Rattle.percent_encoding.proofs.PercentLemmas.{length-percent_decode}
 use Rattle.key_slot.specs.Format.{key_room, value_room}
-use Rattle.map_model.specs.Store.{Update, bind, unbind}
-use Rattle.map_model.specs.ArrayUpdates.{key_of}
+use Rattle.map_model.specs.Store.{Update, bind, unbind, key_of}
 use Rattle.batch_intent.specs.declared.intent.TheConstants.{MOST_ITEMS}
 use Rattle.batch_intent.specs.declared.places.TheConstants.{INTENT_SIZE}
 use Rattle.batch_intent.specs.Spelling.{intent_bytes, bound_value, fits_item}

@@ -6,8 +6,7 @@ use Rattle.std.proofs.lemmas.List.{length-map}
 use Rattle.std.proofs.lemmas.List.Concat.{flat_map-append}
 use Rattle.std.proofs.lemmas.List.Splits.{length-slice_split}
 use Rattle.std.proofs.Math.Seq.{take-append_seam, get_or-append_seam}
-use Rattle.map_model.specs.Store.{Update}
-use Rattle.map_model.specs.ArrayUpdates.{key_of}
+use Rattle.map_model.specs.Store.{Update, key_of}
 use Rattle.map_model.specs.Items.{has_item, are_distinct}
 use Rattle.map_model.proofs.Resuming.{none_before}
 use Rattle.batch_intent.specs.declared.intent.IntentFault.{IntentFault}

@@ -1,6 +1,6 @@
 -- What whole batches are answered, and what a session is charged for one, as they are known from outside.
-use Rattle.std.proofs.Common.{◌≡◌, ℕ, ◌+◌, false, cond, not, ◌||◌, nat_lt, List, [], ◌∷◌, Some, None, Option, is_none, is_some, map, length, refl, ap, ◌∙◌}
-use Rattle.std.specs.Prelude.{codes, ◌&&◌}
+use Rattle.std.proofs.Common.{◌≡◌, ℕ, ◌+◌, false, cond, nat_lt, List, [], ◌∷◌, Some, None, Option, is_none, is_some, map, length, refl, ap, ◌∙◌}
+use Rattle.std.specs.Prelude.{codes}
 use Rattle.std.specs.FinMap.{empty, contains_key, insert, len, get-empty, get-insert, len-empty, len-insert}
 use Rattle.std.specs.Cmp.Lexicographic.{nat_list_cmp_total}
 use Rattle.percent_encoding.specs.Percent.{percent_decode}
@@ -13,8 +13,9 @@ use Rattle.map_model.specs.Array.{Array, spread, spread_over, segment_for}
 use Rattle.map_model.specs.ArrayState.{ArrayState}
 use Rattle.map_model.specs.ArrayUpdates.{broken_for, ready_for, array_after}
 use Rattle.map_model.specs.Charges.{charge_after}
-use Rattle.map_model.specs.Items.{no_items, count_items, charge_after_items, first_full, first_full_from, meets_full}
-use Rattle.map_model.specs.Store.{Map, State, Update, bind, unbind, map_after, height_after}
+use Rattle.map_model.specs.Items.{no_items, count_items, charge_after_items, first_full, first_full_from, meets_full, is_full}
+use Rattle.map_model.specs.Store.{Map, State, Update, bind, unbind, map_after, height_after, effect_by, effect_map, effect_height}
+use Rattle.map_model.proofs.Resuming.{removal_fits}
 use Rattle.cost_ledger.specs.Ledger.{LedgerView, empty_ledger, noted, cost_of}
 use Rattle.command_text.specs.Answers.{map_answers, batch_or_full}
 use Rattle.command_text.specs.Script.{commands_of}
@@ -45,10 +46,10 @@ put_y = bind (codes "y") []
 -- with 63 records there is room for one of two new keys
 module _ (m : Map) (no_x : contains_key m (codes "x") ≡ false) (no_y : contains_key m (codes "y") ≡ false) (count : len m ≡ 63) where
   with_x : map_after 0 m put_x ≡ insert m (codes "x") []
-  with_x = (λ t. cond (no_x t || nat_lt (count t) (upper_of 0)) (insert m (codes "x") []) m)
+  with_x = (λ t. effect_map (effect_by (no_x t) (nat_lt (count t) (upper_of 0)) put_x) m put_x)
 
   room_for_x : meets_full 0 m put_x ≡ false
-  room_for_x = (λ t. not (no_x t || nat_lt (count t) (upper_of 0)))
+  room_for_x = (λ t. is_full (effect_by (no_x t) (nat_lt (count t) (upper_of 0)) put_x))
 
   still_no_y : contains_key (map_after 0 m put_x) (codes "y") ≡ false
   still_no_y = ap (λ (n : Map). contains_key n (codes "y")) with_x ∙ ap is_some (get-insert nat_list_cmp_total m (codes "x") [] (codes "y")) ∙ no_y
@@ -57,7 +58,7 @@ module _ (m : Map) (no_x : contains_key m (codes "x") ≡ false) (no_y : contain
   then_64 = ap len with_x ∙ len-insert nat_list_cmp_total m (codes "x") [] ∙ (λ t. cond (no_x t) (count t) (count t + 1))
 
   second_is_full : first_full 0 m (put_x ∷ put_y ∷ []) ≡ Some 1
-  second_is_full = (λ t. cond (room_for_x t) (Some 0) (cond (not (still_no_y t || nat_lt (then_64 t) (upper_of 0))) (Some 1) (first_full_from 0 (map_after 0 (map_after 0 m put_x) put_y) 2 [])))
+  second_is_full = (λ t. cond (room_for_x t) (Some 0) (cond (is_full (effect_by (still_no_y t) (nat_lt (then_64 t) (upper_of 0)) put_y)) (Some 1) (first_full_from 0 (map_after 0 (map_after 0 m put_x) put_y) 2 [])))
 
   full_batch : map_answers (of_version 2) (record { map = m; height = 0 }) (Batch (put_x ∷ put_y ∷ [])) ≡ reply.Full 64 ∷ []
   full_batch = ap (λ (i : Option ℕ). batch_or_full 64 (count_items 0 m (put_x ∷ put_y ∷ []) no_items) i ∷ []) second_is_full
@@ -94,7 +95,7 @@ no_key : (key : Bytes) → contains_key nothing key ≡ false
 no_key key = ap is_some (get-empty key_cmp key)
 
 with_a : map_after 0 nothing put_a ≡ insert nothing (codes "a") (codes "1")
-with_a = (λ t. cond (no_key (codes "a") t || nat_lt (none t) (upper_of 0)) (insert nothing (codes "a") (codes "1")) nothing)
+with_a = (λ t. effect_map (effect_by (no_key (codes "a") t) (nat_lt (none t) (upper_of 0)) put_a) nothing put_a)
 
 one : len (map_after 0 nothing put_a) ≡ 1
 one = ap len with_a ∙ len-insert nat_list_cmp_total nothing (codes "a") (codes "1") ∙ (λ t. cond (no_key (codes "a") t) (none t) (none t + 1))
@@ -104,14 +105,16 @@ still_no_b = ap (λ (m : Map). contains_key m (codes "b")) with_a ∙ ap is_some
 
 admitted : first_full 0 nothing items ≡ None
 admitted =
-    (λ t. cond (not (no_key (codes "a") t || nat_lt (none t) (upper_of 0))) (Some 0)
-    (cond (not (still_no_b t || nat_lt (one t) (upper_of 0))) (Some 1) (first_full_from 0 (map_after 0 (map_after 0 nothing put_a) put_b) 2 (remove_c ∷ []))))
+    let third = map_after 0 (map_after 0 nothing put_a) put_b in
+    (λ t. cond (is_full (effect_by (no_key (codes "a") t) (nat_lt (none t) (upper_of 0)) put_a)) (Some 0)
+    (cond (is_full (effect_by (still_no_b t) (nat_lt (one t) (upper_of 0)) put_b)) (Some 1)
+    (cond (removal_fits (codes "c") (contains_key third (codes "c")) (nat_lt (len third) (upper_of 0)) t) (Some 2) None)))
 
 low : height_after 0 0 nothing put_a ≡ 0
-low = (λ t. cond (not (no_key (codes "a") t) && (nat_lt (none t) (upper_of 0) && nat_lt (upper_of 0) (none t + 1))) 1 0)
+low = (λ t. effect_height (effect_by (no_key (codes "a") t) (nat_lt (none t) (upper_of 0)) put_a) 0 (none t))
 
 still_low : height_after 0 (height_after 0 0 nothing put_a) (map_after 0 nothing put_a) put_b ≡ 0
-still_low = (λ t. cond (not (still_no_b t) && (nat_lt (one t) (upper_of 0) && nat_lt (upper_of (low t)) (one t + 1))) (low t + 1) (low t))
+still_low = (λ t. effect_height (effect_by (still_no_b t) (nat_lt (one t) (upper_of 0)) put_b) (low t) (one t))
 
 charges : charge_after_items 0 fresh items ≡ 4
 unfolding charge_after array_after ready_for broken_for spread spread_over segment_for

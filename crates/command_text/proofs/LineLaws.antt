@@ -10,8 +10,7 @@ use Rattle.percent_encoding.proofs.PercentLemmas.{length-percent_decode}
 use Rattle.key_slot.specs.Format.{key_room, value_room}
 use Rattle.key_slot.specs.Record.{is_record}
 use Rattle.key_slot.proofs.SlotLaws.{is_record_by_sizes}
-use Rattle.map_model.specs.Store.{Map, Update}
-use Rattle.map_model.specs.ArrayUpdates.{key_of}
+use Rattle.map_model.specs.Store.{Map, Update, key_of}
 use Rattle.header_gate.specs.declared.layout.Layout.{Layout}
 use Rattle.header_gate.specs.Places.{height_limit}
 use Rattle.map_model.specs.Items.{are_distinct, accepts}

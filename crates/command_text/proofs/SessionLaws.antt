@@ -1,20 +1,19 @@
 -- Each update of a session is paid for.
-use Rattle.std.proofs.Common.{◌≡◌, ℕ, ◌+◌, ◌*◌, ◌^◌, ◌<◌, ◌≤◌, Bool, true, false, cond, not, ◌||◌, nat_lt, List, [], ◌∷◌, length, get_or, sum, Option, Some, None, inl, inr, refl, sym, ◌∙◌, ap, subst, arith}
+use Rattle.std.proofs.Common.{◌≡◌, ℕ, ◌+◌, ◌*◌, ◌^◌, ◌<◌, ◌≤◌, Bool, true, false, nat_lt, List, [], ◌∷◌, length, get_or, sum, Option, Some, None, inl, inr, refl, sym, ◌∙◌, ap, subst, arith}
 use Rattle.std.proofs.lemmas.Bool.{cases_lt, ltb-true}
 use Rattle.std.proofs.lemmas.List.{length-map}
 use Rattle.std.proofs.lemmas.Nat.{pow_pos}
-use Rattle.key_slot.specs.Record.{Bytes}
 use Rattle.density_rule.specs.Bounds.{upper_of}
 use Rattle.density_rule.specs.Marks.{marks_step}
 use Rattle.density_rule.specs.Ready.{ready_counts}
 use Rattle.density_rule.specs.Updates.{counts_after, charge_of}
 use Rattle.header_gate.specs.declared.layout.Layout.{Layout}
 use Rattle.header_gate.specs.Places.{height_limit}
-use Rattle.map_model.specs.Store.{Update, bind, unbind, height_after}
+use Rattle.map_model.specs.Store.{Update, bind, unbind, height_after, key_of, effect_by}
 use Rattle.map_model.specs.Array.{Array, rows, counts_of, segment_for}
 use Rattle.map_model.specs.ArrayState.{ArrayState, IsSoundState, next_state, next_states}
-use Rattle.map_model.specs.ArrayUpdates.{has_key, change_of, key_of, broken_for, place_for, array_after, marks_by_change, marks_after}
-use Rattle.map_model.specs.Charges.{charge_after}
+use Rattle.map_model.specs.ArrayUpdates.{has_key, change_of, broken_for, place_for, array_after, marks_by_change, marks_after, effect_in, effect_change}
+use Rattle.map_model.specs.Charges.{charge_after, effect_charge}
 use Rattle.map_model.specs.Holding.{IsNext}
 use Rattle.map_model.specs.Items.{charge_after_items}
 use Rattle.map_model.proofs.Changing.{some_there}
@@ -29,13 +28,9 @@ use Rattle.command_text.specs.Session.{Session, session_from, session_step, pote
 use Rattle.command_text.specs.Updates.{updates_made}
 use Rattle.command_text.specs.declared.command.Command.{Command}
 
-charge_bind : (hmax height : ℕ) (segments : Array) (key value : Bytes) → charge_after hmax height segments (bind key value) ≡ cond (has_key segments key) 2 (cond (nat_lt (length (rows segments)) (upper_of hmax)) (charge_of true height (broken_for true height segments key)) 0)
+charge_is : (hmax height : ℕ) (segments : Array) (u : Update) → charge_after hmax height segments u ≡ effect_charge (effect_in hmax segments u) height segments (key_of u)
 unfolding charge_after
-charge_bind hmax height segments key value = refl
-
-charge_unbind : (hmax height : ℕ) (segments : Array) (key : Bytes) → charge_after hmax height segments (unbind key) ≡ cond (has_key segments key) (charge_of false height (broken_for false height segments key)) 0
-unfolding charge_after
-charge_unbind hmax height segments key = refl
+charge_is hmax height segments u = refl
 
 module _ (hmax : ℕ) (s : ArrayState) (sound : IsSoundState hmax s) where
   low : s.height ≤ 16
@@ -78,17 +73,17 @@ module _ (hmax : ℕ) (s : ArrayState) (sound : IsSoundState hmax s) where
       ]
 
   pub paid_state : (u : Update) → charge_after hmax s.height s.array u + potential_in (next_state hmax s u) ≤ potential_in s + 514
-  paid_state (bind key value) = subst (λ (n : ℕ). n + potential_in (next_state hmax s (bind key value)) ≤ potential_in s + 514) (sym (charge_bind hmax s.height s.array key value)) (by_tests (has_key s.array key) (nat_lt (length (rows s.array)) (upper_of hmax)) refl refl)
+  paid_state (bind key value) = subst (λ (n : ℕ). n + potential_in (next_state hmax s (bind key value)) ≤ potential_in s + 514) (sym (charge_is hmax s.height s.array (bind key value))) (by_tests (has_key s.array key) (nat_lt (length (rows s.array)) (upper_of hmax)) refl refl)
     where
-      by_tests : (b c : Bool) → has_key s.array key ≡ b → nat_lt (length (rows s.array)) (upper_of hmax) ≡ c → cond b 2 (cond c (charge_of true s.height (broken_for true s.height s.array key)) 0) + potential_in (next_state hmax s (bind key value)) ≤ potential_in s + 514
-      by_tests true c p q = let same = quietly (bind key value) (λ t. cond (p t || not (nat_lt (length (rows s.array)) (upper_of hmax))) None (Some true)) in omega (arith, same)
-      by_tests false true p q = changing (bind key value) true (λ t. cond (p t || not (q t)) None (Some true)) (λ f. absurd cc) (λ _. ltb-true (length (rows s.array)) (upper_of hmax) q)
-      by_tests false false p q = let same = quietly (bind key value) (λ t. cond (p t || not (q t)) None (Some true)) in omega (arith, same)
-  paid_state (unbind key) = subst (λ (n : ℕ). n + potential_in (next_state hmax s (unbind key)) ≤ potential_in s + 514) (sym (charge_unbind hmax s.height s.array key)) (by_test (has_key s.array key) refl)
+      by_tests : (b c : Bool) → has_key s.array key ≡ b → nat_lt (length (rows s.array)) (upper_of hmax) ≡ c → effect_charge (effect_by b c (bind key value)) s.height s.array key + potential_in (next_state hmax s (bind key value)) ≤ potential_in s + 514
+      by_tests true c p q = let same = quietly (bind key value) (λ t. effect_change (effect_by (p t) (nat_lt (length (rows s.array)) (upper_of hmax)) (bind key value))) in omega (arith, same)
+      by_tests false true p q = changing (bind key value) true (λ t. effect_change (effect_by (p t) (q t) (bind key value))) (λ f. absurd cc) (λ _. ltb-true (length (rows s.array)) (upper_of hmax) q)
+      by_tests false false p q = let same = quietly (bind key value) (λ t. effect_change (effect_by (p t) (q t) (bind key value))) in omega (arith, same)
+  paid_state (unbind key) = subst (λ (n : ℕ). n + potential_in (next_state hmax s (unbind key)) ≤ potential_in s + 514) (sym (charge_is hmax s.height s.array (unbind key))) (by_test (has_key s.array key) refl)
     where
-      by_test : (b : Bool) → has_key s.array key ≡ b → cond b (charge_of false s.height (broken_for false s.height s.array key)) 0 + potential_in (next_state hmax s (unbind key)) ≤ potential_in s + 514
-      by_test true p = changing (unbind key) false (ap (λ b. cond b (Some false) None) p) (λ _. p) (λ f. absurd cc)
-      by_test false p = let same = quietly (unbind key) (ap (λ b. cond b (Some false) None) p) in omega (arith, same)
+      by_test : (b : Bool) → has_key s.array key ≡ b → effect_charge (effect_by b (nat_lt (length (rows s.array)) (upper_of hmax)) (unbind key)) s.height s.array key + potential_in (next_state hmax s (unbind key)) ≤ potential_in s + 514
+      by_test true p = changing (unbind key) false (ap (λ (b : Bool). effect_change (effect_by b (nat_lt (length (rows s.array)) (upper_of hmax)) (unbind key))) p) (λ _. p) (λ f. absurd cc)
+      by_test false p = let same = quietly (unbind key) (ap (λ (b : Bool). effect_change (effect_by b (nat_lt (length (rows s.array)) (upper_of hmax)) (unbind key))) p) in omega (arith, same)
 
 -- so are items
 paid_items : (hmax : ℕ) (s : ArrayState) → IsSoundState hmax s → (us : List Update) → charge_after_items hmax s us + potential_in (next_states hmax s us) ≤ potential_in s + 514 * length us

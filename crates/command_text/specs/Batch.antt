@@ -5,8 +5,7 @@ use Rattle.std.specs.List.{slice_split, list_all}
 use Rattle.std.specs.Str.{bytes_eq}
 use Rattle.percent_encoding.specs.Percent.{percent_decode}
 use Rattle.key_slot.specs.Format.{key_room, value_room}
-use Rattle.map_model.specs.Store.{Update, bind, unbind}
-use Rattle.map_model.specs.ArrayUpdates.{key_of}
+use Rattle.map_model.specs.Store.{Update, bind, unbind, key_of}
 use Rattle.map_model.specs.Items.{are_distinct}
 use Rattle.batch_intent.specs.declared.intent.TheConstants.{MOST_ITEMS}
 use Rattle.batch_intent.specs.declared.places.TheConstants.{INTENT_SIZE}

@@ -1,6 +1,6 @@
 -- The lines that answer commands, without their line feeds. An ordered map, its height and the open cursors determine all of
 -- them, in a file with a layout, but what a probe tells of the array, and `cost` of the session.
-use Rattle.std.specs.Prelude.{◌≡◌, ℕ, nat_le, nat_lt, ◌==◌, if◌then◌else◌, List, [], ◌∷◌, ◌++◌, map, length, Option, Some, None, codes, decimal}
+use Rattle.std.specs.Prelude.{◌≡◌, ℕ, nat_le, nat_lt, if◌then◌else◌, List, [], ◌∷◌, ◌++◌, map, length, Option, Some, None, codes, decimal}
 use Rattle.std.specs.FinMap.{contains_key, entries, get, len}
 use Rattle.key_slot.specs.Format.{key_room, value_room}
 use Rattle.key_slot.specs.Record.{Bytes, Record}
@@ -11,7 +11,7 @@ use Rattle.header_gate.specs.Places.{height_limit}
 use Rattle.map_model.specs.Cursors.{Cursors, most_cursors, next_in}
 use Rattle.map_model.specs.Items.{accepts, no_items, count_items}
 use Rattle.map_model.specs.Scan.{scanned}
-use Rattle.map_model.specs.Store.{State}
+use Rattle.map_model.specs.Store.{State, bind, unbind, Effect, Replaces, Adds, FindsFull, Takes, FindsNone, effect_of}
 use Rattle.command_text.specs.Printed.{printed, value_word}
 use Rattle.command_text.specs.declared.command.Command.{Command}
 use Rattle.command_text.specs.declared.command.Command.TheVariants as command
@@ -42,6 +42,14 @@ batch_body stored replaced removed absent =
 abbrev pub full_body : ℕ → List ℕ
 full_body most = codes "full " ++ decimal most
 
+-- what one update comes to, in a store that holds so many records at most
+abbrev pub effect_body : ℕ → Effect → List ℕ
+effect_body most Replaces = codes "replaced"
+effect_body most Adds = codes "stored"
+effect_body most FindsFull = full_body most
+effect_body most Takes = codes "removed"
+effect_body most FindsNone = codes "absent"
+
 -- a record
 abbrev pub row_body : Record → List ℕ
 row_body r = codes "record " ++ printed r.0 ++ value_word r.1
@@ -59,8 +67,8 @@ next_body (Some (Some r)) = row_body r
 
 -- the lines that answer a command: none for a probe and `cost`
 abbrev pub bodies : Layout → State → Cursors → Command → List (List ℕ)
-bodies l s k (command.Put key value) = (if contains_key s.map key then codes "replaced" else (if len s.map == upper_of (height_limit l) then full_body (upper_of (height_limit l)) else codes "stored")) ∷ []
-bodies l s k (command.Remove key) = (if contains_key s.map key then codes "removed" else codes "absent") ∷ []
+bodies l s k (command.Put key value) = effect_body (upper_of (height_limit l)) (effect_of (height_limit l) s.map (bind key value)) ∷ []
+bodies l s k (command.Remove key) = effect_body (upper_of (height_limit l)) (effect_of (height_limit l) s.map (unbind key)) ∷ []
 bodies l s k (command.Batch items) =
     let c = count_items (height_limit l) s.map items no_items in
     (if accepts l.version (height_limit l) s.map items then batch_body c.stored c.replaced c.removed c.absent else (if nat_le INTENT_VERSION l.version then full_body (upper_of (height_limit l)) else codes "no batch")) ∷ []

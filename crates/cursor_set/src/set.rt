@@ -121,6 +121,7 @@ impl CursorSet {
         ensures steps { Steps Same (S.view station.old) (S.view station.new) }
         ensures reads { (k : Cursor) → get self.old name.now ≡ Some k → ReadsNear (later k.low k.past) (R.kept store.old) result (S.view station.old) (S.view station.new) }
         ensures idle { get self.old name.now ≡ None → (S.view station.new).travel ≡ (S.view station.old).travel }
+        ensures uncalled { get self.old name.now ≡ None → (S.view station.new).calls ≡ (S.view station.old).calls }
     {
         let Some((place, entry)) = find_entry(&self.slots, name) else {
             return Ok(Step::NoCursor);

@@ -14,7 +14,7 @@ use Rattle.header_gate.proofs.RecoveredPages.{page_before}
 use Rattle.header_gate.proofs.PagedSegments.{segment_within, segment_before_area}
 use Rattle.header_gate.proofs.Soundness.{sound_same}
 use Rattle.map_model.specs.Store.{Map}
-use Rattle.map_model.specs.Array.{rows}
+use Rattle.map_model.specs.Array.{segment_at}
 use Rattle.map_model.specs.Image.{Represents, array_in, array_of, height_of, map_of, slot_format, live_segment}
 use Rattle.map_model.proofs.Headers.{even_segment}
 use Rattle.map_model.proofs.Reasonings.{length-array_in, segment_at-array_in}
@@ -89,9 +89,10 @@ module _ (l : Layout) (old new : List ℕ) (m : Map) (height : ℕ) (is : Repres
     header = sound;
     height_is = height_same ∙ is.height_is;
     journal = λ odd. absurd (omega (arith, odd, still_even));
-    segments = λ i lt. subst (λ (f : ℕ). IsSegment f (segment_of f (live_segment new i)) (live_segment new i)) (sym slots_same)
-        (subst (λ (b : List ℕ). IsSegment (slot_format old) (segment_of (slot_format old) b) b) (sym (segment_same i lt)) (is.segments i lt));
-    rows_are = ap rows array_same ∙ is.rows_are;
+    array = is.array;
+    size = is.size;
+    segments = λ i lt. subst (λ (f : ℕ). IsSegment f (segment_at is.array i) (live_segment new i)) (sym slots_same) (subst (IsSegment (slot_format old) (segment_at is.array i)) (sym (segment_same i lt)) (is.segments i lt));
+    rows_are = is.rows_are;
     least_is = is.least_is;
     most_is = is.most_is;
   }

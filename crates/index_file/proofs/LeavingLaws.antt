@@ -9,7 +9,7 @@ use Rattle.key_slot.specs.Format.{wide, key_room}
 use Rattle.key_slot.specs.Record.{Record, is_record}
 use Rattle.key_slot.specs.Segment.{segment_of}
 use Rattle.segment.specs.Rows.{key_at}
-use Rattle.map_model.proofs.Reasonings.{length-array_in, segment_at-array_in}
+use Rattle.map_model.proofs.Reasonings.{length-array_in, segment_at-array_in, own_segments}
 use Rattle.station.specs.Bytes.{Touched}
 use Rattle.header_gate.specs.declared.layout.Layout.{Layout}
 use Rattle.header_gate.specs.Places.{file_length}
@@ -36,7 +36,7 @@ first_room f (r ∷ rows) fits = grind (arith, nat_tests, fits)
 
 fence_room : (image : List ℕ) → Represents image (map_of image) (height_of image) → (i : ℕ) → length (fence_of_segment (array_of image) i) ≤ key_room (slot_format image)
 fence_room image is i = elim (cases_lt i (2 ^ height_of image)) [
-  | inl below ↦ subst (λ (s : List Record). length (unwrap_or (key_at s 0) []) ≤ key_room (slot_format image)) (sym (segment_at-array_in image (height_of image) i below)) (first_room (slot_format image) (segment_of (slot_format image) (live_segment image i)) (is.segments i below).fits.records)
+  | inl below ↦ subst (λ (s : List Record). length (unwrap_or (key_at s 0) []) ≤ key_room (slot_format image)) (sym (segment_at-array_in image (height_of image) i below)) (first_room (slot_format image) (segment_of (slot_format image) (live_segment image i)) (own_segments image (map_of image) (height_of image) is i below).fits.records)
   | inr past ↦ subst (λ (s : List Record). length (unwrap_or (key_at s 0) []) ≤ key_room (slot_format image)) (sym (get_or_past (array_of image) i [] (omega (arith, past, length-array_in image (height_of image))))) (omega arith)
 ]
 

@@ -23,7 +23,7 @@ use Rattle.map_model.specs.Array.{Array, rows, counts_of, segment_at}
 use Rattle.map_model.specs.Image.{array_of, height_of, map_of}
 use Rattle.map_model.specs.Reasons.{first_reason}
 use Rattle.map_model.proofs.ArrayReasons.{both_none, none_of_each}
-use Rattle.map_model.proofs.Reasonings.{length-array_in}
+use Rattle.map_model.proofs.Reasonings.{length-array_in, own_rows}
 use Rattle.veb_layout.specs.Layout.{position_of}
 use Rattle.veb_layout.specs.Links.{link_to}
 use Rattle.veb_index.specs.Nodes.{middle, depth_of, number_in_level, fence_place}
@@ -132,7 +132,7 @@ module _ (image : List ℕ) (left : IsLeft image) where
       first_some (segment_at (array_of image) i) (omega (arith, bounds.least_is, count, least_four (height_of image) (some_height (height_of image) i some lt)))
 
   left_ascends : IsAscending (rows (array_of image))
-  left_ascends = subst IsAscending (sym left.represents.rows_are) (entries_sorted (map_of image))
+  left_ascends = subst IsAscending (sym (own_rows image (map_of image) (height_of image) left.represents)) (entries_sorted (map_of image))
 
   left_order : (i : ℕ) → i < 2 ^ height_of image → order_reason (layout_in image) (height_of image) (fence_read (layout_in image) (height_of image) image) i ≡ None
   left_order i lt =

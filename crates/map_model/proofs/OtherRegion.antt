@@ -15,7 +15,7 @@ use Rattle.header_gate.proofs.RecoveredPages.{page_before}
 use Rattle.header_gate.proofs.PagedSegments.{segment_within, page_of_segment, pages_fit}
 use Rattle.header_gate.proofs.Soundness.{sound_same, same_length}
 use Rattle.map_model.specs.Store.{Map}
-use Rattle.map_model.specs.Array.{Array, rows, segment_at}
+use Rattle.map_model.specs.Array.{Array, segment_at}
 use Rattle.map_model.specs.Image.{Represents, slot_format, array_in, live_segment}
 use Rattle.map_model.specs.Regions.{IsSparePlace, Spares, HoldsArray, region_bytes}
 use Rattle.map_model.proofs.ArrayImages.{array_is, represents_array}
@@ -126,8 +126,10 @@ module _ (l : Layout) (old new : List ℕ) (m : Map) (height : ℕ) (is : Repres
     header = sound;
     height_is = height_same ∙ is.height_is;
     journal = λ odd. absurd (omega (arith, odd, still_even));
-    segments = λ i lt. subst (λ (f : ℕ). IsSegment f (segment_of f (live_segment new i)) (live_segment new i)) (sym same_format) (subst (λ (b : List ℕ). IsSegment (slot_format old) (segment_of (slot_format old) b) b) (sym (segment_same i lt)) (is.segments i lt));
-    rows_are = ap rows array_same ∙ is.rows_are;
+    array = is.array;
+    size = is.size;
+    segments = λ i lt. subst (λ (f : ℕ). IsSegment f (segment_at is.array i) (live_segment new i)) (sym same_format) (subst (IsSegment (slot_format old) (segment_at is.array i)) (sym (segment_same i lt)) (is.segments i lt));
+    rows_are = is.rows_are;
     least_is = is.least_is;
     most_is = is.most_is;
   }

@@ -1,9 +1,9 @@
 -- Bytes of the header page that the format doesn't name: what a file represents doesn't depend on them.
-use Rattle.std.proofs.Common.{◌≡◌, ℕ, ◌+◌, ◌*◌, ◌%◌, ◌^◌, ◌<◌, ◌≤◌, List, [], length, refl, sym, ◌∙◌, ap, subst, arith, cond}
+use Rattle.std.proofs.Common.{◌≡◌, ℕ, ◌+◌, ◌*◌, ◌%◌, ◌^◌, ◌<◌, ◌≤◌, List, length, refl, sym, ◌∙◌, ap, subst, arith, cond}
 use Rattle.std.specs.Prelude.{◌==◌}
 use Rattle.std.proofs.lemmas.List.{ext_get_or}
 use Rattle.std.proofs.Math.Pow.{pow_mono}
-use Rattle.key_slot.specs.Segment.{IsSegment, segment_of}
+use Rattle.key_slot.specs.Segment.{IsSegment}
 use Rattle.station.specs.Bytes.{byte, InRange, Touched}
 use Rattle.header_gate.specs.declared.layout.Layout.{Layout}
 use Rattle.header_gate.specs.Header.{number, gate, live_copy, height_in, format_in, layout_in}
@@ -16,11 +16,10 @@ use Rattle.header_gate.proofs.Recoveries.{table_same}
 use Rattle.header_gate.proofs.RecoveredBytes.{byte-recovered}
 use Rattle.header_gate.proofs.RecoveredPages.{page_before}
 use Rattle.map_model.specs.Store.{Map}
-use Rattle.map_model.specs.Array.{rows}
-use Rattle.map_model.specs.Image.{Represents, live_segment, slot_format, array_in, height_of}
+use Rattle.map_model.specs.Array.{segment_at}
+use Rattle.map_model.specs.Image.{Represents, live_segment, slot_format, height_of}
 use Rattle.map_model.specs.Batches.{IsUnnamed, KeepsHeader}
 use Rattle.map_model.proofs.Headers.{within_file, length-live_segment, byte-live_segment}
-use Rattle.map_model.proofs.Reasonings.{length-array_in, segment_at-array_in}
 
 module _ (old new : List ℕ) (was : IsSoundHeader old) (touched : Touched IsUnnamed old new) where
   -- what is named stays
@@ -100,10 +99,6 @@ unnamed_represents old new m height is touched =
     let tall : 2 ^ height ≤ 2 ^ height_limit (layout_in old) = pow_mono {i = height} {j = height_limit (layout_in old)} (omega (arith, is.height_is, was.height)) in
     let same = λ (i : ℕ) (lt : i < 2 ^ height). segment_same old new was touched i (omega (arith, lt, tall)) in
     let format : slot_format new ≡ slot_format old = format_same old new was touched in
-    let array : array_in new height ≡ array_in old height =
-    ext_get_or [] (array_in new height) (array_in old height) (length-array_in new height ∙ sym (length-array_in old height)) (λ i lt.
-    let inside : i < 2 ^ height = omega (arith, lt, length-array_in new height) in
-    segment_at-array_in new height i inside ∙ (λ t. segment_of (format t) (same i inside t)) ∙ sym (segment_at-array_in old height i inside)) in
     record {
       header = sound_new old new was touched;
       height_is = height_same old new was touched ∙ is.height_is;
@@ -111,8 +106,10 @@ unnamed_represents old new m height is touched =
           let was_odd : gate old ≡ 1 = sym (gate_same old new was touched) ∙ odd in
           subst (λ (l : Layout). IsBatch l.journal (pages_at l height) (table_numbers new)) (sym (layout_same old new was touched))
           (subst (IsBatch (layout_in old).journal (pages_at (layout_in old) height)) (sym (numbers_same old new was touched)) (is.journal was_odd));
-      segments = λ i lt. subst (λ (f : ℕ). IsSegment f (segment_of f (live_segment new i)) (live_segment new i)) (sym format) (subst (λ (b : List ℕ). IsSegment (slot_format old) (segment_of (slot_format old) b) b) (sym (same i lt)) (is.segments i lt));
-      rows_are = ap rows array ∙ is.rows_are;
+      array = is.array;
+      size = is.size;
+      segments = λ i lt. subst (λ (f : ℕ). IsSegment f (segment_at is.array i) (live_segment new i)) (sym format) (subst (IsSegment (slot_format old) (segment_at is.array i)) (sym (same i lt)) (is.segments i lt));
+      rows_are = is.rows_are;
       least_is = is.least_is;
       most_is = is.most_is;
     }

@@ -1,5 +1,5 @@
 -- A change that fits keeps every window within its bounds, and raises the potential by little.
-use Rattle.std.proofs.Common.{◌≡◌, ℕ, ◌+◌, ◌^◌, ◌<◌, ◌≤◌, ◌-◌, Bool, true, false, List, length, sum, get_or, refl, ap, ◌∙◌, arith, Option, Some, None, is_none}
+use Rattle.std.proofs.Common.{◌≡◌, ℕ, ◌+◌, ◌^◌, ◌<◌, ◌≤◌, ◌-◌, Bool, true, false, sum, get_or, refl, ap, ◌∙◌, arith, Option, Some, None, is_none}
 use Rattle.cost_ledger.specs.Potential.{potential_of}
 use Rattle.cost_ledger.proofs.Paying.{paid_by_counts}
 use Rattle.density_rule.specs.Bounds.{upper_of}

@@ -1,5 +1,5 @@
 -- Items that fit one commit reach a file by one batch of the journal.
-use Rattle.std.proofs.Common.{◌≡◌, ℕ, ◌^◌, ◌<◌, true, List, [], ◌∷◌, length, get_or, sym, ap, subst, ◌∙◌, arith}
+use Rattle.std.proofs.Common.{◌≡◌, ℕ, ◌<◌, true, List, [], ◌∷◌, length, get_or, sym, ap, subst, ◌∙◌, arith}
 use Rattle.header_gate.specs.Header.{gate, layout_in}
 use Rattle.header_gate.specs.Paged.{segment_image}
 use Rattle.header_gate.specs.Places.{height_limit, pages_at}

@@ -1,14 +1,12 @@
 -- What items make of an array, where they fit one commit: an edit of each segment to which a key of theirs belongs.
 use Rattle.std.specs.Prelude.{◌≡◌, ℕ, ◌+◌, ◌<◌, ◌==◌, ◌&&◌, if◌then◌else◌, Bool, true, false, List, [], ◌∷◌, length, take, get_or}
-use Rattle.std.specs.FinMap.{put}
 use Rattle.header_gate.specs.Paged.{segment_image}
-use Rattle.key_slot.specs.Record.{Record, key_cmp}
-use Rattle.key_slot.specs.Ordered.{without}
+use Rattle.key_slot.specs.Record.{Record}
 use Rattle.density_rule.specs.Updates.{counts_after}
 use Rattle.density_rule.specs.Marks.{Marks, updated_marks}
-use Rattle.map_model.specs.Store.{Update, bind, unbind}
+use Rattle.map_model.specs.Store.{Update, bind, unbind, key_of}
 use Rattle.map_model.specs.Array.{Array, counts_of, segment_at, segment_for}
-use Rattle.map_model.specs.ArrayUpdates.{has_key, key_of}
+use Rattle.map_model.specs.ArrayUpdates.{has_key, edited}
 use Rattle.map_model.specs.ArrayState.{ArrayState, next_states}
 use Rattle.map_model.specs.Holding.{IsBalancedArray}
 use Rattle.map_model.specs.Items.{AreAdmitted, charge_after_items}
@@ -16,11 +14,6 @@ use Rattle.map_model.specs.Batches.{IsSegmentImage, IsNone}
 use Rattle.window_tally.specs.Choice.{adds}
 use Rattle.one_commit.specs.declared.changes.ItemChange.{ItemChange}
 use Rattle.one_commit.specs.Fitting.{changes_in}
-
--- the records of a segment after an update of one of its keys
-abbrev pub edited : Update → List Record → List Record
-edited (bind key value) rows = put key_cmp key value rows
-edited (unbind key) rows = without key_cmp key rows
 
 -- after updates in their order
 abbrev pub edited_by : List Update → List Record → List Record

@@ -2,9 +2,8 @@
 
 ghost use Rattle.std.specs.Prelude.{◌≡◌, List, Some, IfOk, IfSome, is_ok};
 ghost use Rattle.key_slot.specs.Record.{IsAscending};
-ghost use Rattle.map_model.specs.Store.{Update};
+ghost use Rattle.map_model.specs.Store.{Update, key_of};
 ghost use Rattle.map_model.specs.Array.{Array, segment_at, segment_for};
-ghost use Rattle.map_model.specs.ArrayUpdates.{key_of};
 ghost use Rattle.segment.specs.Rows.{key_at};
 ghost use Rattle.one_commit.specs.Fitting.{is_put, change_before, with_change};
 ghost use Rattle.one_commit.specs.declared.changes.ItemChange.{ItemChange as OneChange};

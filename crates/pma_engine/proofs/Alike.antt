@@ -1,14 +1,13 @@
 -- Files that differ in the clean gate alone: an opening makes the same of them.
-use Rattle.std.proofs.Common.{◌≡◌, ◌⊎◌, inl, inr, ℕ, ◌+◌, ◌-◌, ◌*◌, ◌^◌, ◌%◌, ◌<◌, ◌≤◌, ◌&&◌, nat_le, nat_lt, cond, Bool, List, [], length, take, drop, length-drop, get_or-drop, refl, sym, ap, subst, ◌∙◌, arith, Option, Some, None}
+use Rattle.std.proofs.Common.{◌≡◌, inl, inr, ℕ, ◌+◌, ◌-◌, ◌*◌, ◌^◌, ◌%◌, ◌≤◌, ◌&&◌, nat_le, nat_lt, cond, List, [], length, take, drop, length-drop, get_or-drop, sym, ap, subst, ◌∙◌, arith, Some, None}
 use Rattle.std.specs.Prelude.{◌==◌}
 use Rattle.std.specs.FinMap.{from_sorted}
 use Rattle.std.proofs.lemmas.Bool.{cases_lt}
 use Rattle.std.proofs.lemmas.List.{ext_get_or, get_or_past}
-use Rattle.station.specs.Bytes.{byte, InRange, Touched}
+use Rattle.station.specs.Bytes.{byte, Touched}
 use Rattle.density_rule.specs.Marks.{no_marks}
 use Rattle.header_gate.specs.declared.layout.Layout.{Layout}
 use Rattle.header_gate.specs.declared.layout.TheConstants.{INTENT_VERSION}
-use Rattle.header_gate.specs.declared.reason.Reason.{Reason}
 use Rattle.header_gate.specs.declared.reason.Reason.TheVariants.{Length}
 use Rattle.header_gate.specs.Header.{number, gate, intent_gate, live_copy, layout_in, height_in, format_in, segment_in}
 use Rattle.header_gate.specs.Places.{page_size, table_place, image_place, region_place, segment_place, segment_size, copy_place, height_limit, pages_at}
@@ -19,17 +18,17 @@ use Rattle.header_gate.proofs.Recoveries.{table_same}
 use Rattle.header_gate.proofs.RecoveredBytes.{byte-recovered, length-recovered}
 use Rattle.header_gate.proofs.RecoveredPages.{page_before}
 use Rattle.map_model.specs.Array.{Array, rows}
-use Rattle.map_model.specs.ArrayState.{ArrayState, next_states, opened_state}
+use Rattle.map_model.specs.ArrayState.{next_states, opened_state}
 use Rattle.map_model.specs.Batches.{IsUnnamed}
 use Rattle.map_model.specs.Holding.{IsBalancedArray}
-use Rattle.map_model.specs.Image.{Represents, array_from, array_in, array_of, height_of, live_segment, map_of, slot_format}
-use Rattle.map_model.specs.Items.{AreAdmitted, first_full, map_after_items}
+use Rattle.map_model.specs.Image.{Represents, array_from, array_in, array_of, height_of, live_segment, map_of}
+use Rattle.map_model.specs.Items.{AreAdmitted, first_full, state_after_items}
 use Rattle.map_model.specs.Reasons.{array_reason, reason_of}
 use Rattle.map_model.specs.Repairing.{repair}
-use Rattle.map_model.specs.Store.{Map, Update}
+use Rattle.map_model.specs.Store.{Map}
 use Rattle.map_model.proofs.Reasonings.{represents_of_none, none_of_represents}
 use Rattle.map_model.proofs.Unnamed.{unnamed_represents}
-use Rattle.batch_intent.specs.declared.places.TheConstants.{INTENT, INTENT_SIZE}
+use Rattle.batch_intent.specs.declared.places.TheConstants.{INTENT}
 use Rattle.batch_intent.specs.Gate.{form_reason, intent_area, reason_at}
 use Rattle.batch_intent.specs.Judging.{wrong_place}
 use Rattle.batch_intent.specs.Means.{Means, MeansMap, full_reason, fullness_reason, has_pending, opened_items_state, opening_reason, pending}
@@ -84,7 +83,7 @@ module _ (old new : List ℕ) (touched : Touched IsCleanPlace old new) where
 
   -- The recovered image.
 
-  numbers_same : table_numbers new ≡ table_numbers old
+  pub numbers_same : table_numbers new ≡ table_numbers old
   numbers_same = table_same new old (table_place + 4 + 4 * length (table_numbers old)) (λ k low high. same k (λ at. omega (arith, at, low))) (omega arith)
 
   image_same : (l : Layout) (k o : ℕ) → byte new (image_place l k + o) ≡ byte old (image_place l k + o)
@@ -152,7 +151,7 @@ module _ (old new : List ℕ) (touched : Touched IsCleanPlace old new) where
   intent_area_same : intent_area new ≡ intent_area old
   intent_area_same = area_same old new (λ k lt. same (INTENT + k) (λ at. omega (arith, at)))
 
-  pending_same : pending new ≡ pending old
+  pub pending_same : pending new ≡ pending old
   unfolding pending
   pending_same t = cond (has_same t) (items_in (intent_area_same t)) []
 
@@ -168,7 +167,7 @@ module _ (old new : List ℕ) (touched : Touched IsCleanPlace old new) where
 
   -- What an opening makes of it.
 
-  first_same : opened_state new ≡ opened_state old
+  pub first_same : opened_state new ≡ opened_state old
   first_same t = record { map = map_same t; height = height_same t; array = repair (height_same t) (array_same t); marks = no_marks (height_same t) }
 
   pub state_same : opened_items_state new ≡ opened_items_state old
@@ -212,7 +211,7 @@ module _ (old new : List ℕ) (touched : Touched IsCleanPlace old new) where
         idle = λ none. means.idle (sym has_same ∙ none);
         form = λ some. subst (λ (x : Type 0). x) (λ t. Spells ((sym layout_same t).format) means.items (sym intent_area_same t)) (means.form (sym has_same ∙ some));
         admitted = subst (λ (x : Type 0). x) (λ t. AreAdmitted (height_limit (sym layout_same t)) means.base means.items) means.admitted;
-        map_is = (λ t. map_after_items (height_limit (layout_same t)) means.base means.items) ∙ means.map_is;
+        map_is = (λ t. (state_after_items (height_limit (layout_same t)) (record { map = means.base; height = height }) means.items).map) ∙ means.map_is;
       }
 
   pub map_meant : (m : Map) → MeansMap old m → MeansMap new m

@@ -1,21 +1,19 @@
 -- What commands write, by the charges of their updates.
-use Rattle.std.proofs.Common.{◌≡◌, ℕ, ◌+◌, ◌*◌, ◌/◌, ◌^◌, ◌≤◌, Bool, true, false, cond, not, ◌||◌, nat_lt, List, [], ◌∷◌, length, Option, Some, None, refl, sym, ap, subst, ◌∙◌, arith}
+use Rattle.std.proofs.Common.{◌≡◌, ℕ, ◌+◌, ◌*◌, ◌/◌, ◌^◌, ◌≤◌, Bool, true, false, cond, List, [], ◌∷◌, Option, Some, None, refl, sym, ap, subst, ◌∙◌, arith}
 use Rattle.std.specs.Prelude.{◌==◌}
-use Rattle.key_slot.specs.Record.{Bytes}
-use Rattle.density_rule.specs.Bounds.{upper_of}
 use Rattle.density_rule.specs.Marks.{Marks, mark_of}
 use Rattle.density_rule.specs.Updates.{charge_of, resized_height, height_by_broken}
 use Rattle.header_gate.specs.Header.{layout_in}
 use Rattle.header_gate.specs.Places.{height_limit, segment_size}
 use Rattle.header_gate.specs.declared.layout.Layout.{Layout}
-use Rattle.map_model.specs.Array.{Array, rows, segment_for}
+use Rattle.map_model.specs.Array.{Array, segment_for}
 use Rattle.map_model.specs.ArrayState.{ArrayState, IsSoundState, UpdateReport, next_state, report_by, report_by_change, report_of}
-use Rattle.map_model.specs.ArrayUpdates.{array_after, broken_for, change_of, has_key, key_of}
-use Rattle.map_model.specs.Charges.{charge_after}
+use Rattle.map_model.specs.ArrayUpdates.{array_after, broken_for, change_of, effect_in, effect_change}
+use Rattle.map_model.specs.Charges.{charge_after, effect_charge}
 use Rattle.map_model.specs.Holding.{IsNext}
 use Rattle.map_model.specs.Image.{slot_format}
 use Rattle.map_model.specs.Items.{charge_after_items}
-use Rattle.map_model.specs.Store.{Map, Update, bind, unbind, height_after}
+use Rattle.map_model.specs.Store.{Map, Update, height_after, key_of, Effect, Replaces, Adds, Takes, FindsFull, FindsNone}
 use Rattle.map_model.proofs.SessionLaws.{next_sound, states_sound}
 use Rattle.map_model.proofs.UpdateLaws.{next_after}
 use Rattle.batch_intent.specs.Means.{MeansMap}
@@ -24,21 +22,18 @@ use Rattle.command_text.specs.Session.{Session, session_after, session_step, IsP
 use Rattle.command_text.specs.Updates.{updates_made}
 use Rattle.command_text.specs.declared.command.Command.{Command}
 use Rattle.command_text.proofs.SessionLaws.{paid_first, paid_next}
-use Rattle.pma_store.specs.Changing.{most_written}
+use Rattle.pma_store.specs.Changing.{most_written, effect_outcome}
 use Rattle.pma_store.specs.Costing.{report_cost, update_cost_in, updates_cost}
 use Rattle.pma_store.specs.Rewrites.{commit_cost}
+use Rattle.pma_store.specs.Charging.{changes}
 use Rattle.pma_engine.specs.Costs.{charged_cost, images_cost, session_cost}
 use Rattle.pma_engine.specs.Jobs.{ArePaid}
 use Rattle.pma_engine.specs.Outcome.{session_of, state_of}
 use Rattle.pma_engine.proofs.Meant.{begins_sound}
 
-charge_bind : (hmax height : ℕ) (segments : Array) (key value : Bytes) → charge_after hmax height segments (bind key value) ≡ cond (has_key segments key) 2 (cond (nat_lt (length (rows segments)) (upper_of hmax)) (charge_of true height (broken_for true height segments key)) 0)
+charge_made : (hmax height : ℕ) (segments : Array) (u : Update) → charge_after hmax height segments u ≡ effect_charge (effect_in hmax segments u) height segments (key_of u)
 unfolding charge_after
-charge_bind hmax height segments key value = refl
-
-charge_unbind : (hmax height : ℕ) (segments : Array) (key : Bytes) → charge_after hmax height segments (unbind key) ≡ cond (has_key segments key) (charge_of false height (broken_for false height segments key)) 0
-unfolding charge_after
-charge_unbind hmax height segments key = refl
+charge_made hmax height segments u = refl
 
 -- images of two charges
 images_plus : (l : Layout) (m n : ℕ) → images_cost l (m + n) ≡ images_cost l m + images_cost l n
@@ -94,25 +89,15 @@ module _ (l : Layout) (some : 1 ≤ l.format) where
     replacing u is = subst (λ (o : Option Bool). report_cost l (height_after hmax s.height s.map u) (report_by_change s u o) ≤ images_cost l 2) (sym is) (omega (arith, some))
 
     pub update_paid : (u : Update) → update_cost_in l s u ≤ images_cost l (charge_after hmax s.height s.array u)
-    update_paid (bind key value) =
-        subst (λ (n : ℕ). update_cost_in l s (bind key value) ≤ images_cost l n) (sym (charge_bind hmax s.height s.array key value)) (by (has_key s.array key) (nat_lt (length (rows s.array)) (upper_of hmax)) refl refl)
+    update_paid u = subst (λ (n : ℕ). update_cost_in l s u ≤ images_cost l n) (sym (charge_made hmax s.height s.array u)) (by (effect_in hmax s.array u) refl)
       where
-        by : (here room : Bool) → has_key s.array key ≡ here → nat_lt (length (rows s.array)) (upper_of hmax) ≡ room
-            → cond (has_key s.array key || nat_lt (length (rows s.array)) (upper_of hmax)) (report_cost l (height_after hmax s.height s.map (bind key value)) (report_of hmax s (bind key value))) 0 ≤ images_cost l (cond (has_key s.array key) 2 (cond (nat_lt (length (rows s.array)) (upper_of hmax)) (charge_of true s.height (broken_for true s.height s.array key)) 0))
-        by true room p q =
-            subst (λ (b : Bool). cond (b || nat_lt (length (rows s.array)) (upper_of hmax)) (report_cost l (height_after hmax s.height s.map (bind key value)) (report_of hmax s (bind key value))) 0 ≤ images_cost l (cond b 2 (cond (nat_lt (length (rows s.array)) (upper_of hmax)) (charge_of true s.height (broken_for true s.height s.array key)) 0))) (sym p)
-            (replacing (bind key value) (λ t. cond (p t || not (nat_lt (length (rows s.array)) (upper_of hmax))) None (Some true)))
-        by false true p q =
-            subst (λ (x : Bool × Bool). cond (x.0 || x.1) (report_cost l (height_after hmax s.height s.map (bind key value)) (report_of hmax s (bind key value))) 0 ≤ images_cost l (cond x.0 2 (cond x.1 (charge_of true s.height (broken_for true s.height s.array key)) 0))) (λ i. (sym p i, sym q i))
-            (changing (bind key value) true (λ t. cond (p t || not (q t)) None (Some true)))
-        by false false p q =
-            subst (λ (x : Bool × Bool). cond (x.0 || x.1) (report_cost l (height_after hmax s.height s.map (bind key value)) (report_of hmax s (bind key value))) 0 ≤ images_cost l (cond x.0 2 (cond x.1 (charge_of true s.height (broken_for true s.height s.array key)) 0))) (λ i. (sym p i, sym q i)) (omega arith)
-    update_paid (unbind key) =
-        subst (λ (n : ℕ). update_cost_in l s (unbind key) ≤ images_cost l n) (sym (charge_unbind hmax s.height s.array key)) (by (has_key s.array key) refl)
-      where
-        by : (here : Bool) → has_key s.array key ≡ here → cond (has_key s.array key) (report_cost l (height_after hmax s.height s.map (unbind key)) (report_of hmax s (unbind key))) 0 ≤ images_cost l (cond (has_key s.array key) (charge_of false s.height (broken_for false s.height s.array key)) 0)
-        by true p = subst (λ (b : Bool). cond b (report_cost l (height_after hmax s.height s.map (unbind key)) (report_of hmax s (unbind key))) 0 ≤ images_cost l (cond b (charge_of false s.height (broken_for false s.height s.array key)) 0)) (sym p) (changing (unbind key) false (ap (λ b. cond b (Some false) None) p))
-        by false p = subst (λ (b : Bool). cond b (report_cost l (height_after hmax s.height s.map (unbind key)) (report_of hmax s (unbind key))) 0 ≤ images_cost l (cond b (charge_of false s.height (broken_for false s.height s.array key)) 0)) (sym p) (omega arith)
+        by : (effect : Effect) → effect_in hmax s.array u ≡ effect
+            → cond (changes (effect_outcome effect)) (report_cost l (height_after hmax s.height s.map u) (report_of hmax s u)) 0 ≤ images_cost l (effect_charge effect s.height s.array (key_of u))
+        by Replaces is = replacing u (ap effect_change is)
+        by Adds is = changing u true (ap effect_change is)
+        by Takes is = changing u false (ap effect_change is)
+        by FindsFull is = omega arith
+        by FindsNone is = omega arith
 
   updates_paid : (s : ArrayState) → IsSoundState hmax s → (us : List Update) → updates_cost l s us ≤ images_cost l (charge_after_items hmax s us)
   updates_paid s sound [] = omega arith

@@ -1,16 +1,15 @@
 -- The closing of an index, and what keeps one closed.
-use Rattle.std.proofs.Common.{◌≡◌, ◌⊎◌, inl, inr, ℕ, ◌+◌, ◌*◌, ◌^◌, ◌≤◌, ◌%◌, ◌<◌, Bool, true, false, cond, List, length, refl, sym, ap, subst, ◌∙◌, arith}
+use Rattle.std.proofs.Common.{◌≡◌, ◌⊎◌, inl, inr, ℕ, ◌+◌, ◌*◌, ◌^◌, ◌≤◌, ◌<◌, Bool, true, false, cond, List, length, refl, sym, ap, subst, ◌∙◌, arith}
 use Rattle.std.specs.Prelude.{◌==◌}
 use Rattle.std.proofs.lemmas.Bool.Decides.{nat_tests}
 use Rattle.station.specs.Bytes.{byte, Same, Touched}
-use Rattle.station.specs.View.{View, Fixed, Told, Honest, EachHeld, NothingPending, Lawful, attached_by}
-use Rattle.station.specs.Steps.{Steps, Says, LeavesOnly}
-use Rattle.station.specs.declared.travel.Travel.{Travel}
-use Rattle.station.proofs.Composition.{each_on, only_held, same_on, on_same, told_on, honest_back, weaken}
+use Rattle.station.specs.View.{View, Fixed, Told, Honest, EachHeld, NothingPending, Lawful}
+use Rattle.station.specs.Steps.{Steps, Says}
+use Rattle.station.proofs.Composition.{same_on, on_same, told_on, weaken}
 use Rattle.station.proofs.Sayings.{each_says, leaves_in, leaves_on}
 use Rattle.header_gate.specs.declared.layout.Layout.{Layout}
 use Rattle.header_gate.specs.declared.layout.TheConstants.{INDEXED}
-use Rattle.header_gate.specs.Header.{layout_in, number}
+use Rattle.header_gate.specs.Header.{layout_in}
 use Rattle.header_gate.proofs.NumberLaws.{number_same}
 use Rattle.header_gate.proofs.RecoveredPages.{page_before}
 use Rattle.map_model.specs.Regions.{IsSparePlace}
@@ -19,11 +18,12 @@ use Rattle.pma_store.specs.Batching.{IsBatchPlace}
 use Rattle.pma_store.specs.Items.{IsItemPlace}
 use Rattle.pma_store.specs.Touching.{IsUpdatePlace, Updates}
 use Rattle.recovery.specs.Restores.{LeavesFile}
-use Rattle.index_file.specs.Clean.{IsClean, IsCleanPlace, IsOpenIndex, IsShut, KeepsClean, version_of}
+use Rattle.index_file.specs.Clean.{IsClean, IsOpenIndex, IsShut, KeepsClean, version_of}
 use Rattle.index_file.proofs.CleanLaws.{clean_shut}
-use Rattle.index_file.proofs.Keeping.{keeps_on, shut_on, shut_stays}
+use Rattle.index_file.proofs.Keeping.{shut_on, shut_stays}
 use Rattle.pma_engine.specs.Carrying.{Looks}
-use Rattle.pma_engine.specs.Closing.{ClosesAtMost, IsButClosed, StaysShut, WritesGate, closing_cost, leaving_cost}
+use Rattle.pma_engine.specs.Closing.{ClosesAtMost, IsButClosed, StaysShut, WritesGate, closing_cost, leaving_calls, leaving_cost}
+use Rattle.index_file.specs.Reading.{area_calls}
 
 -- What is written.
 
@@ -34,6 +34,10 @@ closing_some l is = grind (arith, nat_tests, is)
 pub leaving_some : (l : Layout) (height : ℕ) → l.version ≡ INDEXED → leaving_cost l height ≡ 68 * 2 ^ height + 1
 unfolding leaving_cost
 leaving_some l height is = ap (λ (b : Bool). cond b (68 * 2 ^ height + 1) 0) (let e : (l.version == INDEXED) ≡ true = grind (arith, nat_tests, is) in e)
+
+pub leaving_called : (l : Layout) (height : ℕ) → l.version ≡ INDEXED → leaving_calls l height ≡ area_calls height + 3
+unfolding leaving_calls
+leaving_called l height is = ap (λ (b : Bool). cond b (area_calls height + 3) 0) (let e : (l.version == INDEXED) ≡ true = grind (arith, nat_tests, is) in e)
 
 -- a closing writes at most what it costs
 pub gate_cost : (file : List ℕ) (before after : ℕ) → WritesGate file before after → after ≤ before + closing_cost (layout_in file)

@@ -1,5 +1,5 @@
 -- What comes of a dump, from the map that its file means at the entry.
-use Rattle.std.proofs.Common.{◌≡◌, ◌⊎◌, inl, inr, ℕ, ◌+◌, ◌≤◌, List, [], ◌++◌, length, take, false, Some, None, Result, Ok, Err, refl, sym, ◌∙◌, ap, subst, arith, length-append}
+use Rattle.std.proofs.Common.{◌≡◌, ◌⊎◌, inl, inr, ℕ, List, ◌++◌, length, take, false, Some, None, Result, Ok, Err, refl, sym, ◌∙◌, ap, subst, arith, length-append}
 use Rattle.std.specs.List.{flat_map}
 use Rattle.std.specs.FinMap.{entries}
 use Rattle.std.proofs.lemmas.List.{append-nil, take-append-le}
@@ -27,7 +27,7 @@ use Rattle.pma_store.specs.Store.{StoreView}
 use Rattle.pma_engine.specs.Carrying.{Looks}
 use Rattle.pma_engine.specs.Dumping.{DumpsFile, DumpsOpened, IsDumpStatus, SaidFront, dump_text}
 use Rattle.pma_engine.specs.Closing.{IsButClosed, WritesGate}
-use Rattle.pma_engine.specs.Opening.{IsOpened, IsUnopened, Reopens, reopening_cost}
+use Rattle.pma_engine.specs.Opening.{IsOpened, IsUnopened, Reopens}
 use Rattle.pma_engine.specs.Outcome.{IsRefused}
 use Rattle.pma_engine.specs.Ranging.{SaysSweep, scan_text}
 use Rattle.pma_engine.specs.Refusing.{SaysLine, SaysLastLine, line_text, line_of_opening, line_of_serving, status_of_opening, status_of_serving}

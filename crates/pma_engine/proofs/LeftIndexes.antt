@@ -1,41 +1,41 @@
 -- The leaving of an index behind a script that was served to its end.
-use Rattle.std.proofs.Common.{◌≡◌, ◌⊎◌, inl, inr, ℕ, ◌+◌, ◌*◌, ◌^◌, ◌%◌, ◌≤◌, ◌&&◌, nat_le, Bool, true, false, List, [], ◌++◌, length, refl, sym, ◌∙◌, ap, subst, arith}
+use Rattle.std.proofs.Common.{◌≡◌, ◌⊎◌, inl, inr, ℕ, ◌+◌, ◌*◌, ◌^◌, ◌%◌, ◌≤◌, ◌&&◌, nat_le, false, List, [], ◌++◌, refl, sym, ◌∙◌, ap, subst, arith}
 use Rattle.std.specs.Prelude.{◌==◌}
 use Rattle.std.proofs.lemmas.List.{append-nil}
-use Rattle.station.specs.Bytes.{byte, Same, Touched}
-use Rattle.station.specs.View.{View, Fixed, Told, SaidTold, Honest, EachHeld, NothingPending, Rose, Lawful}
+use Rattle.station.specs.Bytes.{byte}
+use Rattle.station.specs.View.{View, Fixed, Told, SaidTold, EachHeld, NothingPending, Rose, Lawful}
 use Rattle.station.specs.Steps.{Steps, Run}
 use Rattle.station.specs.declared.travel.Travel.{Travel}
-use Rattle.station.proofs.Composition.{no_steps, told_on, weaken}
+use Rattle.station.proofs.Composition.{no_steps, weaken}
 use Rattle.station.proofs.Sayings.{run_of_steps, run_on}
 use Rattle.line_source.specs.Lines.{raw_lines}
 use Rattle.line_source.specs.SourceView.{SourceView, SourceTold}
 use Rattle.header_gate.specs.declared.layout.Layout.{Layout}
 use Rattle.header_gate.specs.declared.layout.TheConstants.{INDEXED, INTENT_VERSION}
-use Rattle.header_gate.specs.Header.{clean_gate, gate, intent_gate, layout_in}
-use Rattle.map_model.specs.ArrayState.{ArrayState, HasState}
-use Rattle.map_model.specs.Image.{Represents, array_in, height_of, map_of}
+use Rattle.header_gate.specs.Header.{gate, layout_in}
+use Rattle.map_model.specs.ArrayState.{ArrayState}
+use Rattle.map_model.specs.Image.{Represents, array_in}
 use Rattle.map_model.specs.Store.{Map}
 use Rattle.batch_intent.specs.Means.{MeansMap, has_pending}
 use Rattle.batch_intent.proofs.Meanings.{means_idle}
-use Rattle.index_file.specs.Clean.{IsAreaPlace, IsClean, IsCleanPlace, IsLeft, IsShut, KeepsClean, Leaves, version_of}
+use Rattle.index_file.specs.Clean.{IsLeft, IsShut, Leaves}
 use Rattle.index_file.specs.Leaving.{IsReady}
 use Rattle.index_file.proofs.CleanLaws.{clean_shut}
 use Rattle.index_file.proofs.Keeping.{keeps_leaving, keeps_on}
 use Rattle.index_file.proofs.Kept as kept
-use Rattle.command_text.specs.Script.{commands_in, commands_of}
+use Rattle.command_text.specs.Script.{commands_of}
 use Rattle.command_text.specs.Session.{Session, session_after}
 use Rattle.command_text.specs.declared.command.Command.{Command}
 use Rattle.pma_store.specs.Store.{StoreView, Stands, IsOpenOn}
 use Rattle.pma_store.proofs.Moments.{idle_even}
-use Rattle.pma_engine.specs.Carrying.{SessionView, layout_on, session_in}
+use Rattle.pma_engine.specs.Carrying.{layout_on, session_in}
 use Rattle.pma_engine.specs.Closing.{LeavesIndex, StaysShut, leaving_cost}
-use Rattle.pma_engine.specs.Costs.{session_cost}
 use Rattle.pma_engine.specs.Outcome.{RunsOpened, Serves, fresh_session}
 use Rattle.pma_engine.specs.Serving.{AsksNothing, EndsServed, IsAtState, IsServed, IsStopped, ScriptPair, fresh_reader}
 use Rattle.pma_engine.specs.Session.{Headline, replies_after}
 use Rattle.pma_engine.specs.declared.status.TheConstants.{DONE, REFUSED, DISK_FAULT, SCRIPT_FAULT, REPLY_FAULT, OUT_OF_MEMORY, TOO_LONG}
-use Rattle.pma_engine.proofs.Closing.{keeps_staying, leaving_some}
+use Rattle.index_file.specs.Reading.{area_calls}
+use Rattle.pma_engine.proofs.Closing.{keeps_staying, leaving_called, leaving_some}
 use Rattle.pma_engine.proofs.Upgrading.{unpending}
 
 -- The leaving itself.
@@ -49,6 +49,7 @@ leaves_none s a open_yet shut other = record {
   settled = λ e. open_yet.on.settled;
   cost = omega arith;
   unread = refl;
+  calls = omega arith;
   disk = λ e. absurd (omega (arith, e));
 }
 
@@ -65,14 +66,15 @@ ready_of s a open_yet shut is image may =
     }
 
 pub leaves_by : (status : ℕ) (s : StoreView) (a b : View) → s.place.layout.version ≡ INDEXED → (status ≡ DONE) ⊎ (status ≡ DISK_FAULT) → Steps (Leaves s.place.layout) a b → (status ≡ DONE → Told a → IsLeft b.held) → (status ≡ DONE → Told a → byte b.held 704 ≡ 1)
-    → (status ≡ DONE → NothingPending b) → b.travel.written ≤ a.travel.written + (68 * 2 ^ s.tally.height + 1) → b.travel.read ≡ a.travel.read → (status ≡ DISK_FAULT → Rose a.disk_faults b.disk_faults) → LeavesIndex status s a b
-leaves_by status s a b is status_is steps left opened settled cost unread disk = record {
+    → (status ≡ DONE → NothingPending b) → b.travel.written ≤ a.travel.written + (68 * 2 ^ s.tally.height + 1) → b.travel.read ≡ a.travel.read → b.calls ≤ a.calls + (area_calls s.tally.height + 3) → (status ≡ DISK_FAULT → Rose a.disk_faults b.disk_faults) → LeavesIndex status s a b
+leaves_by status s a b is status_is steps left opened settled cost unread calls disk = record {
   status_is = status_is;
   steps = steps;
   left = λ e told version. (left e told, ap (λ (k : ℕ). k % 2) (opened e told));
   settled = settled;
   cost = omega (arith, cost, leaving_some s.place.layout s.tally.height is);
   unread = unread;
+  calls = omega (arith, calls, leaving_called s.place.layout s.tally.height is);
   disk = disk;
 }
 

@@ -1,6 +1,5 @@
 -- What is read by a run that opens its file by the index, where the script has no command.
-use Rattle.std.proofs.Common.{◌≡◌, ◌+◌, ◌≤◌, ℕ, List, false, Ok, Err, sym, ap, subst, ◌∙◌, arith}
-use Rattle.std.specs.Prelude.{Result}
+use Rattle.std.proofs.Common.{◌≡◌, ℕ, List, false, Ok, Err, sym, ap, subst, ◌∙◌, arith}
 use Rattle.station.specs.View.{View, Told, attached_by}
 use Rattle.station.specs.Steps.{Says}
 use Rattle.station.specs.declared.travel.Travel.{Travel}
@@ -13,7 +12,6 @@ use Rattle.recovery.specs.declared.fault.OpenFault.{OpenFault}
 use Rattle.recovery.specs.declared.fault.OpenFault.TheVariants as opening
 use Rattle.index_file.specs.Clean.{IsClean, version_of}
 use Rattle.index_file.specs.Opening.{IsQuick}
-use Rattle.pma_store.specs.Store.{StoreView}
 use Rattle.pma_store.specs.declared.store.Store.{Store}
 use Rattle.pma_engine.specs.Jobs.{LooksQuickly}
 use Rattle.pma_engine.specs.Opening.{LooksByIndex}

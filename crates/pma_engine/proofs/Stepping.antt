@@ -1,5 +1,5 @@
 -- What is asked of cursors, and what it comes to.
-use Rattle.std.proofs.Common.{◌≡◌, ◌∷◌, [], ◌∙◌, true, false, Bool, is_some, List, Option, Some, None, Result, Ok, Err, refl, sym, ap, subst, arith}
+use Rattle.std.proofs.Common.{◌≡◌, ◌∷◌, [], ◌∙◌, true, false, Bool, is_some, Option, Some, None, Result, Ok, Err, refl, sym, ap, subst, arith}
 use Rattle.std.specs.FinMap.{contains_key, get, remove}
 use Rattle.station.specs.Bytes.{Same}
 use Rattle.station.specs.View.{View, Told, EachHeld, NothingPending, Rose}
@@ -22,11 +22,11 @@ use Rattle.cursor_set.specs.declared.answers.Step.{Step}
 use Rattle.cursor_set.specs.declared.answers.Step.TheVariants as step
 use Rattle.pma_store.specs.Metered.{MeteredView}
 use Rattle.pma_store.specs.Seeking.{StandsIdle, kept_region, unclosed}
-use Rattle.pma_store.specs.Store.{StoreView, IsOpenOn}
+use Rattle.pma_store.specs.Store.{IsOpenOn}
 use Rattle.pma_store.proofs.Sought.{is_as_before, opens_again}
 use Rattle.pma_engine.specs.Carrying.{with_cursors, moved_by, AsksCursors, Executes, IsOneLine, MovesCursors}
+use Rattle.pma_engine.specs.Calling.{IsForStep, MakesCalls}
 use Rattle.pma_engine.specs.Costs.{LooksAhead}
-use Rattle.pma_engine.specs.Replies.{one_line}
 use Rattle.pma_engine.proofs.Executing.{looked, looked_in_vain, nothing_asked, idle_open, idle_next, idle_close}
 
 -- what asks something of the cursors has one line of reply
@@ -53,11 +53,11 @@ asks_one_line (command.Bad why) asks = absurd asks
 module _ (m : MeteredView) (k q : Cursors) (name : Bytes) (r : Reply) (a : View) (here : IsOpenOn m.store a) where
   pub opened : (low high : Option Bytes) → r ≡ open_line k name → q ≡ after_open k name low high → Executes (command.Open name low high) (Ok (Some r)) (with_cursors m k) (with_cursors m q) a a
   opened low high line after =
-      nothing_asked (command.Open name low high) (Some r) (with_cursors m k) (with_cursors m q) a here (idle_open name low high) refl refl (λ told. ap (λ (x : Reply). x ∷ []) line) refl tt (λ told. after) after
+      nothing_asked (command.Open name low high) (Some r) (with_cursors m k) (with_cursors m q) a here (idle_open name low high) refl refl (λ told. ap (λ (x : Reply). x ∷ []) line) refl tt (λ told. after) after refl
 
   pub closed : r ≡ close_line k name → q ≡ remove k name → Executes (command.Close name) (Ok (Some r)) (with_cursors m k) (with_cursors m q) a a
   closed line after =
-      nothing_asked (command.Close name) (Some r) (with_cursors m k) (with_cursors m q) a here (idle_close name) refl refl (λ told. ap (λ (x : Reply). x ∷ []) line) refl tt (λ told. after) after
+      nothing_asked (command.Close name) (Some r) (with_cursors m k) (with_cursors m q) a here (idle_close name) refl refl (λ told. ap (λ (x : Reply). x ∷ []) line) refl tt (λ told. after) after refl
 
 -- A step.
 
@@ -88,12 +88,17 @@ module _ (k q : Cursors) (name : Bytes) where
   step_moves step.NoCursor known after = (None, after ∙ none_moves (get k name) known)
 
 module _ (m n : MeteredView) (k q : Cursors) (name : Bytes) {A : Type 0} (result : Result A StoreFault) (a b : View) (here : IsOpenOn m.store a) (steps : Steps Same a b)
-    (reads : (c : Cursor) → get k name ≡ Some c → ReadsNear (later c.low c.past) (kept_region m.store) result a b) (idle : get k name ≡ None → b.travel ≡ a.travel) (state : unclosed n ≡ unclosed m) where
+    (reads : (c : Cursor) → get k name ≡ Some c → ReadsNear (later c.low c.past) (kept_region m.store) result a b) (idle : get k name ≡ None → b.travel ≡ a.travel) (uncalled : get k name ≡ None → b.calls ≡ a.calls)
+    (state : unclosed n ≡ unclosed m) where
   looks_for : (o : Option Cursor) → get k name ≡ o → LooksAhead o m.store a.travel b.travel
   looks_for None is = idle is
   looks_for (Some c) is =
       let near = reads c is in
       (near.from, (near.to, record { onward = omega (arith, near.some); within = near.within; travel = near.travel }, near.some, near.two))
+
+  calls_for : (o : Option Cursor) → get k name ≡ o → MakesCalls (command.Next name) m.store k a b
+  calls_for None is = record { calls = 0; is_for = subst (λ (o : Option Cursor). IsForStep o 0) (sym is) refl; most = omega (arith, uncalled is) }
+  calls_for (Some c) is = let near = reads c is in record { calls = 2; is_for = subst (λ (o : Option Cursor). IsForStep o 2) (sym is) refl; most = omega (arith, near.calls, near.two) }
 
   unwritten_for : (o : Option Cursor) → get k name ≡ o → b.travel.written ≡ a.travel.written
   unwritten_for None is = ap (λ (t : Travel). t.written) (idle is)
@@ -111,8 +116,8 @@ module _ (m n : MeteredView) (k q : Cursors) (name : Bytes) {A : Type 0} (result
       → (Told a → q ≡ after_next (map_of a.held) k name) → n.store.closed ≡ false → EachHeld (StandsIdle n.store) b → NothingPending b → Executes (command.Next name) (Ok (Some r)) (with_cursors m k) (with_cursors n q) a b
   stepped s r line answer known after next unclosed stands settled =
       looked (with_cursors m k) (with_cursors n q) a b here steps (unwritten_for (get k name) refl) ledger_kept (command.Next name) r (λ told. ap (λ (x : Reply). x ∷ []) (line ∙ ap next_line (answer told))) (idle_next name)
-      (store_kept false unclosed) (opens_again m n state here steps.frame unclosed stands settled) (looks_for (get k name) refl) tt next (step_moves k q name s known after)
+      (store_kept false unclosed) (opens_again m n state here steps.frame unclosed stands settled) (looks_for (get k name) refl) tt next (step_moves k q name s known after) (calls_for (get k name) refl)
 
   pub stepped_in_vain : (fault : StoreFault) → n.store.closed ≡ true → q ≡ k → (Told a → fault ≡ Failed) → (fault ≡ Failed → Rose a.disk_faults b.disk_faults) → Executes (command.Next name) (Err fault) (with_cursors m k) (with_cursors n q) a b
   stepped_in_vain fault closed cursors sound failed =
-      looked_in_vain (with_cursors m k) (with_cursors n q) a b here steps (unwritten_for (get k name) refl) ledger_kept (command.Next name) fault (store_kept true closed) cursors (looks_for (get k name) refl) (λ f. tt) sound failed
+      looked_in_vain (with_cursors m k) (with_cursors n q) a b here steps (unwritten_for (get k name) refl) ledger_kept (command.Next name) fault (store_kept true closed) cursors (looks_for (get k name) refl) (λ f. tt) sound failed (calls_for (get k name) refl)

@@ -25,7 +25,7 @@ use Rattle.map_model.specs.Standing.{StandsWith}
 use Rattle.map_model.specs.Store.{Map}
 use Rattle.map_model.proofs.Recovering.{determined}
 use Rattle.batch_intent.specs.Means.{Means, MeansMap, has_pending, meant_map}
-use Rattle.batch_intent.proofs.Meanings.{meant_one, means_idle}
+use Rattle.batch_intent.proofs.Meanings.{meant_one, means_idle, map_made}
 use Rattle.batch_intent.proofs.OpeningReasons.{none_of_means}
 use Rattle.range_scan.proofs.Checks.{counted_all}
 use Rattle.redo_journal.specs.declared.place.Place.{Place}
@@ -57,7 +57,7 @@ keeps_on first second m has = second m (first m has)
 -- a file without an intent that is to be applied represents what it means
 pub unpending : (image : List ℕ) (m : Map) (height : ℕ) → Means image m height → has_pending image ≡ false → Represents image m height
 unpending image m height means none =
-    subst (λ (n : Map). Represents image n height) (sym (ap (map_after_items (height_limit (layout_in image)) means.base) (means.idle none)) ∙ means.map_is) means.represents
+    subst (λ (n : Map). Represents image n height) (sym (ap (map_after_items (height_limit (layout_in image)) means.base) (means.idle none)) ∙ map_made image m height means) means.represents
 
 -- an upgrade leaves the version and the intent's gate, as all that touches but what isn't live
 widened_version : {l m : Layout} → MayWiden l m → m.version ≡ l.version

@@ -8,6 +8,7 @@ use Rattle.header_gate.specs.declared.layout.Layout.{Layout}
 use Rattle.header_gate.specs.declared.layout.TheConstants.{INDEXED}
 use Rattle.recovery.specs.Restores.{LeavesFile}
 use Rattle.index_file.specs.Clean.{IsCleanPlace, IsLeft, IsOpenIndex, IsShut, Leaves}
+use Rattle.index_file.specs.Reading.{area_calls}
 use Rattle.pma_store.specs.Store.{StoreView}
 use Rattle.pma_engine.specs.declared.status.TheConstants.{DONE, DISK_FAULT}
 
@@ -41,6 +42,10 @@ closing_cost l = if l.version == INDEXED then 1 else 0
 unfoldable pub leaving_cost : Layout → ℕ → ℕ
 leaving_cost l height = if l.version == INDEXED then 68 * 2 ^ height + 1 else 0
 
+-- the calls of the leaving: those of nodes and counts, and three
+unfoldable pub leaving_calls : Layout → ℕ → ℕ
+leaving_calls l height = if l.version == INDEXED then area_calls height + 3 else 0
+
 -- The index of an open store was left in its file, or its file has none.
 pub record LeavesIndex (status : ℕ) (s : StoreView) (a b : View) : Type 0 where
   pub status_is : (status ≡ DONE) ⊎ (status ≡ DISK_FAULT)
@@ -49,4 +54,5 @@ pub record LeavesIndex (status : ℕ) (s : StoreView) (a b : View) : Type 0 wher
   pub settled : status ≡ DONE → NothingPending b
   pub cost : b.travel.written ≤ a.travel.written + leaving_cost s.place.layout s.tally.height
   pub unread : b.travel.read ≡ a.travel.read
+  pub calls : b.calls ≤ a.calls + leaving_calls s.place.layout s.tally.height
   pub disk : status ≡ DISK_FAULT → Rose a.disk_faults b.disk_faults

@@ -1,11 +1,16 @@
 //! The file of a job that works on a store: how it is opened, and the end where it isn't.
 
-ghost use Rattle.std.specs.Prelude.{◌≡◌, ◌≤◌, None, Some, true, false};
+ghost use Rattle.std.specs.Prelude.{◌≡◌, ◌+◌, ◌≤◌, None, Some, OnOk, true, false};
 ghost use Rattle.station.specs.Steps.{Says};
 ghost use Rattle.station.specs.View.{Told, SaidTold, EachHeld, NothingPending, NamedBy, attached_by};
+ghost use Rattle.header_gate.specs.Header.{layout_in};
 ghost use Rattle.header_gate.specs.Places.{file_length};
-ghost use Rattle.index_file.specs.Clean.{IsClean};
+ghost use Rattle.index_file.specs.Clean.{IsClean, IsOpenIndex};
 ghost use Rattle.index_file.specs.Opening.{IsQuick};
+ghost use Rattle.index_file.specs.Reading.{area_calls};
+ghost use Rattle.map_model.specs.Image.{height_of};
+ghost use Rattle.recovery.specs.Costs.{asked_opening, back_calls, opening_calls};
+ghost use Rattle.pma_store.specs.Opens.{CallsOpening, IsAllAtRest};
 ghost use Rattle.recovery.specs.Parts.{Fits, AgreesWith};
 ghost use Rattle.pma_engine.specs.Opening.{OpensStore, TakesParts};
 ghost use Rattle.pma_engine.specs.Refusing.{SaysLine, line_text, line_of_opening, status_of_opening};
@@ -46,7 +51,8 @@ pub(crate) fn open_file<S: Station>(
 // Opens the store by the index in its file, where one was left, and else by its live region.
 fn open_by_index<S: Station>(alloc: Global, station: &mut S) -> Result<Store, OpenFault>
     requires clean { Told (S.view station.old) → IsClean (S.view station.old).held }
-    ensures { OpensStore true result (S.view station.old) (S.view station.new) }
+    ensures opens { OpensStore true result (S.view station.old) (S.view station.new) }
+    ensures calls { Told (S.view station.old) → IsQuick (S.view station.old).held → (S.view station.new).calls ≤ (S.view station.old).calls + (5 + area_calls (height_of (S.view station.old).held)) }
 {
     match open_quick(alloc, station) {
         Ok(Some(parts)) => open_parts(station, parts),
@@ -63,7 +69,8 @@ fn open_parts<S: Station>(station: &mut S, parts: Parts) -> Result<Store, OpenFa
     requires quick { Told (S.view station.old) → IsQuick (S.view station.old).held }
     requires nothing { NothingPending (S.view station.old) }
     requires reach { file_length parts.place.layout ≤ (S.view station.old).fixed.reach }
-    ensures { TakesParts parts result (S.view station.old) (S.view station.new) }
+    ensures takes { TakesParts parts result (S.view station.old) (S.view station.new) }
+    ensures calls { (S.view station.new).calls ≤ (S.view station.old).calls + 2 }
 {
     match close_clean(station) {
         Ok(()) => Ok(Store::from_parts(parts)),
@@ -73,7 +80,12 @@ fn open_parts<S: Station>(station: &mut S, parts: Parts) -> Result<Store, OpenFa
 
 // Closes the index, and opens the store by its live region.
 fn open_by_region<S: Station>(alloc: Global, station: &mut S) -> Result<Store, OpenFault>
-    ensures { OpensStore false result (S.view station.old) (S.view station.new) }
+    ensures opens { OpensStore false result (S.view station.old) (S.view station.new) }
+    ensures calls { Told (S.view station.old) → let old = (S.view station.old).held in
+        CallsOpening (4 + opening_calls (layout_in old) (height_of old)) (S.view station.old) (S.view station.new) }
+    ensures calls_asked { OnOk result (Told (S.view station.old) → CallsOpening (4 + asked_opening (S.view station.old).held) (S.view station.old) (S.view station.new)) }
+    ensures calls_at_rest { Told (S.view station.old) → IsAllAtRest (S.view station.old).held → (S.view station.new).calls ≤ (S.view station.old).calls + (4 + 3 + back_calls (S.view station.old).held) }
+    ensures calls_shut { Told (S.view station.old) → IsAllAtRest (S.view station.old).held → ¬ IsOpenIndex (S.view station.old).held → (S.view station.new).calls ≤ (S.view station.old).calls + (2 + 3 + back_calls (S.view station.old).held) }
 {
     match close_index(station) {
         Ok(()) => Store::open_on(alloc, station),

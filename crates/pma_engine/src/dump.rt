@@ -7,6 +7,7 @@ ghost use Rattle.pma_store.specs.Store.{IsOpenOn};
 ghost use Rattle.pma_engine.specs.Dumping.{DumpsFile, DumpsOpened, IsDumpStatus};
 
 use crate::attaching::{end_unopened, open_file};
+use crate::piece::Piece;
 use crate::range::say_sweep;
 use crate::run::end_served;
 use crate::status::{DISK_FAULT, REPLY_FAULT};
@@ -44,7 +45,8 @@ fn dump_opened<S: Station>(station: &mut S, store: Store) -> u8
 {
     let parts = store.into_parts();
     let mut page = HeldPage::new();
+    let mut piece = Piece::new();
     let mut sweep = sweep_all(&parts.place, &parts.tally, &mut page);
-    let said = say_sweep(&mut sweep, station);
+    let said = say_sweep(&mut sweep, station, &mut piece);
     end_served(station, said)
 }

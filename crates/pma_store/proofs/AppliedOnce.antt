@@ -23,6 +23,7 @@ use Rattle.one_commit.specs.declared.changes.ItemChange.{ItemChange}
 use Rattle.one_commit.specs.Editing.{AreEdits, counts_by, edited_by, items_for, marks_by_changes}
 use Rattle.redo_journal.specs.Commit.{frame_byte}
 use Rattle.redo_journal.specs.Frames.{Batch}
+use Rattle.redo_journal.specs.Neighbours.{run_count}
 use Rattle.segment.specs.Rows.{key_at}
 use Rattle.segment.specs.declared.fault.StoreFault.TheVariants.{Failed}
 use Rattle.segment_frames.specs.Lists.{segments_in}
@@ -35,10 +36,12 @@ use Rattle.pma_store.specs.declared.look.Look.{Look}
 use Rattle.pma_store.specs.Answers.{state_in}
 use Rattle.pma_store.specs.AtOnce.{CommitsEdits, CommitsFrames}
 use Rattle.pma_store.specs.Batching.{AppliesBatch, done_by, items_made, map_after_batch, version_of}
+use Rattle.pma_store.specs.BatchCalls.{CallsBatch, LooksOnce}
 use Rattle.pma_store.specs.Changing.{most_written}
 use Rattle.pma_store.specs.Costing.{updates_cost, WritesSome}
 use Rattle.pma_store.specs.Judging.{counts_of as counts_judged, edits_of, judged_of, total}
 use Rattle.pma_store.specs.Store.{StoreView, Stands, limit_of}
+use Rattle.pma_store.proofs.BatchCalls.{commit_behind, runs_few}
 use Rattle.pma_store.proofs.Batched.{fault_batch}
 use Rattle.pma_store.proofs.Committed.{IsReadyAtOnce, member, commit_touches, commit_idle, commit_means, balanced, holds, are, lays, reached, loads, counts_are, changes_are, size, stands, same_layout, tall}
 use Rattle.pma_store.proofs.Effects.{charges_edits, costs_edits, edits_in}
@@ -110,16 +113,23 @@ module _ {a : View} (items : List Update) (s : StoreView) (numbers : List ℕ) (
       bytes = omega (arith, cost, cost_covers, ap (updates_cost s.place.layout (state_in s a.held)) (take_all (length items) items (omega arith)));
     })
 
-  pub not_committed : {c : View} → (fault : disk.Failed) (frames : CommitsFrames s.place look.count (Err fault) b a c) → AppliesBatch items (Err Failed) s s a c
-  not_committed {c} fault frames = fault_batch items Failed s s
+  -- the calls of a commit, behind a look
+  few_runs : run_count b.numbers ≤ look.count
+  few_runs = omega (arith, ap run_count ready.loaded.held.pages, runs_few s.place.layout.format (segments_in s.place.layout.format b.numbers), ready.loaded.count_is)
+
+  pub once_looked : {start c : View} (looked : LooksOnce items s.tally.height start a) → look.count ≤ length looked.looked → c.calls ≤ a.calls + (8 + run_count b.numbers) → CallsBatch items s start c
+  once_looked looked few_looked calls = commit_behind items s (run_count b.numbers) looked (omega (arith, few_runs, few_looked)) calls
+
+  pub not_committed : {c : View} → (fault : disk.Failed) (looked : LooksOnce items s.tally.height a a) → look.count ≤ length looked.looked → (frames : CommitsFrames s.place look.count (Err fault) b a c) → AppliesBatch items (Err Failed) s s a c
+  not_committed {c} fault looked few_looked frames = fault_batch items Failed s s
       (commit_means items s numbers b look judged changes ready law frames.steps (map_after_batch (version_of s) (limit_of s) (map_of a.held) items) mapped)
       (commit_touches items s numbers b look judged changes ready frames.steps)
       refl refl
       (λ told. writes told c frames.cost)
-      (omega (arith, frames.cost, most_covers s.place.layout (limit_of s) look.count (length items) (omega (arith, few, all))))
+      (omega (arith, frames.cost, most_covers s.place.layout (limit_of s) look.count (length items) (omega (arith, few, all)))) (once_looked looked few_looked frames.calls)
       (λ told. refl) tt (inl refl) (λ failed. frames.cause)
 
-  module _ {c : View} (law_c : Lawful c) (index : IndexView) (tally : TallyView) (commits : CommitsEdits s.place look changes (Ok tt) b s.index index s.tally tally a c) where
+  module _ {c : View} (looked : LooksOnce items s.tally.height a a) (few_looked : look.count ≤ length looked.looked) (law_c : Lawful c) (index : IndexView) (tally : TallyView) (commits : CommitsEdits s.place look changes (Ok tt) b s.index index s.tally tally a c) where
     abbrev t : StoreView
     t = record s { tally = tally; index = index }
 
@@ -219,6 +229,8 @@ module _ {a : View} (items : List Update) (s : StoreView) (numbers : List ℕ) (
         cost = λ told. omega (arith, commits.frames.cost, cost_covers told, ap (updates_cost s.place.layout (state_in s a.held)) (all_items told));
         most = λ told. writes told c commits.frames.cost;
         spent = omega (arith, commits.frames.cost, most_covers s.place.layout (limit_of s) look.count (length items) (omega (arith, few, all)));
+        looks = λ refusal. absurd refusal;
+        calls = once_looked looked few_looked commits.frames.calls;
         paid = omega (arith, commits.paid, ready.fits.listed, all);
         met = tt;
         complete = λ told calm. refl;

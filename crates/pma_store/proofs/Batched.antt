@@ -24,6 +24,7 @@ use Rattle.pma_store.specs.declared.answers.Batch.{Batch}
 use Rattle.pma_store.specs.declared.answers.Batch.TheVariants.{Done, Full, NoBatch}
 use Rattle.pma_store.specs.Answers.{state_in}
 use Rattle.pma_store.specs.Batching.{AppliesBatch, IsBatchPlace, IsRefusal, batch_answer, charge_in, done_by, intent_cost_in, items_made, map_after_batch, version_of}
+use Rattle.pma_store.specs.BatchCalls.{CallsBatch, CallsIntent, LooksOnce}
 use Rattle.pma_store.specs.Costing.{most_of, updates_cost, WritesSome}
 use Rattle.pma_store.specs.Items.{IsItemPlace, MakesItems}
 use Rattle.pma_store.specs.Judging.{JudgesItems, judged_of}
@@ -31,6 +32,7 @@ use Rattle.pma_store.specs.Damaging.{IsMetLooking, IsMetMid}
 use Rattle.pma_store.specs.Looking.{TellsOther}
 use Rattle.pma_store.specs.Meaning.{BecomesMeant}
 use Rattle.pma_store.specs.Store.{StoreView, Stands, StandsOn, IsOpenOn, limit_of}
+use Rattle.pma_store.proofs.BatchCalls.{are_from, intent_alone, look_alone, no_looks}
 use Rattle.pma_store.proofs.Making.{no_fault, same_fault, stands_again, stands_on, stands_there}
 use Rattle.pma_store.proofs.Moments.{IsReadyFor, begin_held, begin_steps, begun_then, idle_even, if_told, meant_idle}
 use Rattle.pma_store.proofs.Spared.{spared_stands, spared_state}
@@ -46,9 +48,9 @@ fails_by a b fault damaged failed told calm = absurd (calm (failed (ap Err (dama
 pub fault_batch : {a c : View} (items : List Update) (fault : StoreFault) (s t : StoreView)
     → Steps (BecomesMeant (map_of a.held) (map_after_batch (version_of s) (limit_of s) (map_of a.held) items)) a c → Steps (Touched (IsBatchPlace s.place.layout)) a c → t.place.layout ≡ s.place.layout → t.closed ≡ s.closed
     → (Told a → WritesSome s.place.layout (state_in s a.held) (items_made (version_of s) (limit_of s) (map_of a.held) items) (a.travel.written + 514) c.travel.written)
-    → c.travel.written ≤ a.travel.written + (most_of s.place.layout (length items) + 514)
+    → c.travel.written ≤ a.travel.written + (most_of s.place.layout (length items) + 514) → CallsBatch items s a c
     → (Told a → fault ≡ Failed) → TellsOther (2 ^ limit_of s) fault → (fault ≡ Failed) ⊎ ((IsMetLooking s.place s.tally fault c × (c.travel.written ≡ a.travel.written)) ⊎ IsMetMid items s t fault c) → (IsErrOf {T = Batch} (Err fault) Failed → Rose a.disk_faults c.disk_faults) → AppliesBatch items (Err fault) s t a c
-fault_batch {a} {c} items fault s t meant touched layout closed most spent damaged counted met failed = record {
+fault_batch {a} {c} items fault s t meant touched layout closed most spent calls damaged counted met failed = record {
   batch = record {
     answer = tt;
     state = tt;
@@ -61,6 +63,8 @@ fault_batch {a} {c} items fault s t meant touched layout closed most spent damag
     cost = tt;
     most = most;
     spent = spent;
+    looks = tt;
+    calls = calls;
     paid = tt;
     met = met;
     complete = fails_by a c fault damaged failed;
@@ -75,7 +79,7 @@ fault_batch {a} {c} items fault s t meant touched layout closed most spent damag
 
 -- Calls that change no byte.
 
-module _ {a c : View} (items : List Update) (s : StoreView) (is : IsOpenOn s a) (steps : Steps Same a c) (unwritten : c.travel.written ≡ a.travel.written) where
+module _ {a c : View} (items : List Update) (s : StoreView) (is : IsOpenOn s a) (steps : Steps Same a c) (unwritten : c.travel.written ≡ a.travel.written) (looks : LooksOnce items s.tally.height a c) where
   still_meant : (next : Map) → Steps (BecomesMeant (map_of a.held) next) a c
   still_meant next = weaken steps (λ d i left same.
       let idle = is.no_intent d left in
@@ -104,6 +108,8 @@ module _ {a c : View} (items : List Update) (s : StoreView) (is : IsOpenOn s a) 
       cost = λ told. omega (arith, unwritten);
       most = λ told. still_written (items_made (version_of s) (limit_of s) (map_of a.held) items) (state_in s a.held);
       spent = omega (arith, unwritten);
+      looks = λ _. looks;
+      calls = look_alone items s looks;
       paid = omega (arith, nothing done refusal);
       met = tt;
       complete = λ told calm. refl;
@@ -125,7 +131,7 @@ module _ {a c : View} (items : List Update) (s : StoreView) (is : IsOpenOn s a) 
 pub no_batch : {a : View} (items : List Update) (s : StoreView) → IsOpenOn s a → Lawful a → Steps Same a a → version_of s < INTENT_VERSION → AppliesBatch items (Ok NoBatch) s s a a
 no_batch {a} items s is law steps early =
     let below : nat_le INTENT_VERSION (version_of s) ≡ false = le_false INTENT_VERSION (version_of s) early in
-    refused_batch items s is steps refl NoBatch law tt (λ _. (refl, refl))
+    refused_batch items s is steps refl (no_looks items s.tally.height a) NoBatch law tt (λ _. (refl, refl))
     (λ told. ap (λ (b : Bool). b && is_none (first_full (limit_of s) (map_of a.held) items)) below)
     (λ told. sym (ap (λ (b : Bool). cond b (cond (is_some (first_full (limit_of s) (map_of a.held) items)) (Full (upper_of (limit_of s))) (done_by (count_items (limit_of s) (map_of a.held) items no_items) (charge_after_items (limit_of s) (state_in s a.held) items))) NoBatch) below))
   where
@@ -158,7 +164,7 @@ full_batch {a} {c} items s t most is law version most_is judges =
     let at_version = le_true INTENT_VERSION (version_of s) version in
     let full = λ (told : Told a). none_by (first_full (limit_of s) (map_of a.held) items) (count_items (limit_of s) (map_of a.held) items no_items) (judges.judged told) in
     subst (λ (t : StoreView). AppliesBatch items (Ok (Full most)) s t a c) (sym judges.store)
-    (refused_batch items s is judges.steps judges.unwritten (Full most) law tt (λ e. absurd cc)
+    (refused_batch items s is judges.steps judges.unwritten judges.looks (Full most) law tt (λ e. absurd cc)
     (λ told. (λ τ. at_version τ && is_none (first_full (limit_of s) (map_of a.held) items)) ∙ not_none (first_full (limit_of s) (map_of a.held) items) (full told))
     (λ told. ap Full most_is ∙ sym (λ τ. cond (at_version τ) (cond (full told τ) (Full (upper_of (limit_of s))) (done_by (count_items (limit_of s) (map_of a.held) items no_items) (charge_after_items (limit_of s) (state_in s a.held) items))) NoBatch)))
 
@@ -166,17 +172,17 @@ full_batch {a} {c} items s t most is law version most_is judges =
 pub judging_fails : {a c : View} (items : List Update) (fault : StoreFault) (s t : StoreView) → IsOpenOn s a → JudgesItems items (Err fault) s t a c → AppliesBatch items (Err fault) s t a c
 judging_fails {a} {c} items fault s t is judges =
     fault_batch items fault s t
-    (still_meant items s is judges.steps judges.unwritten (map_after_batch (version_of s) (limit_of s) (map_of a.held) items))
-    (still_touched items s is judges.steps judges.unwritten)
+    (still_meant items s is judges.steps judges.unwritten judges.looks (map_after_batch (version_of s) (limit_of s) (map_of a.held) items))
+    (still_touched items s is judges.steps judges.unwritten judges.looks)
     (ap (λ (s : StoreView). s.place.layout) judges.store) (ap (λ (s : StoreView). s.closed) judges.store)
-    (λ told. still_written items s is judges.steps judges.unwritten (items_made (version_of s) (limit_of s) (map_of a.held) items) (state_in s a.held))
-    (omega (arith, judges.unwritten))
+    (λ told. still_written items s is judges.steps judges.unwritten judges.looks (items_made (version_of s) (limit_of s) (map_of a.held) items) (state_in s a.held))
+    (omega (arith, judges.unwritten)) (look_alone items s judges.looks)
     judges.damaged judges.counted (inr (inl (judges.met, judges.unwritten))) (λ failed. judges.failed (same_fault fault (λ e. e) failed))
 
 -- it was judged, and then run
-pub judged_then : {a b c : View} (items : List Update) (r : Result Batch StoreFault) (s t : StoreView) → IsOpenOn s a → Lawful a → Steps Same a b → b.travel.written ≡ a.travel.written → IfOk r (λ done. done ≡ NoBatch → ⊥)
-    → AppliesBatch items r s t b c → AppliesBatch items r s t a c
-judged_then {a} {b} {c} items r s t is law first unwritten some applies =
+pub judged_then : {a b c : View} (items : List Update) (r : Result Batch StoreFault) (s t : StoreView) → IsOpenOn s a → Lawful a → Steps Same a b → b.travel.written ≡ a.travel.written → LooksOnce items s.tally.height a b → CallsBatch items s a c
+    → IfOk r (λ done. ¬ IsRefusal done) → AppliesBatch items r s t b c → AppliesBatch items r s t a c
+judged_then {a} {b} {c} items r s t is law first unwritten looks calls some applies =
     let made = applies.batch in
     let told_on_b = λ (told : Told a). told_on first.frame told in
     record {
@@ -184,10 +190,10 @@ judged_then {a} {b} {c} items r s t is law first unwritten some applies =
         answer = IfOk-weaker r _ _ (λ done answer told. subst (λ (x : List ℕ). done ≡ batch_answer (version_of s) (limit_of s) (state_in s x) items) (first.held told) (answer (told_on_b told))) made.answer;
         state = on_ok_weaker r (λ state told. subst (λ (x : List ℕ). state_in t c.held ≡ array_state_after_batch (version_of s) (limit_of s) (state_in s x) items) (first.held told) (state (told_on_b told))) made.state;
         refused = IfOk-weaker r _ _ (λ done leaves refusal. leaves_on first unwritten (leaves refusal)) made.refused;
-        unread = IfOk-weaker r _ _ (λ done not is. absurd (not is)) some;
+        unread = IfOk-weaker r _ _ (λ done not is. absurd (not (subst IsRefusal (sym is) tt))) some;
         meant = if_told law (frame_on first.frame made.meant.frame) (λ told.
             let own = subst (λ (x : List ℕ). Steps (BecomesMeant (map_of x) (map_after_batch (version_of s) (limit_of s) (map_of x) items)) b c) (first.held told) made.meant in
-            andthen (still_meant items s is first unwritten (map_after_batch (version_of s) (limit_of s) (map_of a.held) items)) own (λ d i left one. one) (λ d e i left one mid two. two));
+            andthen (still_meant items s is first unwritten looks (map_after_batch (version_of s) (limit_of s) (map_of a.held) items)) own (λ d i left one. one) (λ d e i left one mid two. two));
         touched = on_same first made.touched (λ d. untouched d d refl);
         layout = made.layout;
         images = IfOk-weaker r _ _ (λ done images. omega (arith, images, unwritten)) made.images;
@@ -196,6 +202,8 @@ judged_then {a} {b} {c} items r s t is law first unwritten some applies =
             let own = subst (λ (x : List ℕ). WritesSome s.place.layout (state_in s x) (items_made (version_of s) (limit_of s) (map_of x) items) (b.travel.written + 514) c.travel.written) (first.held told) (made.most (told_on_b told)) in
             subst (λ (n : ℕ). WritesSome s.place.layout (state_in s a.held) (items_made (version_of s) (limit_of s) (map_of a.held) items) (n + 514) c.travel.written) unwritten own;
         spent = omega (arith, made.spent, unwritten);
+        looks = IfOk-weaker r _ _ (λ done not refusal. absurd (not refusal)) some;
+        calls = calls;
         paid = made.paid;
         met = IfErr-weaker r _ _ (λ fault met. elim met [ inl disk ↦ inl disk | inr more ↦ elim more [ inl looked ↦ inr (inl (looked.0, looked.1 ∙ unwritten)) | inr mid ↦ inr (inr mid) ] ]) made.met;
         complete = λ told calm. made.complete (told_on_b told) (λ rose. calm (omega (arith, rose, first.frame.disk_faults)));
@@ -248,17 +256,31 @@ module _ {a b : View} (items : List Update) (s : StoreView) (is : IsOpenOn s a) 
   state_intent told = spared_state s a.held b.held (stands_there s is.on told) (writes.held told).touched
 
   -- the intent wasn't written
-  pub not_written : b.travel.written ≤ a.travel.written + 513 → Rose a.disk_faults b.disk_faults → AppliesBatch items (Err Failed) s s a b
-  not_written cost rose =
+  pub not_called : b.calls ≤ a.calls + 4 → CallsIntent items s a b
+  not_called four = record {
+    calls = 6;
+    is_for = record { of_items = 0; are_for = record { begun = 0; some = omega arith; last = s.tally; are_for = (refl, refl) }; is = refl };
+    most = omega (arith, four);
+  }
+
+  pub not_written : b.travel.written ≤ a.travel.written + 513 → b.calls ≤ a.calls + 4 → Rose a.disk_faults b.disk_faults → AppliesBatch items (Err Failed) s s a b
+  not_written cost four rose =
       fault_batch items Failed s s
       (if_told law writes.frame (λ told. subst (λ (m : Map). Steps (BecomesMeant (map_of a.held) m) a b) (all_mapped told) (begin_steps s.place.layout (map_of a.held) items version some intent a b (facts told).0 ready writes)))
       (touched_in (IsBatchPlace s.place.layout) (λ p there. inr there) touches_intent)
       refl refl
       (λ told. record { made = 0; some = omega arith; bytes = omega (arith, cost) })
-      (omega (arith, cost))
+      (omega (arith, cost)) (intent_alone items s (not_called four))
       (λ told. refl) tt (inl refl) (λ failed. rose)
 
   -- and then the items were made
+  pub intent_called : {c : View} (t : StoreView) (r : Result ℕ StoreFault) → b.calls ≤ a.calls + 4 → MakesItems items r s t b c → CallsIntent items s a c
+  intent_called t r four makes = record {
+    calls = 6 + makes.of_items;
+    is_for = record { of_items = makes.of_items; are_for = are_from items s makes.of_items (λ told. told_on writes.frame told) state_intent makes.are_for; is = refl };
+    most = omega (arith, four, makes.calls);
+  }
+
   module _ {c : View} (t : StoreView) (r : Result ℕ StoreFault) (law_b : Lawful b) (settled : NothingPending b) (opened : Told a → byte b.held 640 ≡ 1) (cost : b.travel.written ≤ a.travel.written + 513) (makes : MakesItems items r s t b c) where
     item_places : (p : ℕ) → IsItemPlace s.place.layout p → IsBatchPlace s.place.layout p
     item_places p (inl update) = inl update
@@ -279,11 +301,11 @@ module _ {a b : View} (items : List Update) (s : StoreView) (is : IsOpenOn s a) 
         let own = subst (λ (x : ArrayState). WritesSome s.place.layout x items (b.travel.written + 1) c.travel.written) (state_intent told) (makes.most (told_on writes.frame told)) in
         subst (λ (us : List Update). WritesSome s.place.layout (state_in s a.held) us (a.travel.written + 514) c.travel.written) (sym (all_items told)) (record { made = own.made; some = own.some; bytes = omega (arith, own.bytes, cost) })
 
-  module _ {c : View} (t : StoreView) (law_b : Lawful b) (settled : NothingPending b) (opened : Told a → byte b.held 640 ≡ 1) (cost : b.travel.written ≤ a.travel.written + 513) where
+  module _ {c : View} (t : StoreView) (law_b : Lawful b) (settled : NothingPending b) (opened : Told a → byte b.held 640 ≡ 1) (cost : b.travel.written ≤ a.travel.written + 513) (four : b.calls ≤ a.calls + 4) where
     pub items_fail : (fault : StoreFault) → MakesItems items (Err fault) s t b c → AppliesBatch items (Err fault) s t a c
     items_fail fault makes =
         fault_batch items fault s t (run_meant t (Err fault) law_b settled opened cost makes) (run_touched t (Err fault) law_b settled opened cost makes) makes.layout makes.closed
-        (run_most t (Err fault) law_b settled opened cost makes) (omega (arith, makes.spent, cost)) (λ told. makes.damaged (told_on writes.frame told)) makes.counted (elim makes.met [ inl disk ↦ inl disk | inr mid ↦ inr (inr mid) ])
+        (run_most t (Err fault) law_b settled opened cost makes) (omega (arith, makes.spent, cost)) (intent_alone items s (intent_called t (Err fault) four makes)) (λ told. makes.damaged (told_on writes.frame told)) makes.counted (elim makes.met [ inl disk ↦ inl disk | inr mid ↦ inr (inr mid) ])
         (λ failed. omega (arith, makes.failed (same_fault fault (λ e. e) failed), writes.frame.disk_faults))
 
     pub whole_batch : (charge : ℕ) → MakesItems items (Ok charge) s t b c → AppliesBatch items (Ok (done_by counts charge)) s t a c
@@ -308,6 +330,8 @@ module _ {a b : View} (items : List Update) (s : StoreView) (is : IsOpenOn s a) 
             omega (arith, own, cost, ap (λ (x : ArrayState). updates_cost s.place.layout x items) (state_intent told), ap (updates_cost s.place.layout (state_in s a.held)) (all_items told));
         most = run_most t (Ok charge) law_b settled opened cost makes;
         spent = omega (arith, makes.spent, cost);
+        looks = λ refusal. absurd refusal;
+        calls = intent_alone items s (intent_called t (Ok charge) four makes);
         paid = makes.paid;
         met = tt;
         complete = λ told calm. refl;

@@ -1,5 +1,5 @@
 -- What a store tells of an update is what the update is charged, and what it writes at most.
-use Rattle.std.proofs.Common.{◌≡◌, inl, inr, ℕ, ◌+◌, ◌*◌, ◌^◌, ◌≤◌, Bool, true, false, cond, not, ◌||◌, nat_lt, List, length, Option, Some, None, refl, sym, ◌∙◌, ap, subst, arith}
+use Rattle.std.proofs.Common.{◌≡◌, inl, inr, ℕ, ◌+◌, ◌*◌, ◌^◌, ◌≤◌, Bool, true, false, cond, nat_lt, List, length, Option, Some, None, refl, sym, ◌∙◌, ap, subst, arith}
 use Rattle.std.specs.FinMap.{contains_key}
 use Rattle.std.proofs.lemmas.Bool.{cases_eq}
 use Rattle.density_rule.specs.Bounds.{upper_of}
@@ -10,18 +10,18 @@ use Rattle.header_gate.specs.Places.{IsSlotFormat}
 use Rattle.key_slot.specs.Record.{Bytes}
 use Rattle.map_model.specs.Array.{Array, rows, segment_for}
 use Rattle.map_model.specs.ArrayState.{UpdateReport, report_of, report_by_change}
-use Rattle.map_model.specs.ArrayUpdates.{has_key, change_of, key_of, broken_for, array_after}
-use Rattle.map_model.specs.Charges.{charge_after}
+use Rattle.map_model.specs.ArrayUpdates.{has_key, change_of, broken_for, array_after, effect_in, effect_change}
+use Rattle.map_model.specs.Charges.{charge_after, effect_charge}
 use Rattle.map_model.specs.Holding.{IsNext}
 use Rattle.map_model.specs.Image.{array_of, height_of, map_of}
-use Rattle.map_model.specs.Store.{Update, bind, unbind, height_after}
+use Rattle.map_model.specs.Store.{Update, bind, unbind, height_after, key_of, effect_by}
 use Rattle.map_model.proofs.UpdateLaws.{next_after}
 use Rattle.cost_ledger.specs.Work.{charge_by}
 use Rattle.cost_ledger.specs.declared.work.Work.TheVariants as work
 use Rattle.cost_ledger.proofs.Charging.{charge_is}
 use Rattle.pma_store.specs.Answers.{state_in, put_answer, reported}
 use Rattle.pma_store.specs.Charging.{charge_told, put_changes, spread_work, changes}
-use Rattle.pma_store.specs.Changing.{outcome_of, update_cost}
+use Rattle.pma_store.specs.Changing.{outcome_of, update_cost, effect_outcome}
 use Rattle.pma_store.specs.Costing.{has_effect, report_cost, update_cost_in}
 use Rattle.pma_store.specs.Store.{StoreView, Stands, limit_of}
 use Rattle.pma_store.specs.declared.answers.Put.{Put}
@@ -38,27 +38,18 @@ quiet_charge next r is = by_parts (ap (λ (u : UpdateReport). u.resized) is) (ap
     by_parts : r.resized ≡ false → r.rebalanced ≡ None → charge_told next true r ≡ 2
     by_parts same none = λ t. charge_by (cond (same t) (work.Resize next) (spread_work (none t)))
 
-charge_bind : (hmax height : ℕ) (segments : Array) (key value : Bytes) → charge_after hmax height segments (bind key value) ≡ cond (has_key segments key) 2 (cond (nat_lt (length (rows segments)) (upper_of hmax)) (charge_of true height (broken_for true height segments key)) 0)
+charge_made : (hmax height : ℕ) (segments : Array) (u : Update) → charge_after hmax height segments u ≡ effect_charge (effect_in hmax segments u) height segments (key_of u)
 unfolding charge_after
-charge_bind hmax height segments key value = refl
-
-charge_unbind : (hmax height : ℕ) (segments : Array) (key : Bytes) → charge_after hmax height segments (unbind key) ≡ cond (has_key segments key) (charge_of false height (broken_for false height segments key)) 0
-unfolding charge_after
-charge_unbind hmax height segments key = refl
+charge_made hmax height segments u = refl
 
 -- an outcome says whether anything changed
 pub effect_is : (hmax : ℕ) (segments : Array) (u : Update) → changes (outcome_of hmax segments u) ≡ has_effect hmax segments u
-effect_is hmax segments (bind key value) = go (has_key segments key) (nat_lt (length (rows segments)) (upper_of hmax))
-  where
-    go : (b r : Bool) → changes (cond b Replaced (cond r Changed Unchanged)) ≡ (b || r)
-    go true r = refl
-    go false true = refl
-    go false false = refl
-effect_is hmax segments (unbind key) = go (has_key segments key)
-  where
-    go : (b : Bool) → changes (cond b Changed Unchanged) ≡ b
-    go true = refl
-    go false = refl
+effect_is hmax segments u = refl
+
+-- a removal changes something where its key is there
+removes : (key : Bytes) (b r : Bool) → b ≡ changes (effect_outcome (effect_by b r (unbind key)))
+removes key true r = refl
+removes key false r = refl
 
 module _ (s : StoreView) (image : List ℕ) (stands : Stands s image) where
   -- an update that adds a record or takes one
@@ -74,26 +65,26 @@ module _ (s : StoreView) (image : List ℕ) (stands : Stands s image) where
   -- by whether it changes anything
   pub charged : (u : Update) (changed : Bool) → changed ≡ has_effect (limit_of s) (array_of image) u → (r : Report) → reported r ≡ report_of (limit_of s) (state_in s image) u → (next : ℕ) → next ≡ height_after (limit_of s) (height_of image) (map_of image) u
       → charge_told next changed r ≡ charge_after (limit_of s) (height_of image) (array_of image) u
-  charged (bind key value) changed is r report next at = go (has_key (array_of image) key) (nat_lt (length (rows (array_of image))) (upper_of (limit_of s))) refl refl ∙ sym (charge_bind (limit_of s) (height_of image) (array_of image) key value)
+  charged (bind key value) changed is r report next at = go (has_key (array_of image) key) (nat_lt (length (rows (array_of image))) (upper_of (limit_of s))) refl refl ∙ sym (charge_made (limit_of s) (height_of image) (array_of image) (bind key value))
     where
       of : Bool → Bool → ℕ
-      of b room = cond b 2 (cond room (charge_of true (height_of image) (broken_for true (height_of image) (array_of image) key)) 0)
+      of b room = effect_charge (effect_by b room (bind key value)) (height_of image) (array_of image) key
 
       go : (b room : Bool) → has_key (array_of image) key ≡ b → nat_lt (length (rows (array_of image))) (upper_of (limit_of s)) ≡ room
           → charge_told next changed r ≡ of (has_key (array_of image) key) (nat_lt (length (rows (array_of image))) (upper_of (limit_of s)))
-      go true room e f = ap (λ b. charge_told next b r) (is ∙ ap (λ b. b || nat_lt (length (rows (array_of image))) (upper_of (limit_of s))) e) ∙ quiet_charge next r (report ∙ replaced_report s image stands key value e) ∙ sym (ap (λ b. of b (nat_lt (length (rows (array_of image))) (upper_of (limit_of s)))) e)
+      go true room e f = ap (λ b. charge_told next b r) (is ∙ ap (λ (b : Bool). changes (effect_outcome (effect_by b (nat_lt (length (rows (array_of image))) (upper_of (limit_of s))) (bind key value)))) e) ∙ quiet_charge next r (report ∙ replaced_report s image stands key value e) ∙ sym (ap (λ b. of b (nat_lt (length (rows (array_of image))) (upper_of (limit_of s)))) e)
       go false true e f =
-          let change : change_of (limit_of s) (array_of image) (bind key value) ≡ Some true = λ t. cond (e t || not (f t)) None (Some true) in
-          ap (λ b. charge_told next b r) (is ∙ (λ t. e t || f t)) ∙ by_change (bind key value) true change r report next at ∙ sym (λ t. of (e t) (f t))
-      go false false e f = ap (λ b. charge_told next b r) (is ∙ (λ t. e t || f t)) ∙ sym (λ t. of (e t) (f t))
-  charged (unbind key) changed is r report next at = go (has_key (array_of image) key) refl ∙ sym (charge_unbind (limit_of s) (height_of image) (array_of image) key)
+          let change : change_of (limit_of s) (array_of image) (bind key value) ≡ Some true = λ t. effect_change (effect_by (e t) (f t) (bind key value)) in
+          ap (λ b. charge_told next b r) (is ∙ (λ t. changes (effect_outcome (effect_by (e t) (f t) (bind key value))))) ∙ by_change (bind key value) true change r report next at ∙ sym (λ t. of (e t) (f t))
+      go false false e f = ap (λ b. charge_told next b r) (is ∙ (λ t. changes (effect_outcome (effect_by (e t) (f t) (bind key value))))) ∙ sym (λ t. of (e t) (f t))
+  charged (unbind key) changed is r report next at = go (has_key (array_of image) key) refl ∙ sym (charge_made (limit_of s) (height_of image) (array_of image) (unbind key))
     where
       of : Bool → ℕ
-      of b = cond b (charge_of false (height_of image) (broken_for false (height_of image) (array_of image) key)) 0
+      of b = effect_charge (effect_by b (nat_lt (length (rows (array_of image))) (upper_of (limit_of s))) (unbind key)) (height_of image) (array_of image) key
 
       go : (b : Bool) → has_key (array_of image) key ≡ b → charge_told next changed r ≡ of (has_key (array_of image) key)
-      go true e = ap (λ b. charge_told next b r) (is ∙ e) ∙ by_change (unbind key) false (ap (λ b. cond b (Some false) None) e) r report next at ∙ sym (ap of e)
-      go false e = ap (λ b. charge_told next b r) (is ∙ e) ∙ sym (ap of e)
+      go true e = ap (λ b. charge_told next b r) (is ∙ sym (removes key (has_key (array_of image) key) (nat_lt (length (rows (array_of image))) (upper_of (limit_of s)))) ∙ e) ∙ by_change (unbind key) false (ap (λ (b : Bool). effect_change (effect_by b (nat_lt (length (rows (array_of image))) (upper_of (limit_of s))) (unbind key))) e) r report next at ∙ sym (ap of e)
+      go false e = ap (λ b. charge_told next b r) (is ∙ sym (removes key (has_key (array_of image) key) (nat_lt (length (rows (array_of image))) (upper_of (limit_of s)))) ∙ e) ∙ sym (ap of e)
 
   -- what the calls answer says whether anything changed
   pub put_effect : (key value : Bytes) (answer : Put) → answer ≡ put_answer (limit_of s) (map_of image) key → put_changes answer ≡ has_effect (limit_of s) (array_of image) (bind key value)
@@ -101,7 +92,7 @@ module _ (s : StoreView) (image : List ℕ) (stands : Stands s image) where
       ap put_changes (is ∙ sym (put_answered s image stands key value)) ∙ put_changed (limit_of s) (outcome_of (limit_of s) (array_of image) (bind key value)) ∙ effect_is (limit_of s) (array_of image) (bind key value)
 
   pub take_effect : (key : Bytes) (took : Bool) → took ≡ contains_key (map_of image) key → took ≡ has_effect (limit_of s) (array_of image) (unbind key)
-  take_effect key took is = is ∙ sym (has_is s image stands key)
+  take_effect key took is = is ∙ sym (has_is s image stands key) ∙ removes key (has_key (array_of image) key) (nat_lt (length (rows (array_of image))) (upper_of (limit_of s)))
 
   -- what it writes at most, by its report and by the state
   pub cost_told : (u : Update) (changed : Bool) → changed ≡ has_effect (limit_of s) (array_of image) u → (r : Report) → reported r ≡ report_of (limit_of s) (state_in s image) u → (next : ℕ) → next ≡ height_after (limit_of s) (height_of image) (map_of image) u

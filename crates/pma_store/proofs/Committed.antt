@@ -26,12 +26,11 @@ use Rattle.key_slot.specs.Segment.{segment_bytes}
 use Rattle.key_slot.proofs.SegmentLaws.{times_up}
 use Rattle.map_model.specs.Array.{Array, counts_of, segment_at}
 use Rattle.map_model.specs.ArrayState.{ArrayState, HasState, next_states}
-use Rattle.map_model.specs.ArrayUpdates.{key_of}
 use Rattle.map_model.specs.Batches.{IsNone, IsSegmentImage, LaysBatch}
 use Rattle.map_model.specs.Holding.{HoldsMap, IsBalancedArray}
 use Rattle.map_model.specs.Image.{Represents, array_of, height_of, map_of, slot_format}
 use Rattle.map_model.specs.Items.{map_after_items}
-use Rattle.map_model.specs.Store.{Map, Update}
+use Rattle.map_model.specs.Store.{Map, Update, key_of}
 use Rattle.map_model.proofs.Recovering.{kept}
 use Rattle.map_model.proofs.SessionLaws.{holds_of}
 use Rattle.one_commit.specs.declared.changes.ItemChange.{ItemChange}
@@ -93,6 +92,7 @@ module _ {a c : View} (items : List Update) (s : StoreView) (numbers : List ℕ)
     store = refl;
     steps = looks.steps;
     unwritten = looks.unwritten;
+    looks = looks.looks;
     met = tt;
     damaged = tt;
     counted = tt;
@@ -111,6 +111,7 @@ looks_fail items fault s numbers b look tall looks = record {
   store = refl;
   steps = looks.steps;
   unwritten = looks.unwritten;
+  looks = looks.looks;
   met = looks.met;
   damaged = looks.damaged;
   counted = found_within s looks.met.at tall looks.met.within fault looks.met.damage;

@@ -1,29 +1,30 @@
 -- How many items of a batch edit a segment, what they are charged, and what they cost at least.
-use Rattle.std.proofs.Common.{◌≡◌, ℕ, zero, suc, ◌+◌, ◌*◌, ◌^◌, ◌<◌, ◌≤◌, Bool, true, false, cond, not, ◌||◌, nat_lt, List, [], ◌∷◌, length, get_or, Option, Some, None, refl, sym, ap, ◌∙◌, arith, is_some}
+use Rattle.std.proofs.Common.{◌≡◌, ℕ, zero, suc, ◌+◌, ◌*◌, ◌^◌, ◌<◌, ◌≤◌, Bool, true, false, cond, not, nat_lt, List, [], ◌∷◌, length, get_or, Option, Some, None, refl, sym, ap, subst, ◌∙◌, arith, is_some}
 use mathlib.Core.Bool.{true≢false}
 use Rattle.std.specs.Str.{bytes_eq}
-use Rattle.std.specs.FinMap.{contains_key}
+use Rattle.std.specs.FinMap.{contains_key, len}
 use Rattle.std.proofs.lemmas.Nat.{pow_pos}
 use Rattle.density_rule.specs.declared.Window.{Window}
 use Rattle.density_rule.specs.Bounds.{upper_of}
 use Rattle.header_gate.specs.declared.layout.Layout.{Layout}
 use Rattle.header_gate.specs.Places.{height_limit}
-use Rattle.map_model.specs.Array.{Array, rows}
+use Rattle.map_model.specs.Array.{Array}
 use Rattle.map_model.specs.ArrayState.{ArrayState, UpdateReport, next_state, report_of}
-use Rattle.map_model.specs.ArrayUpdates.{has_key, key_of}
+use Rattle.map_model.specs.ArrayUpdates.{has_key}
 use Rattle.map_model.specs.Holding.{HoldsMap, IsBalancedArray}
-use Rattle.map_model.specs.Items.{ItemCounts, count_item, count_items, are_distinct, has_item, first_full_from, meets_full}
+use Rattle.map_model.specs.Items.{ItemCounts, count_item, count_items, are_distinct, has_item, first_full_from, meets_full, is_full, effect_count}
 use Rattle.std.specs.Cmp.Lexicographic.{nat_list_eq_equiv}
 use Rattle.key_slot.specs.Record.{Bytes}
 use Rattle.key_slot.proofs.SegmentLaws.{times_up}
-use Rattle.map_model.proofs.Entries.{find-rows, length-rows}
 use Rattle.map_model.proofs.Resuming.{get_other}
-use Rattle.map_model.specs.Store.{Map, Update, bind, unbind, map_after}
+use Rattle.map_model.specs.Store.{Map, Update, bind, unbind, map_after, key_of, Effect, effect_by}
 use Rattle.map_model.proofs.UpdateLaws.{holds_after, balanced_after}
+use Rattle.map_model.proofs.Effects.{same_effect}
 use Rattle.one_commit.specs.Editing.{charge_one, charge_by}
 use Rattle.one_commit.proofs.Alike.{both_true, neither_true, not_true}
-use Rattle.pma_store.specs.Changing.{most_written, window_cost}
-use Rattle.pma_store.specs.Costing.{has_effect, report_cost, update_cost_in, updates_cost}
+use Rattle.pma_store.specs.Changing.{most_written, window_cost, effect_outcome}
+use Rattle.pma_store.specs.Costing.{report_cost, update_cost_in, updates_cost}
+use Rattle.pma_store.specs.Charging.{changes}
 
 -- how many of the items edit a segment, by what they do
 abbrev pub edits_in : ItemCounts → ℕ
@@ -37,12 +38,12 @@ one (unbind key) there = cond there 1 0
 counts_one : (m : Map) (u : Update) (c : ItemCounts) → edits_in (count_item m u c) ≡ edits_in c + one u (contains_key m (key_of u))
 counts_one m (bind key value) c = by (contains_key m key)
   where
-    by : (b : Bool) → edits_in (cond b (record c { replaced = c.replaced + 1 }) (record c { stored = c.stored + 1 })) ≡ edits_in c + 1
+    by : (b : Bool) → edits_in (effect_count (effect_by b true (bind key value)) c) ≡ edits_in c + 1
     by true = omega arith
     by false = omega arith
 counts_one m (unbind key) c = by (contains_key m key)
   where
-    by : (b : Bool) → edits_in (cond b (record c { removed = c.removed + 1 }) (record c { absent = c.absent + 1 })) ≡ edits_in c + cond b 1 0
+    by : (b : Bool) → edits_in (effect_count (effect_by b true (unbind key)) c) ≡ edits_in c + cond b 1 0
     by true = omega arith
     by false = omega arith
 
@@ -82,26 +83,17 @@ least_cost l height r = by r.resized r.spread
     by false w = windows w
 
 has_one : (l : Layout) (s : ArrayState) (u : Update) → HoldsMap (height_limit l) s.map s.height s.array → meets_full (height_limit l) s.map u ≡ false → 8196 * l.format * one u (contains_key s.map (key_of u)) ≤ update_cost_in l s u
-has_one l s (bind key value) holds room =
-    let present = find-rows (rows s.array) s.map holds.rows_are key in
-    let size = length-rows (rows s.array) s.map holds.rows_are in
-    let effect : has_effect (height_limit l) s.array (bind key value) ≡ true =
-    ap (λ (b : Bool). b || nat_lt (length (rows s.array)) (upper_of (height_limit l))) present ∙ ap (λ (n : ℕ). contains_key s.map key || nat_lt n (upper_of (height_limit l))) size ∙ not_false _ room in
-    let cost : update_cost_in l s (bind key value) ≡ report_cost l (next_state (height_limit l) s (bind key value)).height (report_of (height_limit l) s (bind key value)) =
-    ap (λ (b : Bool). cond b (report_cost l (next_state (height_limit l) s (bind key value)).height (report_of (height_limit l) s (bind key value))) 0) effect in
-    omega (arith, cost, least_cost l (next_state (height_limit l) s (bind key value)).height (report_of (height_limit l) s (bind key value)))
+has_one l s u holds room =
+    let cost = least_cost l (next_state (height_limit l) s u).height (report_of (height_limit l) s u) in
+    subst (λ (effect : Effect). 8196 * l.format * one u (contains_key s.map (key_of u)) ≤ cond (changes (effect_outcome effect)) (report_cost l (next_state (height_limit l) s u).height (report_of (height_limit l) s u)) 0)
+    (sym (same_effect (height_limit l) s.map s.height s.array holds u)) (by u (contains_key s.map (key_of u)) (nat_lt (len s.map) (upper_of (height_limit l))) room cost)
   where
-    not_false : (b : Bool) → not b ≡ false → b ≡ true
-    not_false true e = refl
-    not_false false e = absurd (true≢false e)
-has_one l s (unbind key) holds room =
-    let present = find-rows (rows s.array) s.map holds.rows_are key in
-    let cost = least_cost l (next_state (height_limit l) s (unbind key)).height (report_of (height_limit l) s (unbind key)) in
-    by (contains_key s.map key) present cost
-  where
-    by : (b : Bool) → has_key s.array key ≡ b → 8196 * l.format ≤ report_cost l (next_state (height_limit l) s (unbind key)).height (report_of (height_limit l) s (unbind key)) → 8196 * l.format * cond b 1 0 ≤ update_cost_in l s (unbind key)
-    by true e cost = omega (arith, cost, ap (λ (b : Bool). cond b (report_cost l (next_state (height_limit l) s (unbind key)).height (report_of (height_limit l) s (unbind key))) 0) e)
-    by false e cost = omega arith
+    by : {n : ℕ} (v : Update) (b r : Bool) → is_full (effect_by b r v) ≡ false → 8196 * l.format ≤ n → 8196 * l.format * one v b ≤ cond (changes (effect_outcome (effect_by b r v))) n 0
+    by (bind key value) true r room cost = omega (arith, cost)
+    by (bind key value) false true room cost = omega (arith, cost)
+    by (bind key value) false false room cost = absurd (true≢false room)
+    by (unbind key) true r room cost = omega (arith, cost)
+    by (unbind key) false r room cost = omega arith
 
 pub costs_edits : (l : Layout) (s : ArrayState) (items : List Update) (i : ℕ) (c : ItemCounts) → HoldsMap (height_limit l) s.map s.height s.array → IsBalancedArray s.height s.array → first_full_from (height_limit l) s.map i items ≡ None
     → 8196 * l.format * edits_in (count_items (height_limit l) s.map items c) ≤ 8196 * l.format * edits_in c + updates_cost l s items

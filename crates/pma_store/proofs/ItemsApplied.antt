@@ -10,9 +10,8 @@ use Rattle.batch_intent.specs.Spelling.{fits_item}
 use Rattle.header_gate.specs.Places.{IsSlotFormat}
 use Rattle.key_slot.specs.Record.{Record, is_record}
 use Rattle.map_model.specs.ArrayState.{ArrayState}
-use Rattle.map_model.specs.ArrayUpdates.{key_of}
 use Rattle.map_model.specs.Image.{array_of, map_of}
-use Rattle.map_model.specs.Store.{Update, bind, unbind}
+use Rattle.map_model.specs.Store.{Update, bind, unbind, key_of}
 use Rattle.segment.specs.declared.fault.StoreFault.{StoreFault}
 use Rattle.pma_store.specs.declared.answers.Report.{Report}
 use Rattle.pma_store.specs.declared.spots.Spot.{Spot}

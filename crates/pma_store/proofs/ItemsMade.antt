@@ -14,18 +14,19 @@ use Rattle.header_gate.specs.Header.{intent_gate}
 use Rattle.header_gate.specs.Places.{height_limit}
 use Rattle.map_model.specs.ArrayState.{ArrayState, next_state, next_states}
 use Rattle.map_model.specs.Array.{segment_at, segment_for}
-use Rattle.map_model.specs.ArrayUpdates.{key_of}
 use Rattle.segment.specs.Rows.{value_of}
 use Rattle.map_model.specs.Charges.{charge_after}
 use Rattle.map_model.specs.Image.{RepresentsMap, array_of, map_of}
 use Rattle.map_model.specs.Items.{AreAdmitted, are_distinct, charge_after_items, map_after_items}
-use Rattle.map_model.specs.Store.{Map, Update, map_after}
+use Rattle.map_model.specs.Store.{Map, Update, map_after, key_of}
 use Rattle.key_slot.proofs.SegmentLaws.{times_up}
 use Rattle.map_model.proofs.Recovering.{determined}
 use Rattle.map_model.proofs.Resuming.{get_before}
 use Rattle.segment.specs.declared.fault.StoreFault.{StoreFault}
 use Rattle.segment.specs.declared.fault.StoreFault.TheVariants.{Failed}
 use Rattle.pma_store.specs.Answers.{state_in}
+use Rattle.pma_store.specs.BatchCalls.{AreForItems, IsForItem, IsForItems}
+use Rattle.pma_store.specs.Calling.{asked_calls}
 use Rattle.pma_store.specs.Changing.{most_written}
 use Rattle.pma_store.specs.Costing.{most_of, update_cost_in, updates_cost, WritesSome}
 use Rattle.pma_store.specs.Items.{IsAsFound, IsItemPlace, MakesItem, MakesItems}
@@ -35,7 +36,9 @@ use Rattle.pma_store.specs.Meaning.{MeansNow}
 use Rattle.pma_store.specs.Store.{StoreView, Stands, StandsOn, limit_of}
 use Rattle.pma_store.specs.Touching.{Updates, IsUpdatePlace}
 use Rattle.pma_store.proofs.Making.{no_fault, same_fault, stands_again, stands_there}
-use Rattle.pma_store.specs.Damaging.{AreNextTallies}
+use Rattle.pma_store.specs.Damaging.{AreNextTallies, IsNextTally, change_in, picked}
+use Rattle.window_tally.specs.View.{TallyView}
+use Rattle.pma_store.proofs.BatchCalls.{more_items}
 use Rattle.pma_store.proofs.Meeting.{met_mid, tallies_next}
 use Rattle.pma_store.proofs.Moments.{even_idle_at, none_yet, then_now, item_steps, item_made, closing_steps, gate_touched}
 use Rattle.pma_store.proofs.Picks.{most_more}
@@ -82,6 +85,9 @@ pub record HasMade (items : List Update) (k charge : ℕ) (s t : StoreView) (a b
   pub paid : charge + potential_of t.tally ≤ potential_of s.tally + 514 * k
   pub nexts : AreNextTallies (take k items) s.tally t.tally
   pub spent : b.travel.written ≤ a.travel.written + most_of s.place.layout k
+  pub of_items : ℕ
+  pub are_for : IsForItems s.place.layout a (state_in s a.held) s.tally (take k items) t.tally of_items
+  pub calls : b.calls ≤ a.calls + of_items
 
 pub none_made : {a : View} (items : List Update) (s : StoreView) → StandsOn s a → HasMade items 0 0 s s a a
 none_made {a} items s on = record {
@@ -98,6 +104,9 @@ none_made {a} items s on = record {
   paid = omega arith;
   nexts = refl;
   spent = omega arith;
+  of_items = 0;
+  are_for = (refl, refl);
+  calls = omega arith;
 }
 
 -- One item more.
@@ -134,6 +143,25 @@ module _ (items : List Update) (k charge : ℕ) (s t next : StoreView) (a b c : 
         let l = s.place.layout in
         let own : most_written t.place.layout (limit_of t) ≡ most_written l (limit_of s) = ap (λ (l : Layout). most_written l (height_limit l)) is.layout in
         omega (arith, is.spent, made.most, most_more t.place.layout t.tally.height (limit_of t) made.tall, own, with_one (most_written l (limit_of s)) k)
+
+    -- its calls, by the tally before it
+    abbrev own_calls : ℕ
+    own_calls = 1 + asked_calls s.place.layout t.tally.height (picked (change_in (get_or items k d)) made.met.at t.tally)
+
+    pub item_for : (next : TallyView) → IsNextTally (get_or items k d) t.tally next → IsForItem s.place.layout a (next_states (limit_of s) (state_in s a.held) (take k items)) t.tally (get_or items k d) next own_calls
+    item_for next after = record {
+      at = made.met.at;
+      within = made.met.within;
+      own = λ told. made.met.own (told_on is.touched.frame told) ∙ ap (λ (x : ArrayState). segment_for x.array (key_of (get_or items k d))) (is.state told);
+      nexts = after;
+      is = refl;
+    }
+
+    pub calls_more : c.calls ≤ a.calls + (is.of_items + own_calls)
+    calls_more =
+        let same : asked_calls t.place.layout t.tally.height (picked (change_in (get_or items k d)) made.met.at t.tally) ≡ asked_calls s.place.layout t.tally.height (picked (change_in (get_or items k d)) made.met.at t.tally) =
+        ap (λ (l : Layout). asked_calls l t.tally.height (picked (change_in (get_or items k d)) made.met.at t.tally)) is.layout in
+        omega (arith, is.calls, made.met.asked, same)
 
     pub touches : Steps (Touched (IsUpdatePlace s.place.layout)) a c
     touches =
@@ -174,6 +202,9 @@ module _ (items : List Update) (k charge : ℕ) (s t next : StoreView) (a b c : 
         paid = omega (arith, is.paid, made.paid);
         nexts = tallies_next items k d s.tally t.tally next.tally lt is.nexts made.met.counts;
         spent = spends (Ok charge_next) made;
+        of_items = is.of_items + own_calls (Ok charge_next) made;
+        are_for = more_items s.place.layout a (state_in s a.held) items k d s.tally t.tally next.tally is.of_items (own_calls (Ok charge_next) made) lt is.are_for (item_for (Ok charge_next) made next.tally made.met.counts);
+        calls = calls_more (Ok charge_next) made;
       }
     where
       images_sum : (f x y : ℕ) → b.travel.written ≤ a.travel.written + 4101 * f * x → c.travel.written ≤ b.travel.written + 4101 * f * y → c.travel.written ≤ a.travel.written + 4101 * f * (x + y)
@@ -198,6 +229,14 @@ module _ (items : List Update) (k charge : ℕ) (s t next : StoreView) (a b c : 
         let same : most_written t.place.layout t.tally.height ≡ most_written s.place.layout (next_states (limit_of s) (state_in s a.held) (take k items)).height = (λ τ. most_written (is.layout τ) (tall τ)) in
         record { made = k; some = omega (arith, lt); bytes = omega (arith, is.cost told, made.most, same) };
     spent = omega (arith, spends (Err fault) made, times_up (most_written s.place.layout (limit_of s)) (suc k) (length items) (omega (arith, lt)));
+    of_items = is.of_items + own_calls (Err fault) made;
+    are_for = record {
+      begun = suc k;
+      some = omega (arith, lt);
+      last = t.tally;
+      are_for = more_items s.place.layout a (state_in s a.held) items k d s.tally t.tally t.tally is.of_items (own_calls (Err fault) made) lt is.are_for (item_for (Err fault) made t.tally (inl refl));
+    };
+    calls = omega (arith, calls_more (Err fault) made);
     few = few;
     paid = tt;
     met = inr (met_mid items k d s t next fault lt is.layout is.nexts made.met);
@@ -221,7 +260,7 @@ as_found {a} {b} items k charge s t (Some list) d is lt distinct found told =
 
 -- The gate is closed.
 
-module _ (items : List Update) (charge : ℕ) (s t : StoreView) (a b c : View) (is : HasMade items (length items) charge s t a b) (closing : Steps (Touched IsIntentGatePlace) b c) (one : c.travel.written ≤ b.travel.written + 1) where
+module _ (items : List Update) (charge : ℕ) (s t : StoreView) (a b c : View) (is : HasMade items (length items) charge s t a b) (closing : Steps (Touched IsIntentGatePlace) b c) (one : c.travel.written ≤ b.travel.written + 1) (two : c.calls ≤ b.calls + 2) where
   whole : take (length items) items ≡ items
   whole = take_all (length items) items (omega arith)
 
@@ -235,6 +274,9 @@ module _ (items : List Update) (charge : ℕ) (s t : StoreView) (a b c : View) (
 
   wrote : Told a → WritesSome s.place.layout (state_in s a.held) items (a.travel.written + 1) c.travel.written
   wrote told = record { made = length items; some = omega arith; bytes = omega (arith, is.cost told, one) }
+
+  begun_all : AreForItems items s a is.of_items
+  begun_all = record { begun = length items; some = omega arith; last = t.tally; are_for = is.are_for }
 
   pub all_made : length items ≤ 16 → Lawful c → NothingPending c → (Told b → intent_gate c.held ≡ 0) → MakesItems items (Ok charge) s t a c
   all_made few law settled even =
@@ -254,6 +296,9 @@ module _ (items : List Update) (charge : ℕ) (s t : StoreView) (a b c : View) (
         images = omega (arith, is.images, one);
         most = wrote;
         spent = omega (arith, is.spent, one);
+        of_items = is.of_items;
+        are_for = begun_all;
+        calls = omega (arith, is.calls, two);
         few = few;
         paid = is.paid;
         met = tt;
@@ -276,6 +321,9 @@ module _ (items : List Update) (charge : ℕ) (s t : StoreView) (a b c : View) (
     images = tt;
     most = wrote;
     spent = omega (arith, is.spent, one);
+    of_items = is.of_items;
+    are_for = begun_all;
+    calls = omega (arith, is.calls, two);
     few = few;
     paid = tt;
     met = inl refl;

@@ -1,40 +1,31 @@
 -- What items would do, one more at a time.
-use Rattle.std.proofs.Common.{◌≡◌, ℕ, zero, suc, ◌+◌, ◌-◌, ◌<◌, Bool, true, false, cond, not, ◌||◌, nat_lt, List, [], ◌∷◌, length, take, get_or, refl, sym, ap, subst, ◌∙◌, arith, Option, Some, None, is_some}
-use Rattle.std.specs.Cmp.Lexicographic.{nat_list_cmp_total}
-use Rattle.std.specs.FinMap.{contains_key, insert, remove, len, len-insert, len-remove}
+use Rattle.std.proofs.Common.{◌≡◌, ℕ, zero, suc, ◌+◌, ◌-◌, ◌<◌, Bool, true, false, cond, not, List, [], ◌∷◌, length, take, get_or, refl, sym, ap, subst, ◌∙◌, arith, Option, Some, None, is_some}
+use Rattle.std.specs.FinMap.{contains_key, len}
 use Rattle.density_rule.specs.Bounds.{upper_of}
-use Rattle.map_model.specs.Store.{Map, Update, bind, unbind, map_after}
-use Rattle.map_model.specs.ArrayUpdates.{key_of}
-use Rattle.map_model.specs.Items.{ItemCounts, no_items, count_item, count_items, meets_full, first_full, first_full_from, map_after_items, are_distinct}
+use Rattle.map_model.specs.Store.{Map, Update, bind, unbind, map_after, key_of, effect_by}
+use Rattle.map_model.specs.Items.{ItemCounts, no_items, count_item, count_items, meets_full, first_full, first_full_from, map_after_items, are_distinct, effect_count}
 use Rattle.map_model.proofs.Resuming.{get_before, next_item}
 use Rattle.std.proofs.lemmas.List.{take_all}
 use Rattle.std.proofs.Common.{set, inl, inr}
 use Rattle.std.proofs.lemmas.Bool.{cases_eq}
 use Rattle.std.proofs.lemmas.List.{get_or-set_other}
 use Rattle.std.proofs.lemmas.Grind.{get_or-set_at}
-use Rattle.pma_store.specs.Judging.{AreFound, judged_of, meets_by, records_by, counted_by}
+use Rattle.recovery.specs.Intents.{meets_by, records_by}
+use Rattle.recovery.proofs.Rooms.{meets_is, records_is}
+use Rattle.pma_store.specs.Judging.{AreFound, judged_of, counted_by}
 
 -- by whether the key is there
-pub meets_is : (hmax : ℕ) (m : Map) (u : Update) → meets_full hmax m u ≡ meets_by u (contains_key m (key_of u)) (len m) (upper_of hmax)
-meets_is hmax m (bind key value) = refl
-meets_is hmax m (unbind key) = refl
-
 pub counted_is : (m : Map) (u : Update) (c : ItemCounts) → count_item m u c ≡ counted_by u (contains_key m (key_of u)) c
-counted_is m (bind key value) c = refl
-counted_is m (unbind key) c = refl
-
-put_records : (m : Map) (key value : List ℕ) (b r : Bool) → contains_key m key ≡ b → not (b || r) ≡ false → len (cond (b || r) (insert m key value) m) ≡ cond b (len m) (len m + 1)
-put_records m key value true r e room = len-insert nat_list_cmp_total m key value ∙ ap (λ (c : Bool). cond c (len m) (len m + 1)) e
-put_records m key value false true e room = len-insert nat_list_cmp_total m key value ∙ ap (λ (c : Bool). cond c (len m) (len m + 1)) e
-put_records m key value false false e room = absurd (cc)
-
-remove_records : (m : Map) (key : List ℕ) (b : Bool) → contains_key m key ≡ b → len (cond b (remove m key) m) ≡ cond b (len m - 1) (len m)
-remove_records m key true e = len-remove nat_list_cmp_total m key ∙ ap (λ (c : Bool). cond c (len m - 1) (len m)) e
-remove_records m key false e = refl
-
-pub records_is : (hmax : ℕ) (m : Map) (u : Update) → meets_full hmax m u ≡ false → len (map_after hmax m u) ≡ records_by u (contains_key m (key_of u)) (len m)
-records_is hmax m (bind key value) room = put_records m key value (contains_key m key) (nat_lt (len m) (upper_of hmax)) refl room
-records_is hmax m (unbind key) room = remove_records m key (contains_key m key) refl
+counted_is m (bind key value) c = put_counts (contains_key m key)
+  where
+    put_counts : (b : Bool) → effect_count (effect_by b true (bind key value)) c ≡ counted_by (bind key value) b c
+    put_counts true = refl
+    put_counts false = refl
+counted_is m (unbind key) c = removal_counts (contains_key m key)
+  where
+    removal_counts : (b : Bool) → effect_count (effect_by b true (unbind key)) c ≡ counted_by (unbind key) b c
+    removal_counts true = refl
+    removal_counts false = refl
 
 -- One item more.
 

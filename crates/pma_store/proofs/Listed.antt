@@ -5,8 +5,8 @@ use Rattle.std.specs.FinMap.{find}
 use Rattle.std.proofs.lemmas.Bool.{cases_lt}
 use Rattle.key_slot.specs.Record.{key_cmp, IsAscending}
 use Rattle.map_model.specs.Array.{Array, rows, segment_at, segment_for}
-use Rattle.map_model.specs.ArrayUpdates.{has_key, key_of}
-use Rattle.map_model.specs.Store.{Update, bind, unbind}
+use Rattle.map_model.specs.ArrayUpdates.{has_key}
+use Rattle.map_model.specs.Store.{Update, bind, unbind, key_of}
 use Rattle.map_model.proofs.Belonging.{segment_for_is, rows-find, segment_ascends}
 use Rattle.one_commit.specs.declared.changes.ItemChange.{ItemChange}
 use Rattle.one_commit.specs.Fitting.{change_before, changes_in, is_put, with_change}

@@ -11,11 +11,11 @@ use Rattle.key_slot.specs.Record.{Record, key_cmp, is_record, IsAscending}
 use Rattle.key_slot.specs.Segment.{FitsSegment}
 use Rattle.key_slot.proofs.Truth.{first, second}
 use Rattle.map_model.specs.Array.{Array, rows, segment_at, segment_for}
-use Rattle.map_model.specs.ArrayUpdates.{has_key, key_of}
+use Rattle.map_model.specs.ArrayUpdates.{has_key, edited}
 use Rattle.map_model.specs.Items.{are_distinct}
-use Rattle.map_model.specs.Store.{Update, bind, unbind}
+use Rattle.map_model.specs.Store.{Update, bind, unbind, key_of}
 use Rattle.map_model.proofs.Belonging.{segment_for_is, rows-find}
-use Rattle.one_commit.specs.Editing.{edited, edited_by, edits, items_for}
+use Rattle.one_commit.specs.Editing.{edited_by, edits, items_for}
 use Rattle.header_gate.specs.Places.{IsSlotFormat}
 use Rattle.header_gate.specs.Places.{segment_place, segment_size}
 use Rattle.one_commit.specs.Touched.{IsLeastOf}
@@ -248,42 +248,52 @@ reads_none place numbers a = record {
   told = λ k lt. absurd (omega (arith, lt));
   each = λ j lt low. absurd (omega (arith, low));
   travel_is = refl;
+  calls = omega arith;
 }
 
 after_more : (place : Place) (ns : List ℕ) (n : ℕ) (t : Travel) → after_reads place (ns ++ n ∷ []) t ≡ after_read (segment_place place.layout place.region n) (segment_size place.layout) (after_reads place ns t)
 after_more place [] n t = refl
 after_more place (m ∷ ns) n t = after_more place ns n (after_read (segment_place place.layout place.region m) (segment_size place.layout) t)
 
-pub reads_more : (place : Place) (numbers : List ℕ) (from n : ℕ) (a b c : View) → ReadsOnce place numbers from a b → IsLeastOf numbers from (length numbers) n → c.travel ≡ after_read (segment_place place.layout place.region n) (segment_size place.layout) b.travel → ReadsOnce place numbers (n + 1) a c
-reads_more place numbers from n a b c is least travel = record {
-  read = is.read ++ n ∷ [];
-  ascends = λ i j lt low. elim (cases_lt j (length is.read)) [
-    | inl inner ↦ omega (arith, before_last is.read n 0 i (omega (arith, lt, inner)), before_last is.read n 0 j inner, is.ascends i j lt inner)
-    | inr outer ↦
-        let last : j ≡ length is.read = omega (arith, outer, low, one_longer is.read n 0) in
-        omega (arith, before_last is.read n 0 i (omega (arith, lt, last)), last_there is.read n 0 j last, is.below i (omega (arith, lt, last)), least.above)
-  ];
-  below = λ k lt. elim (cases_lt k (length is.read)) [
-    | inl inner ↦ omega (arith, before_last is.read n 0 k inner, is.below k inner, least.above)
-    | inr outer ↦ omega (arith, last_there is.read n 0 k (omega (arith, outer, lt, one_longer is.read n 0)))
-  ];
-  told = λ k lt. elim (cases_lt k (length is.read)) [
-    | inl inner ↦ let own = is.told k inner in (own.0, own.1, own.2 ∙ sym (before_last is.read n 0 k inner))
-    | inr outer ↦ (least.at, least.inside, least.is ∙ sym (last_there is.read n 0 k (omega (arith, outer, lt, one_longer is.read n 0))))
-  ];
-  each = λ j lt low. elim (cases_lt (get_or numbers j 0) from) [
-    | inl early ↦ let own = is.each j lt early in (own.0, omega (arith, own.1, one_longer is.read n 0), before_last is.read n 0 own.0 own.1 ∙ own.2)
-    | inr late ↦ (length is.read, omega (arith, one_longer is.read n 0), last_there is.read n 0 (length is.read) refl ∙ omega (arith, low, least.lowest j lt late))
-  ];
-  travel_is = travel ∙ ap (after_read (segment_place place.layout place.region n) (segment_size place.layout)) is.travel_is ∙ sym (after_more place is.read n a.travel);
-}
+pub reads_more : (place : Place) (numbers : List ℕ) (from n : ℕ) (a b c : View) (is : ReadsOnce place numbers from a b) → IsLeastOf numbers from (length numbers) n → c.travel ≡ after_read (segment_place place.layout place.region n) (segment_size place.layout) b.travel → c.calls ≤ b.calls + 1
+    → (more : ReadsOnce place numbers (n + 1) a c) × (length more.read ≡ length is.read + 1)
+reads_more place numbers from n a b c is least travel one = (
+  record {
+    read = is.read ++ n ∷ [];
+    ascends = λ i j lt low. elim (cases_lt j (length is.read)) [
+      | inl inner ↦ omega (arith, before_last is.read n 0 i (omega (arith, lt, inner)), before_last is.read n 0 j inner, is.ascends i j lt inner)
+      | inr outer ↦
+          let last : j ≡ length is.read = omega (arith, outer, low, one_longer is.read n 0) in
+          omega (arith, before_last is.read n 0 i (omega (arith, lt, last)), last_there is.read n 0 j last, is.below i (omega (arith, lt, last)), least.above)
+    ];
+    below = λ k lt. elim (cases_lt k (length is.read)) [
+      | inl inner ↦ omega (arith, before_last is.read n 0 k inner, is.below k inner, least.above)
+      | inr outer ↦ omega (arith, last_there is.read n 0 k (omega (arith, outer, lt, one_longer is.read n 0)))
+    ];
+    told = λ k lt. elim (cases_lt k (length is.read)) [
+      | inl inner ↦ let own = is.told k inner in (own.0, own.1, own.2 ∙ sym (before_last is.read n 0 k inner))
+      | inr outer ↦ (least.at, least.inside, least.is ∙ sym (last_there is.read n 0 k (omega (arith, outer, lt, one_longer is.read n 0))))
+    ];
+    each = λ j lt low. elim (cases_lt (get_or numbers j 0) from) [
+      | inl early ↦ let own = is.each j lt early in (own.0, omega (arith, own.1, one_longer is.read n 0), before_last is.read n 0 own.0 own.1 ∙ own.2)
+      | inr late ↦ (length is.read, omega (arith, one_longer is.read n 0), last_there is.read n 0 (length is.read) refl ∙ omega (arith, low, least.lowest j lt late))
+    ];
+    travel_is = travel ∙ ap (after_read (segment_place place.layout place.region n) (segment_size place.layout)) is.travel_is ∙ sym (after_more place is.read n a.travel);
+    calls = omega (arith, is.calls, one, one_longer is.read n 0);
+  },
+  one_longer is.read n 0,
+)
 
-pub reads_all : (place : Place) (numbers : List ℕ) (from to : ℕ) (a c : View) → from ≤ to → ((k : ℕ) → k < length numbers → get_or numbers k 0 < from) → ReadsOnce place numbers from a c → ReadsOnce place numbers to a c
-reads_all place numbers from to a c le none is = record {
-  read = is.read;
-  ascends = is.ascends;
-  below = λ k lt. omega (arith, is.below k lt, le);
-  told = is.told;
-  each = λ j lt low. is.each j lt (none j lt);
-  travel_is = is.travel_is;
-}
+pub reads_all : (place : Place) (numbers : List ℕ) (from to : ℕ) (a c : View) → from ≤ to → ((k : ℕ) → k < length numbers → get_or numbers k 0 < from) → (is : ReadsOnce place numbers from a c) → (all : ReadsOnce place numbers to a c) × (length all.read ≡ length is.read)
+reads_all place numbers from to a c le none is = (
+  record {
+    read = is.read;
+    ascends = is.ascends;
+    below = λ k lt. omega (arith, is.below k lt, le);
+    told = is.told;
+    each = λ j lt low. is.each j lt (none j lt);
+    travel_is = is.travel_is;
+    calls = is.calls;
+  },
+  refl,
+)

@@ -7,7 +7,7 @@ use Rattle.station.specs.View.{View, Told, Honest, EachHeld, NothingPending, Law
 use Rattle.station.specs.Steps.{Frame, Steps}
 use Rattle.station.proofs.Composition.{each_held, frame_on, honest_on, told_on, weaken}
 use Rattle.batch_intent.specs.Means.{InBatch, KeepsIntent, Means, MeansMap, has_pending, map_after_all, meant_map, opening_reason, pending}
-use Rattle.batch_intent.proofs.Meanings.{batch_begun, items_are, meant_one, pending_kept}
+use Rattle.batch_intent.proofs.Meanings.{batch_begun, items_are, meant_one, pending_kept, map_made}
 use Rattle.batch_intent.proofs.OpeningReasons.{means_of_none}
 use Rattle.header_gate.specs.declared.layout.Layout.{Layout}
 use Rattle.header_gate.specs.declared.reason.Reason.{Reason}
@@ -194,7 +194,7 @@ module _ {X : Type 0} {a b c : View} (x : X) (items : List Update) (s t : StoreV
         (subst (AreAdmitted (height_limit (layout_in b.held)) behind.base) behind_items behind.admitted)
 
     after : map_after_all s.place.layout behind.base items ≡ meant_map a.held
-    after = (λ τ. map_after_items (height_limit (sym (layout_is (on told)) τ)) behind.base (sym behind_items τ)) ∙ behind.map_is
+    after = (λ τ. map_after_items (height_limit (sym (layout_is (on told)) τ)) behind.base (sym behind_items τ)) ∙ map_made b.held (meant_map a.held) (height_of a.held) behind
 
     now : Steps (MeansNow (meant_map a.held)) b c
     now = subst (λ (m : Map). Steps (MeansNow m) b c) after (made.steps behind.base admitted batch)

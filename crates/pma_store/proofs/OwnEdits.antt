@@ -7,12 +7,12 @@ use Rattle.std.specs.Cmp.Lexicographic.{nat_list_eq_equiv}
 use Rattle.std.specs.FinMap.{find}
 use Rattle.std.proofs.lemmas.Bool.{cases_eq, eq-eqb, ne_eqb}
 use Rattle.key_slot.specs.Record.{Bytes, Record, key_cmp, IsAscending}
-use Rattle.map_model.specs.Store.{Update, bind, unbind}
+use Rattle.map_model.specs.Store.{Update, bind, unbind, key_of}
 use Rattle.map_model.specs.Array.{Array, rows, segment_at, segment_for}
-use Rattle.map_model.specs.ArrayUpdates.{has_key, key_of}
+use Rattle.map_model.specs.ArrayUpdates.{has_key, edited}
 use Rattle.map_model.specs.Items.{has_item, are_distinct}
 use Rattle.map_model.proofs.Belonging.{segment_for_is, rows-find}
-use Rattle.one_commit.specs.Editing.{edited, edited_by, edits, items_for}
+use Rattle.one_commit.specs.Editing.{edited_by, edits, items_for}
 use Rattle.one_commit.proofs.Heads.{without_absent}
 use Rattle.one_commit.proofs.Alike.{both_true, not_true}
 use Rattle.pma_store.specs.Own.{own_items}

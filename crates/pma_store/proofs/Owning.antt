@@ -8,11 +8,11 @@ use Rattle.std.specs.Cmp.Lexicographic.{nat_list_cmp_total, nat_list_eq_equiv, t
 use Rattle.std.specs.FinMap.{find}
 use Rattle.std.specs.FinMap.Entries.{find-put}
 use Rattle.key_slot.specs.Record.{Bytes, Record, key_cmp}
-use Rattle.map_model.specs.Store.{Update, bind, unbind}
-use Rattle.map_model.specs.ArrayUpdates.{key_of}
+use Rattle.map_model.specs.Store.{Update, bind, unbind, key_of}
 use Rattle.map_model.specs.Items.{has_item, are_distinct}
 use Rattle.map_model.proofs.Resuming.{none_before}
-use Rattle.one_commit.specs.Editing.{edited, edited_by}
+use Rattle.map_model.specs.ArrayUpdates.{edited}
+use Rattle.one_commit.specs.Editing.{edited_by}
 use Rattle.one_commit.proofs.Heads.{find-other}
 use Rattle.one_commit.proofs.Alike.{neither_true}
 use Rattle.pma_store.specs.Own.{own_items}

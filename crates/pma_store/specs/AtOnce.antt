@@ -14,6 +14,7 @@ use Rattle.one_commit.specs.Editing.{counts_by, marks_by_changes}
 use Rattle.one_commit.specs.Fitting.{changes_in, fit_one_commit}
 use Rattle.redo_journal.specs.Commit.{Commits, frame_byte}
 use Rattle.redo_journal.specs.Frames.{Batch}
+use Rattle.redo_journal.specs.Neighbours.{run_count}
 use Rattle.redo_journal.specs.declared.place.Place.{Place}
 use Rattle.segment.specs.Rows.{key_at}
 use Rattle.segment.specs.declared.fault.StoreFault.{StoreFault}
@@ -65,6 +66,8 @@ pub record CommitsFrames (place : Place) (count : ℕ) (result : Result (Unit {0
   pub none : count ≡ 0 → c.travel.written ≡ a.travel.written
   pub cost : c.travel.written ≤ a.travel.written + (8196 * place.layout.format * count + 6)
   pub unread : c.travel.read ≡ a.travel.read
+  -- where there are any, eight calls, and one for each run of neighbouring pages
+  pub calls : c.calls ≤ a.calls + (8 + run_count b.numbers)
   pub cause : OnErr result (Rose a.disk_faults c.disk_faults)
 
 -- Besides, the fences of the edited segments were set, and the changes counted, but not where it failed.

@@ -18,6 +18,7 @@ use Rattle.segment.specs.declared.fault.StoreFault.TheVariants.{Failed}
 use Rattle.pma_store.specs.declared.answers.Batch.{Batch}
 use Rattle.pma_store.specs.declared.answers.Batch.TheVariants.{Done, Full, NoBatch}
 use Rattle.pma_store.specs.Answers.{state_in}
+use Rattle.pma_store.specs.BatchCalls.{CallsBatch, LooksOnce}
 use Rattle.pma_store.specs.Costing.{most_of, updates_cost, WritesSome}
 use Rattle.pma_store.specs.Damaging.{IsMetLooking, IsMetMid}
 use Rattle.pma_store.specs.Looking.{TellsOther}
@@ -91,6 +92,9 @@ pub record Batches (items : List Update) (result : Result Batch StoreFault) (s t
   pub most : Told a → WritesSome s.place.layout (state_in s a.held) (items_made (version_of s) (limit_of s) (map_of a.held) items) (a.travel.written + 514) b.travel.written
   -- and whatever is told
   pub spent : b.travel.written ≤ a.travel.written + (most_of s.place.layout (length items) + 514)
+  -- the calls of the device: where it is refused, one for each segment to which a key belongs; and at most whatever is answered
+  pub looks : IfOk result (λ done. IsRefusal done → LooksOnce items s.tally.height a b)
+  pub calls : CallsBatch items s a b
   -- its charge and the rise of the potential are together at most 514 for each item
   pub paid : IfOk result (λ done. charge_in done + potential_of t.tally ≤ potential_of s.tally + 514 * made_in (length items) done)
   -- it fails by the disk; by damage that is met while the keys are looked for, with nothing written; or in one of its items

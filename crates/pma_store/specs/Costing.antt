@@ -1,20 +1,18 @@
 -- What updates write at most, by the state in which they are made.
-use Rattle.std.specs.Prelude.{ℕ, ◌+◌, ◌*◌, ◌≤◌, nat_lt, ◌||◌, if◌then◌else◌, Bool, List, [], ◌∷◌, length, take}
-use Rattle.density_rule.specs.Bounds.{upper_of}
+use Rattle.std.specs.Prelude.{ℕ, ◌+◌, ◌*◌, ◌≤◌, if◌then◌else◌, Bool, List, [], ◌∷◌, length, take}
 use Rattle.header_gate.specs.declared.layout.Layout.{Layout}
 use Rattle.header_gate.specs.Places.{height_limit}
-use Rattle.map_model.specs.Array.{Array, rows}
+use Rattle.map_model.specs.Array.{Array}
 use Rattle.map_model.specs.ArrayState.{ArrayState, UpdateReport, next_state, next_states, report_of}
-use Rattle.map_model.specs.ArrayUpdates.{has_key}
-use Rattle.map_model.specs.Store.{Update, bind, unbind}
-use Rattle.pma_store.specs.Changing.{window_cost, most_written}
+use Rattle.map_model.specs.Store.{Update}
+use Rattle.pma_store.specs.Charging.{changes}
+use Rattle.pma_store.specs.Changing.{outcome_of, window_cost, most_written}
 use Rattle.pma_store.specs.Readying.{resize_cost}
 use Rattle.pma_store.specs.Rewrites.{commit_cost}
 
 -- whether an update changes anything: a put that finds no room doesn't, and neither does the removal of an absent key
 abbrev pub has_effect : ℕ → Array → Update → Bool
-has_effect hmax segments (bind key value) = has_key segments key || nat_lt (length (rows segments)) (upper_of hmax)
-has_effect hmax segments (unbind key) = has_key segments key
+has_effect hmax segments u = changes (outcome_of hmax segments u)
 
 -- the bytes that an update writes at most that has this report, and leaves the store at this height
 abbrev pub report_cost : Layout → ℕ → UpdateReport → ℕ

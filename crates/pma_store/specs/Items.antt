@@ -15,6 +15,7 @@ use Rattle.map_model.specs.Store.{Map, Update}
 use Rattle.segment.specs.declared.fault.StoreFault.{StoreFault}
 use Rattle.segment.specs.declared.fault.StoreFault.TheVariants.{Failed}
 use Rattle.pma_store.specs.Answers.{state_in}
+use Rattle.pma_store.specs.BatchCalls.{AreForItems}
 use Rattle.pma_store.specs.Changing.{most_written}
 use Rattle.pma_store.specs.Costing.{most_of, update_cost_in, updates_cost, WritesSome}
 use Rattle.pma_store.specs.Damaging.{IsMetMid, MeetsItem}
@@ -67,6 +68,10 @@ pub record MakesItems (items : List Update) (result : Result ℕ StoreFault) (s 
   pub images : IfOk result (λ charge. b.travel.written ≤ a.travel.written + 4101 * s.place.layout.format * charge + 1)
   pub most : Told a → WritesSome s.place.layout (state_in s a.held) items (a.travel.written + 1) b.travel.written
   pub spent : b.travel.written ≤ a.travel.written + (most_of s.place.layout (length items) + 1)
+  -- the calls of some first items, and two for the gate
+  pub of_items : ℕ
+  pub are_for : AreForItems items s a of_items
+  pub calls : b.calls ≤ a.calls + (of_items + 2)
   pub few : length items ≤ 16
   pub paid : IfOk result (λ charge. charge + potential_of t.tally ≤ potential_of s.tally + 514 * length items)
   pub met : IfErr result (λ fault. (fault ≡ Failed) ⊎ IsMetMid items s t fault b)

@@ -1,16 +1,16 @@
 -- What the items of a batch would do, by whether their keys are there and by how many records there are.
-use Rattle.std.specs.Prelude.{◌≡◌, ◌^◌, ℕ, ◌+◌, ◌-◌, ◌<◌, nat_lt, ◌||◌, not, if◌then◌else◌, Bool, false, List, length, slice_index_or, Option, Some, None, is_some, Result, IfOk, IfErr, IsErrOf, is_ok, Err}
+use Rattle.std.specs.Prelude.{◌≡◌, ◌^◌, ℕ, ◌+◌, ◌-◌, ◌<◌, if◌then◌else◌, Bool, false, List, length, slice_index_or, Option, Some, None, is_some, Result, IfOk, IfErr, IsErrOf, is_ok, Err}
 use Rattle.std.specs.FinMap.{contains_key}
 use Rattle.station.specs.Bytes.{Same}
 use Rattle.station.specs.View.{View, Told, Rose}
 use Rattle.station.specs.Steps.{Steps}
-use Rattle.map_model.specs.ArrayUpdates.{key_of}
 use Rattle.map_model.specs.Image.{map_of}
 use Rattle.map_model.specs.Items.{ItemCounts, no_items, count_items, first_full}
-use Rattle.map_model.specs.Store.{Map, Update, bind, unbind}
+use Rattle.map_model.specs.Store.{Map, Update, bind, unbind, key_of}
 use Rattle.segment.specs.declared.fault.StoreFault.{StoreFault}
 use Rattle.segment.specs.declared.fault.StoreFault.TheVariants.{Failed}
 use Rattle.pma_store.specs.declared.judging.Judged.{Judged}
+use Rattle.pma_store.specs.BatchCalls.{LooksOnce}
 use Rattle.pma_store.specs.Damaging.{IsMetLooking}
 use Rattle.pma_store.specs.Looking.{TellsOther}
 use Rattle.pma_store.specs.Store.{StoreView, limit_of}
@@ -26,17 +26,7 @@ abbrev pub counts_in : Option Judged → Option ItemCounts
 counts_in None = None
 counts_in (Some j) = Some (counts_of j)
 
--- whether an item meets a full store
-abbrev pub meets_by : Update → Bool → ℕ → ℕ → Bool
-meets_by (bind key value) present records most = not (present || nat_lt records most)
-meets_by (unbind key) present records most = false
-
--- the records behind it, if it doesn't
-abbrev pub records_by : Update → Bool → ℕ → ℕ
-records_by (bind key value) present n = if present then n else n + 1
-records_by (unbind key) present n = if present then n - 1 else n
-
--- the counts with it
+-- the counts with an item
 abbrev pub counted_by : Update → Bool → ItemCounts → ItemCounts
 counted_by (bind key value) present c = if present then record c { replaced = c.replaced + 1 } else record c { stored = c.stored + 1 }
 counted_by (unbind key) present c = if present then record c { removed = c.removed + 1 } else record c { absent = c.absent + 1 }
@@ -78,6 +68,7 @@ pub record JudgesItems (items : List Update) (result : Result (Option Judged) St
   pub store : t ≡ s
   pub steps : Steps Same a b
   pub unwritten : b.travel.written ≡ a.travel.written
+  pub looks : LooksOnce items s.tally.height a b
   pub met : IfErr result (λ fault. IsMetLooking s.place s.tally fault b)
   pub damaged : IfErr result (λ fault. Told a → fault ≡ Failed)
   pub counted : IfErr result (TellsOther (2 ^ limit_of s))

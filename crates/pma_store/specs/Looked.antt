@@ -1,5 +1,5 @@
 -- What is known of a batch that is looked over, segment by segment in ascending order.
-use Rattle.std.specs.Prelude.{◌≡◌, ◌^◌, ℕ, ◌<◌, ◌≤◌, true, ◌^◌, T, List, [], ◌∷◌, ◌++◌, length, get_or, Result, Err, OnOk, IfErr, IsErrOf}
+use Rattle.std.specs.Prelude.{◌≡◌, ℕ, ◌+◌, ◌<◌, ◌≤◌, true, ◌^◌, T, List, [], ◌∷◌, ◌++◌, length, get_or, Result, Err, OnOk, IfErr, IsErrOf}
 use Rattle.station.specs.Bytes.{Same}
 use Rattle.station.specs.View.{View, Told, Rose, after_read}
 use Rattle.station.specs.declared.travel.Travel.{Travel}
@@ -12,10 +12,9 @@ use Rattle.station.specs.Steps.{Steps}
 use Rattle.key_slot.specs.Record.{Record, is_record}
 use Rattle.key_slot.specs.Segment.{FitsSegment}
 use Rattle.map_model.specs.Array.{Array, segment_at, segment_for}
-use Rattle.map_model.specs.ArrayUpdates.{key_of}
 use Rattle.map_model.specs.Batches.{IsNone}
 use Rattle.map_model.specs.Image.{array_of}
-use Rattle.map_model.specs.Store.{Update}
+use Rattle.map_model.specs.Store.{Update, key_of}
 use Rattle.one_commit.specs.Editing.{edited_by, items_for}
 use Rattle.redo_journal.specs.Frames.{Batch}
 use Rattle.redo_journal.specs.declared.place.Place.{Place}
@@ -23,6 +22,7 @@ use Rattle.segment.specs.declared.fault.StoreFault.{StoreFault}
 use Rattle.segment.specs.declared.fault.StoreFault.TheVariants.{Failed}
 use Rattle.segment_frames.specs.Lists.{held_lists, segments_in, IsHeld}
 use Rattle.pma_store.specs.declared.look.Look.{Look}
+use Rattle.pma_store.specs.BatchCalls.{LooksOnce}
 use Rattle.pma_store.specs.Damaging.{IsMetLooking}
 use Rattle.window_tally.specs.View.{TallyView}
 use Rattle.pma_store.specs.Own.{FindsIn}
@@ -76,7 +76,7 @@ abbrev pub after_reads : Place → List ℕ → Travel → Travel
 after_reads place [] t = t
 after_reads place (n ∷ ns) t = after_reads place ns (after_read (segment_place place.layout place.region n) (segment_size place.layout) t)
 
--- Of the segments that a list tells, those below one were read in ascending order, each once, and no other was.
+-- Of the segments that a list tells, those below one were read in ascending order, each once by one call, and no other was.
 pub record ReadsOnce (place : Place) (numbers : List ℕ) (from : ℕ) (a c : View) : Type 0 where
   pub read : List ℕ
   pub ascends : Ascends read
@@ -84,6 +84,7 @@ pub record ReadsOnce (place : Place) (numbers : List ℕ) (from : ℕ) (a c : Vi
   pub told : (k : ℕ) → k < length read → (j : ℕ) × (j < length numbers) × (get_or numbers j 0 ≡ get_or read k 0)
   pub each : (j : ℕ) → j < length numbers → get_or numbers j 0 < from → (k : ℕ) × (k < length read) × (get_or read k 0 ≡ get_or numbers j 0)
   pub travel_is : c.travel ≡ after_reads place read a.travel
+  pub calls : c.calls ≤ a.calls + length read
 
 -- A batch was looked over, in a store with this tally: nothing was written.
 pub record LooksOver (place : Place) (tally : TallyView) (numbers : List ℕ) (items : List Update) (result : Result (Unit {0}) StoreFault) (b : Batch) (look : Look) (a c : View) : Type 0 where
@@ -93,6 +94,8 @@ pub record LooksOver (place : Place) (tally : TallyView) (numbers : List ℕ) (i
   pub steps : Steps Same a c
   pub unwritten : c.travel.written ≡ a.travel.written
   pub reads : OnOk result (ReadsOnce place numbers (2 ^ tally.height) a c)
+  pub looks : LooksOnce items tally.height a c
+  pub few : OnOk result (look.count ≤ length looks.looked)
   pub damaged : IfErr result (λ fault. Told a → fault ≡ Failed)
   pub met : IfErr result (λ fault. IsMetLooking place tally fault c)
   pub failed : IsErrOf result Failed → Rose a.disk_faults c.disk_faults

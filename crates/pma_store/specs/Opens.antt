@@ -1,11 +1,14 @@
 -- What an opening leaves of a file, whose intent it applies.
-use Rattle.std.specs.Prelude.{◌≡◌, ℕ, ◌^◌, ◌+◌, ◌≤◌, false, List, Some}
+use Rattle.std.specs.Prelude.{◌≡◌, ◌⊎◌, ℕ, ◌^◌, ◌+◌, ◌≤◌, true, false, List, length, take, Some}
 use Rattle.station.specs.Bytes.{Touched}
+use Rattle.station.specs.View.{View}
 use Rattle.batch_intent.specs.Means.{Means, MeansMap, has_pending, opening_reason, pending}
 use Rattle.header_gate.specs.declared.layout.Layout.{Layout}
 use Rattle.header_gate.specs.declared.reason.Reason.{Reason}
 use Rattle.header_gate.specs.Header.{layout_in}
+use Rattle.header_gate.specs.Places.{height_limit}
 use Rattle.header_gate.specs.Recovered.{recovered}
+use Rattle.map_model.specs.Array.{counts_of}
 use Rattle.map_model.specs.ArrayState.{opened_state}
 use Rattle.map_model.specs.Store.{Map}
 use Rattle.recovery.specs.Costs.{opening_cost}
@@ -13,6 +16,8 @@ use Rattle.recovery.specs.Restores.{IsAtRest, Opens}
 use Rattle.recovery.specs.declared.fault.OpenFault.{OpenFault}
 use Rattle.recovery.specs.declared.fault.OpenFault.TheVariants.{Memory, Failed, NotStore, Damaged}
 use Rattle.segment.specs.declared.fault.StoreFault.TheVariants as store
+use Rattle.window_tally.specs.View.{TallyView}
+use Rattle.pma_store.specs.BatchCalls.{IsForItems}
 use Rattle.pma_store.specs.Costing.{WritesSome, most_of}
 use Rattle.pma_store.specs.Items.{IsItemPlace}
 use Rattle.pma_store.specs.Looking.{TellsOther}
@@ -39,6 +44,22 @@ pub record WritesOpening (image : List ℕ) (before after : ℕ) : Type 0 where
 -- what it writes at most in a file with this layout, whatever is told: as many items as an intent has, and one byte for its gate
 abbrev pub most_opening : Layout → ℕ
 most_opening l = opening_cost l + (most_of l 16 + 1)
+
+-- the tally of a store as an opening makes it of an image, before the items: the counts of its array, and no mark
+abbrev pub opened_tally : List ℕ → TallyView
+opened_tally image = record { hmax = height_limit (layout_in image); height = (opened_state image).height; counts = counts_of (opened_state image).array; marks = (opened_state image).marks }
+
+-- So many calls are those of some first items of those that are to be applied, from the state on that an opening makes
+-- of the file.
+pub record AreForPending (a : View) (calls : ℕ) : Type 0 where
+  pub begun : ℕ
+  pub some : begun ≤ length (pending a.held)
+  pub last : TallyView
+  pub are_for : IsForItems (layout_in a.held) a (opened_state a.held) (opened_tally a.held) (take begun (pending a.held)) last calls
+
+-- An opening makes so many calls at most; where items are to be applied, besides those of the items and two for the intent's gate.
+abbrev pub CallsOpening : ℕ → View → View → Type 0
+CallsOpening back a b = (b.calls ≤ a.calls + back) ⊎ ((items : ℕ) × (has_pending a.held ≡ true) × AreForPending a items × (b.calls ≤ a.calls + back + items + 2))
 
 -- damage names a segment that a file may have, and a slot that a segment has; where it is another count, the two numbers differ
 abbrev pub TellsOtherCount : OpenFault → Type 0

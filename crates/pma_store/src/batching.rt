@@ -1,12 +1,13 @@
 //! Several updates as one command.
 
-ghost use Rattle.std.specs.Prelude.{◌≡◌, ◌≢◌, ◌≤◌, ◌^◌, Some, OnOk, IfOk, IfErr, IsErrOf, is_err, length, T, ◌*◌};
+ghost use Rattle.std.specs.Prelude.{◌≡◌, ◌≤◌, ◌^◌, Some, OnOk, IfOk, IfErr, IsErrOf, is_err, length, T, ◌*◌};
 ghost use Rattle.std.specs.List.{list_all};
 ghost use Rattle.station.specs.View.{Told, Rose};
 ghost use Rattle.batch_intent.specs.Spelling.{fits_item};
 ghost use Rattle.header_gate.specs.declared.layout.TheConstants.{INTENT_VERSION};
 ghost use Rattle.map_model.specs.Image.{map_of};
-ghost use Rattle.pma_store.specs.Batching.{AppliesBatch, Batches, done_by, version_of};
+ghost use Rattle.pma_store.specs.BatchCalls.{CallsIntent};
+ghost use Rattle.pma_store.specs.Batching.{AppliesBatch, Batches, IsRefusal, done_by, version_of};
 ghost use Rattle.pma_store.specs.Judging.{AreAllFound, counts_of, edits_of, judged_of};
 ghost use Rattle.pma_store.specs.Looking.{TellsOther};
 ghost use Rattle.pma_store.specs.Store.{IsOpenOn, limit_of};
@@ -109,7 +110,8 @@ impl OpenArray {
         requires version { INTENT_VERSION ≤ version_of self.old }
         requires judged { Told (S.view station.old) → Some (counts_of judged.now) ≡ judged_of (limit_of self.old) (map_of (S.view station.old).held) intent.now }
         requires found { Told (S.view station.old) → AreAllFound (Some judged.now.found) intent.now (map_of (S.view station.old).held) }
-        ensures made { IfOk result (λ done. done ≢ Batch.NoBatch) }
+        ensures made { IfOk result (λ done. ¬ IsRefusal done) }
+        ensures intent { CallsIntent intent.now self.old (S.view station.old) (S.view station.new) }
         ensures applied { AppliesBatch intent.now result self.old self.new (S.view station.old) (S.view station.new) }
     {
         match write_intent(station, intent) {

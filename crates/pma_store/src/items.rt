@@ -6,7 +6,7 @@ ghost use Rattle.station.specs.View.{Told};
 ghost use Rattle.batch_intent.specs.Items as intents;
 ghost use Rattle.batch_intent.specs.Spelling.{fits_item};
 ghost use Rattle.map_model.specs.Array.{segment_at, segment_for};
-ghost use Rattle.map_model.specs.ArrayUpdates.{key_of};
+ghost use Rattle.map_model.specs.Store.{key_of};
 ghost use Rattle.segment.specs.Rows.{value_of};
 ghost use Rattle.map_model.specs.Image.{array_of, map_of};
 ghost use Rattle.cost_ledger.specs.Work.{IsWork};

@@ -4,7 +4,8 @@ ghost use Rattle.std.specs.Prelude.{◌≡◌, ◌+◌, ◌^◌, ◌<◌, ℕ, n
 ghost use Rattle.std.specs.FinMap.{len};
 ghost use Rattle.density_rule.specs.Bounds.{upper_of};
 ghost use Rattle.map_model.specs.Store.{Map};
-ghost use Rattle.pma_store.specs.Judging.{AreFoundAt, counts_in, counts_of, edits_of, judged_of, meets_by, records_by, counted_by, total};
+ghost use Rattle.pma_store.specs.Judging.{AreFoundAt, counts_in, counts_of, edits_of, judged_of, counted_by, total};
+ghost use Rattle.recovery.specs.Intents.{meets_by, records_by};
 ghost use Rattle.pma_store.specs.Updating.{update_of};
 
 use crate::array::OpenArray;

@@ -119,6 +119,7 @@ fn read_rows<S: Station>(
     ensures fits { OnOk result (T (list_all (is_record place.now.layout.format) rows.new)) }
     ensures steps { Steps Same (S.view station.old) (S.view station.new) }
     ensures reads { (S.view station.new).travel ≡ after_read (segment_place place.now.layout place.now.region segment) (segment_size place.now.layout) (S.view station.old).travel }
+    ensures calls { (S.view station.new).calls ≤ (S.view station.old).calls + 1 }
     ensures damaged { IfErr result (λ fault. Told (S.view station.old) → fault ≡ Failed) }
     ensures met { IfErr result (λ fault. IsMetLooking place.now tally.now fault (S.view station.new)) }
     ensures failed { IsErrOf result Failed → Rose (S.view station.old).disk_faults (S.view station.new).disk_faults }
@@ -145,6 +146,7 @@ fn take_in(
     requires intent { IsIntent intent.now }
     requires may { MayLoad layout.now intent.now segments.now segment frames.old look.old rows.old }
     ensures loaded { AreLoaded layout.now.format frames.new look.new (segment + 1) }
+    ensures count { look.new.count ≤ look.old.count + 1 }
     ensures looked { (array : Array) → 0 < length array → IsAscending (rows_of array) → BelongThere array segments.now intent.now → rows.old ≡ segment_at array segment → HasLooked layout.now.format array segments.now intent.now frames.old look.old segment → HasLooked layout.now.format array segments.now intent.now frames.new look.new (segment + 1) }
     ensures journal { frames.new.journal ≡ frames.old.journal }
 {
@@ -167,6 +169,7 @@ fn load_edits(
 ) -> bool
     requires may { MayLoad layout.now intent.now segments.now segment frames.old look.old rows.old }
     ensures loaded { AreLoaded layout.now.format frames.new look.new (segment + 1) }
+    ensures count { look.new.count ≤ look.old.count + 1 }
     ensures more { result ≡ true → LoadsMore layout.now.format segment (edited_by (own_items segment segments.now intent.now) rows.old) frames.old frames.new }
     ensures kept { result ≡ false → (frames.new ≡ frames.old) × (look.new ≡ look.old) }
     ensures journal { frames.new.journal ≡ frames.old.journal }

@@ -2,9 +2,9 @@
 
 ghost use Rattle.std.specs.Prelude.{◌≡◌, ◌<◌, ◌≤◌, ℕ, length, slice_index_or, true, false, is_ok};
 ghost use Rattle.batch_intent.specs.Items.{update_of};
-ghost use Rattle.map_model.specs.ArrayUpdates.{key_of};
-ghost use Rattle.map_model.specs.Store.{Update};
-ghost use Rattle.one_commit.specs.Editing.{edited, edited_by};
+ghost use Rattle.map_model.specs.Store.{Update, key_of};
+ghost use Rattle.map_model.specs.ArrayUpdates.{edited};
+ghost use Rattle.one_commit.specs.Editing.{edited_by};
 ghost use Rattle.pma_store.specs.Own.{own_items, FillsAmid, FindsIn, HasEdit, edits_by};
 ghost use Rattle.key_slot.specs.declared.sizes.TheConstants.{SEGMENT_SLOTS};
 

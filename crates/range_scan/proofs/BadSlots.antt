@@ -1,5 +1,5 @@
 -- A bad slot is one of a segment's.
-use Rattle.std.proofs.Common.{◌≡◌, ℕ, zero, suc, ◌+◌, ◌<◌, Bool, true, false, cond, List, Option, Some, refl, arith}
+use Rattle.std.proofs.Common.{◌≡◌, ℕ, zero, suc, ◌+◌, ◌<◌, Bool, true, false, cond, List, Some, arith}
 use Rattle.std.specs.List.{find, range_with_len}
 use Rattle.key_slot.specs.Segment.{first_bad_slot, is_bad_slot}
 use Rattle.key_slot.specs.declared.sizes.TheConstants.{SEGMENT_SLOTS}

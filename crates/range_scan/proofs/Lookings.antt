@@ -30,6 +30,7 @@ use Rattle.map_model.specs.Array.{Array, rows, cut}
 use Rattle.map_model.specs.Image.{map_of, array_in, array_of}
 use Rattle.map_model.specs.Reasons.{begins_above}
 use Rattle.map_model.specs.Standing.{StandsWith, StandsBalanced}
+use Rattle.map_model.proofs.Reasonings.{own_rows}
 use Rattle.range_scan.specs.Bounds.{are_before, are_from}
 use Rattle.range_scan.proofs.BoundLaws.{within, within_before, within_behind, within_both, from-append, no_both}
 use Rattle.std.proofs.lemmas.List.Elements.{filter-append}
@@ -187,7 +188,7 @@ ascending_from (s ∷ segments) (suc n) ascending = ascending_from segments n (i
 -- Where a look begins.
 module _ (layout : Layout) (region height : ℕ) (counts image : List ℕ) (stands : StandsWith layout region height counts image) where
   pub all : rows (cut counts (entries (map_of image))) ≡ entries (map_of image)
-  all = ap rows (cut_is layout region height counts image stands) ∙ (own layout region height counts image stands).rows_are
+  all = ap rows (cut_is layout region height counts image stands) ∙ own_rows image (map_of image) height (own layout region height counts image stands)
 
   -- its records ascend
   pub lies_from : (r : ReaderView) → r.last ≡ None → LieAbove r (cut counts (entries (map_of image)))

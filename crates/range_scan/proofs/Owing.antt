@@ -1,5 +1,5 @@
 -- The records that segments have for a scan, by their counts.
-use Rattle.std.proofs.Common.{◌≡◌, ℕ, ◌+◌, ◌-◌, ◌<◌, ◌≤◌, Bool, true, false, cond, length, get_or, take, sum, refl, sym, ◌∙◌, ap, arith}
+use Rattle.std.proofs.Common.{◌≡◌, ℕ, ◌+◌, ◌-◌, ◌<◌, ◌≤◌, Bool, true, false, cond, length, take, sum, ap, arith}
 use Rattle.std.specs.Prelude.{is_some, ◌==◌, ◌&&◌}
 use Rattle.density_rule.specs.Windows.{count_in}
 use Rattle.density_rule.proofs.Totals.{count_in-segment}

@@ -1,11 +1,11 @@
 -- Bytes of several segments, one after another.
-use Rattle.std.proofs.Common.{◌≡◌, ℕ, zero, suc, ◌+◌, ◌-◌, ◌*◌, ◌<◌, ◌≤◌, List, [], ◌∷◌, ◌++◌, length, get_or, take, drop, refl, sym, ◌∙◌, ap, subst, arith}
+use Rattle.std.proofs.Common.{◌≡◌, ℕ, zero, suc, ◌+◌, ◌-◌, ◌*◌, ◌<◌, ◌≤◌, List, [], ◌∷◌, ◌++◌, length, take, drop, refl, sym, ◌∙◌, ap, subst, arith}
 use Rattle.std.proofs.lemmas.List.{get_or-take, get_or-drop, length-drop, length-take-le, take-append-le, drop-append-le}
 use Rattle.station.specs.Bytes.{byte, Filled}
 use Rattle.header_gate.specs.declared.layout.Layout.{Layout}
 use Rattle.header_gate.specs.Places.{segment_place, segment_size}
 use Rattle.key_slot.specs.Record.{Bytes}
-use Rattle.range_scan.specs.PageView.{PageView, pages_of, page_of}
+use Rattle.range_scan.specs.PageView.{pages_of, page_of}
 use Rattle.range_scan.specs.Reading.{page_in}
 use Rattle.range_scan.specs.Running.{pages_in, first_of, read_for, rest_of}
 use Rattle.range_scan.proofs.Pages.{page_filled}

@@ -1,6 +1,5 @@
 -- How many segments a sweep reads at once.
-use Rattle.std.specs.Prelude.{◌≡◌, ◌⊎◌, ℕ, ◌+◌, ◌-◌, ◌*◌, ◌/◌, ◌<◌, ◌≤◌, ◌==◌, ◌&&◌, is_some, max, take, sum, if◌then◌else◌}
-use Rattle.header_gate.specs.Places.{segment_size}
+use Rattle.std.specs.Prelude.{◌⊎◌, ℕ, ◌+◌, ◌-◌, ◌/◌, ◌<◌, ◌≤◌, ◌==◌, ◌&&◌, is_some, max, take, sum, if◌then◌else◌}
 use Rattle.range_scan.specs.Running.{IsRun}
 use Rattle.range_scan.specs.SweepView.{SweepView, judged}
 

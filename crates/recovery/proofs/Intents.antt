@@ -13,7 +13,8 @@ use Rattle.header_gate.specs.Places.{height_limit, segment_size}
 use Rattle.header_gate.specs.Reasons.{or_else}
 use Rattle.map_model.specs.Array.{rows}
 use Rattle.map_model.specs.Items.{first_full}
-use Rattle.map_model.specs.Image.{array_of, map_of}
+use Rattle.map_model.specs.Image.{array_of, height_of, map_of}
+use Rattle.map_model.proofs.Reasonings.{length-array_in}
 use Rattle.map_model.specs.Reasons.{reason_of}
 use Rattle.map_model.specs.Standing.{StandsWith}
 use Rattle.map_model.specs.Store.{Update}
@@ -26,7 +27,7 @@ use Rattle.batch_intent.proofs.Gates.{length-intent_area}
 use Rattle.batch_intent.proofs.ItemsRead.{reads_item}
 use Rattle.batch_intent.proofs.Meanings.{none_pending, some_pending, pending_kept, area_kept}
 use Rattle.batch_intent.proofs.Sound.{spells_of_none}
-use Rattle.recovery.specs.Intents.{intent_of, intent_reason, intent_reads, look_reads, may_meet, place_among}
+use Rattle.recovery.specs.Intents.{intent_of, intent_reason, intent_calls, intent_reads, look_calls, look_reads, may_meet, place_among}
 use Rattle.recovery.specs.Restores.{Restores}
 use Rattle.recovery.proofs.Keeping.{items_same, restores_keeps}
 use Rattle.recovery.proofs.Rooms.{full_below}
@@ -130,6 +131,29 @@ look_within layout region height counts image items n stands are none all =
     by_test true none = all
     by_test false none = omega (arith, none refl)
 
+-- The calls for it.
+
+by_gate : (p : Bool) (n most : ℕ) → (p ≡ false → n ≤ 1) → n ≤ most → n ≤ cond p most 1
+by_gate true n most gate all = all
+by_gate false n most gate all = gate refl
+
+pub calls_within : (layout : Layout) (image : List ℕ) (n : ℕ) → layout_in image ≡ layout → (has_intent layout image ≡ false → n ≤ 1) → n ≤ 2 + look_calls image → n ≤ intent_calls image
+calls_within layout image n is gate all =
+    by_gate (has_pending image) n (2 + look_calls image) (λ idle. gate (ap (λ (l : Layout). has_intent l image) (sym is) ∙ idle)) all
+
+-- those of the look, by the counts of a file that stands
+pub look_called : (layout : Layout) (region height : ℕ) (counts image : List ℕ) (items : List Update) (n : ℕ) → StandsWith layout region height counts image → pending image ≡ items
+    → (may_meet (height_limit layout) (sum counts) items ≡ false → n ≡ 0) → n ≤ 2 ^ height → n ≤ look_calls image
+look_called layout region height counts image items n stands are none all =
+    subst (λ (most : ℕ). n ≤ most) (sym (λ t. cond (test t) (2 ^ stands.height_is t) 0)) (by_test (may_meet (height_limit layout) (sum counts) items) none)
+  where
+    test : may_meet (height_limit (layout_in image)) (len (map_of image)) (pending image) ≡ may_meet (height_limit layout) (sum counts) items
+    test = λ t. may_meet (height_limit (stands.settled.layout_is t)) (records_are layout region height counts image stands t) (are t)
+
+    by_test : (b : Bool) → (b ≡ false → n ≡ 0) → n ≤ cond b (2 ^ height) 0
+    by_test true none = all
+    by_test false none = omega (arith, none refl)
+
 -- A file that is brought back.
 
 module _ (old new : List ℕ) (restores : Restores old new) where
@@ -151,6 +175,14 @@ module _ (old new : List ℕ) (restores : Restores old new) where
     reason_kept t =
         or_else (cond (pending_kept old new intent_kept t) (reason_at (wrong_place (intent_kept.layout_is t).format (area_kept old new intent_kept t))) None)
         (full_reason (area_kept old new intent_kept t) (first_full (height_limit (intent_kept.layout_is t)) (maps t) (items_kept t)))
+
+    -- so are the calls for it
+    pub calls_kept : intent_calls new ≡ intent_calls old
+    calls_kept t =
+        cond (pending_kept old new intent_kept t) (2 + cond (may_meet (height_limit (intent_kept.layout_is t)) (len (maps t)) (items_kept t)) (size t) 0) 1
+      where
+        size : 2 ^ height_of new ≡ 2 ^ height_of old
+        size = sym (length-array_in new (height_of new)) ∙ ap length arrays ∙ length-array_in old (height_of old)
 
     -- what is wrong with the intent is what is wrong with the file at entry
     pub by_intent : (answer : Option Reason) → reason_of old ≡ None → intent_reason new ≡ answer → opening_reason old ≡ answer

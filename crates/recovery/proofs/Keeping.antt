@@ -6,7 +6,7 @@ use Rattle.header_gate.specs.Header.{layout_in, live_copy, number, IsGatePlace}
 use Rattle.header_gate.specs.Places.{height_limit, copy_place}
 use Rattle.header_gate.proofs.NumberLaws.{number_same}
 use Rattle.map_model.specs.Store.{Map}
-use Rattle.map_model.specs.Items.{map_after_items, AreAdmitted}
+use Rattle.map_model.specs.Items.{AreAdmitted, state_after_items}
 use Rattle.map_model.specs.Image.{Represents, slot_format}
 use Rattle.redo_journal.specs.Commit.{IsJournalPlace, IsRegionPlace}
 use Rattle.batch_intent.specs.Means.{Means, pending, KeepsIntent, IsApart}
@@ -32,7 +32,7 @@ module _ (old new : List ℕ) (keeps : KeepsIntent old new) where
     idle = λ none. means.idle (sym (pending_kept old new keeps) ∙ none);
     form = λ some. spells_kept old new keeps means.items (means.form (sym (pending_kept old new keeps) ∙ some));
     admitted = subst (λ (l : Layout). AreAdmitted (height_limit l) means.base means.items) (sym keeps.layout_is) means.admitted;
-    map_is = ap (λ (l : Layout). map_after_items (height_limit l) means.base means.items) keeps.layout_is ∙ means.map_is;
+    map_is = ap (λ (l : Layout). (state_after_items (height_limit l) (record { map = means.base; height = height }) means.items).map) keeps.layout_is ∙ means.map_is;
   }
 
 -- An opening.

@@ -8,13 +8,12 @@ use Rattle.key_slot.specs.Record.{Bytes, Record, key_cmp}
 use Rattle.key_slot.specs.Segment.{IsSegment, segment_of}
 use Rattle.key_slot.proofs.SegmentLaws.{segment_sound}
 use Rattle.map_model.specs.Array.{rows}
-use Rattle.map_model.specs.ArrayUpdates.{key_of}
 use Rattle.map_model.specs.Image.{array_in, array_from, live_segment, map_of}
 use Rattle.map_model.specs.Standing.{StandsWith}
-use Rattle.map_model.specs.Store.{Update}
+use Rattle.map_model.specs.Store.{Update, key_of}
 use Rattle.map_model.proofs.ArrayReasons.{rows_more}
 use Rattle.map_model.proofs.Entries.{find-rows, length-rows}
-use Rattle.map_model.proofs.Reasonings.{array_is}
+use Rattle.map_model.proofs.Reasonings.{array_is, own_rows, own_segments}
 use Rattle.range_scan.proofs.Checks as checks
 use Rattle.range_scan.proofs.Standing.{own, format_is, page_is, count_kept}
 use Rattle.range_scan.specs.Reading.{page_in}
@@ -53,7 +52,7 @@ module _ (layout : Layout) (region height : ℕ) (counts image : List ℕ) (stan
       ap rows (same_arrays layout.format (page_in layout region image) (live_segment image) (2 ^ height) (λ i lt. page_is layout region height counts image stands i lt))
       ∙ ap (λ (f : ℕ). rows (array_from f (live_segment image) (2 ^ height))) (sym (format_is layout region height counts image stands))
       ∙ ap rows (sym (array_is image height))
-      ∙ (own layout region height counts image stands).rows_are
+      ∙ own_rows image (map_of image) height (own layout region height counts image stands)
 
   -- behind the last segment the keys that were found are those of the map
   pub all_there : (items : List Update) (there : List Bool) → AreThere items there (in_front layout.format (page_in layout region image) (2 ^ height)) → AreThere items there (contains_key (map_of image))
@@ -65,7 +64,7 @@ module _ (layout : Layout) (region height : ℕ) (counts image : List ℕ) (stan
       let f = layout.format in
       let rows = segment_of f (live_segment image i) in
       let there : IsSegment f rows (live_segment image i) =
-      subst (λ (g : ℕ). IsSegment g (segment_of g (live_segment image i)) (live_segment image i)) (format_is layout region height counts image stands) ((own layout region height counts image stands).segments i lt) in
+      subst (λ (g : ℕ). IsSegment g (segment_of g (live_segment image i)) (live_segment image i)) (format_is layout region height counts image stands) (own_segments image (map_of image) height (own layout region height counts image stands) i lt) in
       let live : IsSegment f rows (page_in layout region image i) = subst (IsSegment f rows) (sym (page_is layout region height counts image stands i lt)) there in
       (λ t. damage_by (segment_sound f rows (page_in layout region image i) live t) (count_kept layout region height counts image stands i lt t) (count_in counts 0 i))
       ∙ ap (λ (b : Bool). cond b None (Some (OtherCount (count_in counts 0 i) (count_in counts 0 i)))) (eq-eqb (count_in counts 0 i) (count_in counts 0 i) refl)
@@ -73,6 +72,6 @@ module _ (layout : Layout) (region height : ℕ) (counts image : List ℕ) (stan
   -- the map has as many records as the segments have
   pub records_are : len (map_of image) ≡ sum counts
   records_are =
-      sym (length-rows (rows (array_in image height)) (map_of image) (own layout region height counts image stands).rows_are)
+      sym (length-rows (rows (array_in image height)) (map_of image) (own_rows image (map_of image) height (own layout region height counts image stands)))
       ∙ checks.length-rows (array_in image height)
       ∙ ap sum stands.counts_are

@@ -7,6 +7,7 @@ use Rattle.station.specs.Bytes.{Same}
 use Rattle.station.specs.View.{View, Lawful, Told, NothingPending, MayHold, Rose}
 use Rattle.station.specs.Steps.{Steps}
 use Rattle.station.proofs.Composition.{weaken, andthen, on_same, no_steps, told_on, told_of, only_held}
+use Rattle.density_rule.specs.Repair.{repair_window}
 use Rattle.density_rule.specs.Windows.{IsBalanced}
 use Rattle.header_gate.specs.declared.header.Header.{Header}
 use Rattle.header_gate.specs.declared.header.HeaderFault.{HeaderFault}
@@ -17,14 +18,16 @@ use Rattle.header_gate.specs.Places.{page_size, height_limit, file_length}
 use Rattle.header_gate.specs.Reasons.{or_else, header_reason, IsSoundHeader}
 use Rattle.header_gate.proofs.Soundness.{none_of_sound}
 use Rattle.map_model.specs.Store.{Map}
-use Rattle.map_model.specs.Image.{height_of}
+use Rattle.map_model.specs.Array.{counts_of}
+use Rattle.map_model.specs.Image.{array_of, height_of}
 use Rattle.map_model.proofs.Reasonings.{represents_of_none}
 use Rattle.map_model.specs.Reasons.{reason_of}
 use Rattle.map_model.specs.Repairing.{repair as repair_of}
 use Rattle.batch_intent.specs.Means.{Means, opening_reason}
 use Rattle.batch_intent.proofs.OpeningReasons.{none_of_means}
 use Rattle.redo_journal.specs.declared.place.Place.{Place}
-use Rattle.recovery.specs.Costs.{repair_cost, opening_cost, back_reads, opening_reads}
+use Rattle.segment_frames.specs.Lists.{most_segments}
+use Rattle.recovery.specs.Costs.{repair_cost, opening_cost, mending_calls, back_reads, opening_reads}
 use Rattle.recovery.specs.Faults.{fault_of, IsNoDamage, IsReadFault, IsRepairFault, IsRereadFault}
 use Rattle.recovery.specs.Intents.{intent_reason, IsIntentFor}
 use Rattle.recovery.specs.Opening.{OpensFile, IsOpened, Awaits, ReadsBack, Repairs}
@@ -282,6 +285,13 @@ module _ (result : Result (Unit {0}) OpenFault) (x : Unit {0}) (head : Header) (
       other (Ok y) cause is = cc
       other (Err e) cause is = let own : e ≡ Memory = cc in subst IsRepairFault own cause
 
+  mended : Told a → mending_calls (most_segments mid.place.layout) (repair_window mid.tally.height mid.tally.counts) ≡ mending_calls (most_segments (layout_in a.held)) (repair_window (height_of a.held) (counts_of (array_of a.held)))
+  mended told =
+      let counts =
+      sym (array_now mid.place.layout mid.place.region mid.tally.height mid.tally.counts b.held (back.back.stands b.held (inl (told_on back.steps.frame told, refl))))
+      ∙ ap counts_of (back.array told) in
+      λ t. mending_calls (most_segments (sym (layout_at a.held (inl (told, refl))) t)) (repair_window (height_at told t) (counts t))
+
   -- the parts of the opened store
   pub opened : OnOk result (NothingPending c) → OnOk result (IsOpened new a c)
   opened settled = by_result result repairs settled
@@ -297,6 +307,7 @@ module _ (result : Result (Unit {0}) OpenFault) (x : Unit {0}) (head : Header) (
         waits = λ told. done.intent ∙ back.waits told;
         items = subst (IsIntentFor new.place.layout.format) (sym done.intent) (subst (λ (p : Place). IsIntentFor p.layout.format mid.intent) (sym done.place) back.items);
         settled = quiet;
+        calls = λ told. omega (arith, back.calls_asked told, done.calls, mended told);
       }
 
   pub cost : c.travel.written ≤ a.travel.written + opening_cost old.place.layout

@@ -1,6 +1,5 @@
 -- What comes of the reading of a file, by where it ends.
-use Rattle.std.proofs.Common.{◌≡◌, inl, Bool, true, false, ℕ, ◌+◌, ◌*◌, ◌^◌, ◌≤◌, List, Option, Some, None, Ok, Err, refl, sym, ◌∙◌, ap, subst, arith}
-use Rattle.std.specs.Prelude.{if◌then◌else◌}
+use Rattle.std.proofs.Common.{◌≡◌, inl, ℕ, ◌+◌, ◌*◌, ◌^◌, ◌≤◌, List, Option, Some, None, Ok, Err, refl, sym, ◌∙◌, ap, subst, arith}
 use Rattle.station.specs.Bytes.{Same}
 use Rattle.station.specs.View.{View, Lawful, Told, NothingPending}
 use Rattle.station.specs.Steps.{Steps}
@@ -16,9 +15,9 @@ use Rattle.redo_journal.specs.declared.place.Place.{Place}
 use Rattle.segment_frames.specs.Standing.{StandsFor}
 use Rattle.veb_index.specs.View.{IndexView}
 use Rattle.window_tally.specs.View.{TallyView}
-use Rattle.recovery.specs.Costs.{replay_cost, back_reads, replay_calls, back_calls}
+use Rattle.recovery.specs.Costs.{replay_cost, back_reads, replay_calls, region_calls, laying_calls, back_calls}
 use Rattle.recovery.specs.Faults.{IsEarly, IsNoDamage, IsRegionFault, IsIntentFault, IsReadFault}
-use Rattle.recovery.specs.Intents.{intent_of, intent_reason, intent_reads, region_reads, IsIntentFor}
+use Rattle.recovery.specs.Intents.{intent_of, intent_reason, intent_calls, intent_reads, region_reads, IsIntentFor}
 use Rattle.recovery.specs.Opening.{Awaits, IsReadBack, ReadsBack}
 use Rattle.recovery.specs.Parts.{HasFences}
 use Rattle.recovery.specs.Restores.{Restores, LeavesFile}
@@ -26,9 +25,8 @@ use Rattle.recovery.specs.declared.fault.OpenFault.{OpenFault}
 use Rattle.recovery.specs.declared.fault.OpenFault.TheVariants.{Memory, Failed, NotStore, Damaged}
 use Rattle.recovery.specs.declared.parts.Parts.{Parts}
 use Rattle.recovery.proofs.Bringing.{leaves_on}
-use Rattle.recovery.proofs.Intents.{by_file, by_intent, waits_kept}
+use Rattle.recovery.proofs.Intents.{by_file, by_intent, waits_kept, calls_kept}
 use Rattle.recovery.proofs.Openings.{same_leaves}
-use Rattle.batch_intent.specs.Gate.{has_intent}
 
 -- what is known of parts and file stays where nothing is written
 pub still_back : {place : Place} {tally : TallyView} {index : IndexView} {journal : ℕ} (b c : View) → Lawful b → Lawful c → Steps Same b c → IsReadBack place tally index journal b → IsReadBack place tally index journal c
@@ -66,9 +64,12 @@ intent_read (Damaged segment why) is = is
 module _ (head : Header) (old mid : Parts) (a b : View) (awaits : Awaits head old a) (steps : Steps Restores a b) (place : mid.place ≡ old.place)
     (kept : Told a → gate a.held ≡ 0 → LeavesFile a b) (read : Told a → gate a.held ≡ 0 → b.travel.read ≤ a.travel.read + segment_size old.place.layout * 2 ^ head.height)
     (cost : b.travel.written ≤ a.travel.written + replay_cost old.place.layout)
-    (calls : b.calls ≤ a.calls + (replay_calls old.place.layout + 2 ^ head.height)) (few : Told a → gate a.held ≡ 0 → b.calls ≤ a.calls + 2 ^ head.height) where
+    (calls : b.calls ≤ a.calls + (replay_calls old.place.layout + region_calls old.place.layout head.height)) (few : Told a → gate a.held ≡ 0 → b.calls ≤ a.calls + region_calls old.place.layout head.height) where
   region_is : Told a → segment_size old.place.layout * 2 ^ head.height ≡ region_reads a.held
   region_is told t = segment_size (sym (awaits.header_is told).layout_is t) * 2 ^ sym (awaits.header_is told).height_is t
+
+  region_called : Told a → region_calls old.place.layout head.height ≡ region_calls (layout_in a.held) (height_of a.held)
+  region_called told t = region_calls (sym (awaits.header_is told).layout_is t) (sym (awaits.header_is told).height_is t)
 
   -- the journal or a segment is refused, or the disk failed
   pub no_region : (e : OpenFault) → IsRegionFault e → ((r : Reason) → e ≡ NotStore r → Told a → reason_of a.held ≡ Some r) → ((r : Reason) → e ≡ NotStore r → IsEarly r → LeavesFile a b)
@@ -89,7 +90,8 @@ module _ (head : Header) (old mid : Parts) (a b : View) (awaits : Awaits head ol
     one_pass = λ told even. omega (arith, read told even, region_is told);
     cost = cost;
     calls = omega (arith, calls);
-    calls_even = λ told even. omega (arith, few told even, ap (λ (h : ℕ). 2 ^ h) (awaits.header_is told).height_is);
+    calls_even = λ told even. omega (arith, few told even, region_called told);
+    calls_asked = tt;
     damaged = λ told. region_no_damage e cause;
     causes = region_read e cause;
   }
@@ -98,7 +100,7 @@ module _ (head : Header) (old mid : Parts) (a b : View) (awaits : Awaits head ol
 
   module _ (c : View) (law_b : Lawful b) (law_c : Lawful c) (bc : Steps Same b c) (back : IsReadBack mid.place mid.tally mid.index mid.frames.journal b) (sound : Told a → reason_of a.held ≡ None)
       (arrays : Told a → array_of b.held ≡ array_of a.held) (written : c.travel.written ≡ b.travel.written) (reads : Told b → c.travel.read ≤ b.travel.read + intent_reads b.held)
-      (same_height : mid.tally.height ≡ head.height) (asks : c.calls ≤ b.calls + (2 + 2 ^ mid.tally.height)) (asks_one : Told b → has_intent mid.place.layout b.held ≡ false → c.calls ≤ b.calls + 1) where
+      (same_height : mid.tally.height ≡ head.height) (asks : c.calls ≤ b.calls + (2 + 2 ^ mid.tally.height)) (asks_told : Told b → c.calls ≤ b.calls + intent_calls b.held) where
     answered : Told a → (answer : Option Reason) → intent_reason b.held ≡ answer → opening_reason a.held ≡ answer
     answered told answer is = by_intent a.held b.held (steps.held told) (arrays told) answer (sound told) is
 
@@ -112,22 +114,12 @@ module _ (head : Header) (old mid : Parts) (a b : View) (awaits : Awaits head ol
     cost_in_all : c.travel.written ≤ a.travel.written + replay_cost old.place.layout
     cost_in_all = omega (arith, cost, written)
 
-    calls_in_all : c.calls ≤ a.calls + (replay_calls old.place.layout + 2 ^ head.height + (2 + 2 ^ head.height))
+    calls_in_all : c.calls ≤ a.calls + (replay_calls old.place.layout + region_calls old.place.layout head.height + (2 + 2 ^ head.height))
     calls_in_all = omega (arith, calls, asks, ap (λ (h : ℕ). 2 ^ h) same_height)
 
     calls_even : Told a → gate a.held ≡ 0 → c.calls ≤ a.calls + back_calls a.held
     calls_even told even =
-        let head_is = awaits.header_is told in
-        let height : 2 ^ head.height ≡ 2 ^ height_of a.held = ap (λ (h : ℕ). 2 ^ h) (sym head_is.height_is) in
-        let same : has_intent mid.place.layout b.held ≡ has_intent (layout_in a.held) a.held = (λ t. has_intent ((ap (λ (p : Place). p.layout) place ∙ sym head_is.layout_is) t) (steps_none told even t)) in
-        omega (arith, few told even, height, by_gate (has_intent (layout_in a.held) a.held) (λ no. asks_one (told_on steps.frame told) (same ∙ no)) (omega (arith, asks, ap (λ (h : ℕ). 2 ^ h) same_height, height)))
-      where
-        steps_none : Told a → gate a.held ≡ 0 → b.held ≡ a.held
-        steps_none told even = (kept told even).steps.held told
-
-        by_gate : (odd : Bool) → (odd ≡ false → c.calls ≤ b.calls + 1) → c.calls ≤ b.calls + (2 + 2 ^ height_of a.held) → c.calls ≤ b.calls + (if odd then 2 + 2 ^ height_of a.held else 1)
-        by_gate true one all = all
-        by_gate false one all = one refl
+        omega (arith, few told even, region_called told, asks_told (told_on steps.frame told), ap intent_calls ((kept told even).steps.held told))
 
     pub no_intent : (e : OpenFault) → IsIntentFault e → ((r : Reason) → e ≡ NotStore r → Told b → intent_reason b.held ≡ Some r) → (Told b → IsNoDamage e) → ReadsBack head (Err e) old mid a c
     no_intent e cause refused fine = record {
@@ -147,13 +139,14 @@ module _ (head : Header) (old mid : Parts) (a b : View) (awaits : Awaits head ol
       cost = cost_in_all;
       calls = calls_in_all;
       calls_even = calls_even;
+      calls_asked = tt;
       damaged = λ told. fine (told_on steps.frame told);
       causes = intent_read e cause;
     }
 
     pub with_intent : (new : Parts) → new ≡ record mid { intent = new.intent } → mid.tally.height ≡ head.height → (Told b → new.intent ≡ intent_of b.held) → IsIntentFor mid.place.layout.format new.intent → (Told b → intent_reason b.held ≡ None)
-        → ReadsBack head (Ok tt) old new a c
-    with_intent new same height waits items none = subst (λ (p : Parts). ReadsBack head (Ok tt) old p a c) (sym same) (record {
+        → (Told a → b.calls ≤ a.calls + (laying_calls a.held + region_calls old.place.layout head.height)) → ReadsBack head (Ok tt) old new a c
+    with_intent new same height waits items none asked = subst (λ (p : Parts). ReadsBack head (Ok tt) old p a c) (sym same) (record {
       back = still_back b c law_b law_c bc back;
       height_is = height;
       place = place;
@@ -170,6 +163,7 @@ module _ (head : Header) (old mid : Parts) (a b : View) (awaits : Awaits head ol
       cost = cost_in_all;
       calls = calls_in_all;
       calls_even = calls_even;
+      calls_asked = λ told. omega (arith, asked told, region_called told, asks_told (told_on steps.frame told), calls_kept a.held b.held (steps.held told) (arrays told));
       damaged = tt;
       causes = tt;
     })

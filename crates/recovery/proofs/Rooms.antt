@@ -1,35 +1,39 @@
 -- Whether items have room, one more at a time.
 use Rattle.std.proofs.Common.{◌≡◌, ℕ, zero, suc, ◌+◌, ◌-◌, ◌<◌, ◌≤◌, Bool, true, false, cond, not, ◌||◌, nat_lt, List, [], ◌∷◌, length, take, get_or, refl, sym, ap, ◌∙◌, arith, Option, Some, None, is_some, length-append}
 use Rattle.std.specs.Cmp.Lexicographic.{nat_list_cmp_total}
-use Rattle.std.specs.FinMap.{contains_key, insert, remove, len, len-insert, len-remove}
+use Rattle.std.specs.FinMap.{contains_key, len, len-insert, len-remove}
 use Rattle.std.specs.List.{flat_map}
 use Rattle.std.proofs.lemmas.Bool.{lt-ltb}
 use Rattle.density_rule.specs.Bounds.{upper_of}
-use Rattle.map_model.specs.Store.{Map, Update, bind, unbind, map_after}
-use Rattle.map_model.specs.ArrayUpdates.{key_of}
-use Rattle.map_model.specs.Items.{meets_full, first_full, first_full_from, map_after_items, are_distinct}
-use Rattle.map_model.proofs.Resuming.{get_before, next_item}
+use Rattle.map_model.specs.Store.{Map, Update, bind, unbind, map_after, key_of, effect_by, effect_map}
+use Rattle.map_model.specs.Items.{meets_full, first_full, first_full_from, map_after_items, are_distinct, is_full}
+use Rattle.map_model.proofs.Resuming.{get_before, next_item, removal_fits}
 use Rattle.batch_intent.specs.Spelling.{item_bytes, intent_bytes}
 use Rattle.recovery.specs.Intents.{is_put, puts_in, meets_by, records_by, place_among, IsCounted}
 
 -- By whether the key is there.
 
-meets_is : (limit : ℕ) (m : Map) (u : Update) → meets_full limit m u ≡ meets_by u (contains_key m (key_of u)) (len m) (upper_of limit)
-meets_is limit m (bind key value) = refl
-meets_is limit m (unbind key) = refl
+pub meets_is : (limit : ℕ) (m : Map) (u : Update) → meets_full limit m u ≡ meets_by u (contains_key m (key_of u)) (len m) (upper_of limit)
+meets_is limit m (bind key value) = put_meets (contains_key m key) (nat_lt (len m) (upper_of limit))
+  where
+    put_meets : (b r : Bool) → is_full (effect_by b r (bind key value)) ≡ not (b || r)
+    put_meets true r = refl
+    put_meets false true = refl
+    put_meets false false = refl
+meets_is limit m (unbind key) = removal_fits key (contains_key m key) (nat_lt (len m) (upper_of limit))
 
-put_records : (m : Map) (key value : List ℕ) (b r : Bool) → contains_key m key ≡ b → not (b || r) ≡ false → len (cond (b || r) (insert m key value) m) ≡ cond b (len m) (len m + 1)
+put_records : (m : Map) (key value : List ℕ) (b r : Bool) → contains_key m key ≡ b → is_full (effect_by b r (bind key value)) ≡ false → len (effect_map (effect_by b r (bind key value)) m (bind key value)) ≡ cond b (len m) (len m + 1)
 put_records m key value true r e room = len-insert nat_list_cmp_total m key value ∙ ap (λ (c : Bool). cond c (len m) (len m + 1)) e
 put_records m key value false true e room = len-insert nat_list_cmp_total m key value ∙ ap (λ (c : Bool). cond c (len m) (len m + 1)) e
 put_records m key value false false e room = absurd (cc)
 
-remove_records : (m : Map) (key : List ℕ) (b : Bool) → contains_key m key ≡ b → len (cond b (remove m key) m) ≡ cond b (len m - 1) (len m)
-remove_records m key true e = len-remove nat_list_cmp_total m key ∙ ap (λ (c : Bool). cond c (len m - 1) (len m)) e
-remove_records m key false e = refl
+remove_records : (m : Map) (key : List ℕ) (b r : Bool) → contains_key m key ≡ b → len (effect_map (effect_by b r (unbind key)) m (unbind key)) ≡ cond b (len m - 1) (len m)
+remove_records m key true r e = len-remove nat_list_cmp_total m key ∙ ap (λ (c : Bool). cond c (len m - 1) (len m)) e
+remove_records m key false r e = refl
 
-records_is : (limit : ℕ) (m : Map) (u : Update) → meets_full limit m u ≡ false → len (map_after limit m u) ≡ records_by u (contains_key m (key_of u)) (len m)
+pub records_is : (limit : ℕ) (m : Map) (u : Update) → meets_full limit m u ≡ false → len (map_after limit m u) ≡ records_by u (contains_key m (key_of u)) (len m)
 records_is limit m (bind key value) room = put_records m key value (contains_key m key) (nat_lt (len m) (upper_of limit)) refl room
-records_is limit m (unbind key) room = remove_records m key (contains_key m key) refl
+records_is limit m (unbind key) room = remove_records m key (contains_key m key) (nat_lt (len m) (upper_of limit)) refl
 
 -- Few records and puts.
 

@@ -1,9 +1,16 @@
 -- What an opening writes at most, and what it reads of a file to which nothing is to be done.
-use Rattle.std.specs.Prelude.{if◌then◌else◌, nat_le, ℕ, ◌+◌, ◌-◌, ◌*◌, ◌^◌, List}
+use Rattle.std.specs.Prelude.{if◌then◌else◌, nat_le, ◌==◌, ℕ, ◌+◌, ◌-◌, ◌*◌, ◌/◌, ◌^◌, List, Option, Some, None}
+use Rattle.density_rule.specs.declared.Window.{Window}
+use Rattle.density_rule.specs.Repair.{repair_window}
 use Rattle.header_gate.specs.declared.layout.Layout.{Layout}
 use Rattle.header_gate.specs.declared.layout.TheConstants.{GREATEST_HEIGHT, INDEXED}
-use Rattle.header_gate.specs.Places.{page_size, height_limit}
-use Rattle.map_model.specs.Image.{height_of}
+use Rattle.header_gate.specs.Header.{gate, layout_in}
+use Rattle.header_gate.specs.Places.{page_size, height_limit, segment_size}
+use Rattle.header_gate.specs.Recovered.{table_numbers}
+use Rattle.map_model.specs.Array.{counts_of}
+use Rattle.map_model.specs.Image.{array_of, height_of}
+use Rattle.range_scan.specs.declared.held_page.TheConstants.{RUN_SIZE}
+use Rattle.redo_journal.specs.Neighbours.{run_count}
 use Rattle.segment_frames.specs.Lists.{most_segments}
 use Rattle.segment_frames.specs.Parts.{parts}
 use Rattle.recovery.specs.Intents.{region_reads, intent_reads, intent_calls}
@@ -29,9 +36,13 @@ replay_calls l = 6 + l.journal
 abbrev pub repair_calls : ℕ → ℕ → ℕ
 repair_calls frames height = if nat_le (2 ^ height) frames then 10 else 12 * (4 * 2 ^ height - 2) + parts frames (2 ^ height)
 
+-- the segments of a store of this height, in runs of as many as are read at once
+abbrev pub region_calls : Layout → ℕ → ℕ
+region_calls l height = parts (RUN_SIZE / segment_size l) (2 ^ height)
+
 -- what comes behind the header of a store of this height: the replay, the region, the intent with a look, and the repair
 abbrev pub behind_calls : Layout → ℕ → ℕ
-behind_calls l height = replay_calls l + 2 ^ height + (2 + 2 ^ height) + repair_calls (most_segments l) height
+behind_calls l height = replay_calls l + region_calls l height + (2 + 2 ^ height) + repair_calls (most_segments l) height
 
 -- in all, with the sync, and the length and the page of the header
 abbrev pub opening_calls : Layout → ℕ → ℕ
@@ -39,7 +50,25 @@ opening_calls l height = 3 + behind_calls l height
 
 -- behind the header of a file to which nothing is to be done: its segments, and the intent
 abbrev pub back_calls : List ℕ → ℕ
-back_calls image = 2 ^ height_of image + intent_calls image
+back_calls image = region_calls (layout_in image) (height_of image) + intent_calls image
+
+-- The calls that a file asks for. A journal that is to be laid over the live region: those of a replay, a write for each run of
+-- neighbouring pages that its table names
+abbrev pub laying_calls : List ℕ → ℕ
+laying_calls image = if gate image == 1 then 6 + run_count (table_numbers image) else 0
+
+-- a repair, with frames for so many segments: those of the window that is spread, if one is
+abbrev pub mending_calls : ℕ → Option Window → ℕ
+mending_calls frames None = 0
+mending_calls frames (Some w) = repair_calls frames w.height
+
+-- what comes behind the header
+abbrev pub asked_behind : List ℕ → ℕ
+asked_behind image = laying_calls image + back_calls image + mending_calls (most_segments (layout_in image)) (repair_window (height_of image) (counts_of (array_of image)))
+
+-- and in all
+abbrev pub asked_opening : List ℕ → ℕ
+asked_opening image = 3 + asked_behind image
 
 -- the layout with the greatest height and the longest journal, whose openings write the most
 abbrev pub greatest_layout : Layout

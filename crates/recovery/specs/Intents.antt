@@ -9,8 +9,7 @@ use Rattle.header_gate.specs.Header.{layout_in}
 use Rattle.header_gate.specs.Places.{height_limit, segment_size}
 use Rattle.header_gate.specs.Reasons.{or_else}
 use Rattle.key_slot.specs.Record.{Bytes, Record}
-use Rattle.map_model.specs.Store.{Map, Update, bind, unbind}
-use Rattle.map_model.specs.ArrayUpdates.{key_of}
+use Rattle.map_model.specs.Store.{Map, Update, bind, unbind, key_of}
 use Rattle.map_model.specs.Image.{height_of, map_of}
 use Rattle.segment.specs.Rows.{value_of}
 use Rattle.batch_intent.specs.declared.places.TheConstants.{INTENT_SIZE}
@@ -57,9 +56,13 @@ look_reads image = if may_meet (height_limit (layout_in image)) (len (map_of ima
 abbrev pub intent_reads : List ℕ → ℕ
 intent_reads image = if nat_lt (layout_in image).version INTENT_VERSION then 0 else (if has_pending image then 1 + INTENT_SIZE + look_reads image else 1)
 
--- the calls that read it: one for the gate, and where this is odd one for the items and those of a look
+-- the calls of a look, one for each segment
+abbrev pub look_calls : List ℕ → ℕ
+look_calls image = if may_meet (height_limit (layout_in image)) (len (map_of image)) (pending image) then 2 ^ height_of image else 0
+
+-- at most the calls that read it: one for the gate, and where this is odd one for the items and those of a look
 abbrev pub intent_calls : List ℕ → ℕ
-intent_calls image = if has_intent (layout_in image) image then 2 + 2 ^ height_of image else 1
+intent_calls image = if has_intent (layout_in image) image then 2 + look_calls image else 1
 
 -- Whether an item meets a full store.
 

@@ -4,6 +4,7 @@ use Rattle.station.specs.View.{View, Told, EachHeld, NothingPending, Rose}
 use Rattle.station.specs.Steps.{Steps}
 use Rattle.density_rule.specs.Bounds.{IsInBounds}
 use Rattle.density_rule.specs.Marks.{no_marks}
+use Rattle.density_rule.specs.Repair.{repair_window}
 use Rattle.header_gate.specs.declared.header.Header.{Header}
 use Rattle.header_gate.specs.declared.reason.Reason.{Reason}
 use Rattle.header_gate.specs.Header.{gate}
@@ -19,7 +20,7 @@ use Rattle.veb_index.specs.View.{IndexView}
 use Rattle.window_tally.specs.View.{TallyView}
 use Rattle.batch_intent.specs.Means.{Means, opening_reason}
 use Rattle.redistribute.specs.Rearranged.{Rearranges}
-use Rattle.recovery.specs.Costs.{replay_cost, repair_cost, replay_calls, repair_calls, back_reads, back_calls}
+use Rattle.recovery.specs.Costs.{replay_cost, repair_cost, replay_calls, region_calls, laying_calls, mending_calls, asked_behind, back_reads, back_calls}
 use Rattle.recovery.specs.Faults.{IsEarly, IsNoDamage, IsReadFault, IsRepairFault}
 use Rattle.recovery.specs.Intents.{intent_of, IsIntentFor}
 use Rattle.recovery.specs.Parts.{AreParts, Fits, AgreesWith, HasFences, HasHeader}
@@ -62,6 +63,8 @@ pub record IsOpened (parts : Parts) (a b : View) : Type 0 where
   pub waits : Told a → parts.intent ≡ intent_of a.held
   pub items : IsIntentFor parts.place.layout.format parts.intent
   pub settled : NothingPending b
+  -- the calls that the file asked for
+  pub calls : Told a → b.calls ≤ a.calls + asked_behind a.held
 
 -- Parts that were made for the file with this header, of which nothing is known yet.
 pub record Awaits (head : Header) (parts : Parts) (v : View) : Type 0 where
@@ -102,8 +105,9 @@ pub record ReadsBack (head : Header) (result : Result (Unit {0}) OpenFault) (old
   pub kept : Told a → gate a.held ≡ 0 → LeavesFile a b
   pub one_pass : Told a → gate a.held ≡ 0 → b.travel.read ≤ a.travel.read + back_reads a.held
   pub cost : b.travel.written ≤ a.travel.written + replay_cost old.place.layout
-  pub calls : b.calls ≤ a.calls + (replay_calls old.place.layout + 2 ^ head.height + (2 + 2 ^ head.height))
+  pub calls : b.calls ≤ a.calls + (replay_calls old.place.layout + region_calls old.place.layout head.height + (2 + 2 ^ head.height))
   pub calls_even : Told a → gate a.held ≡ 0 → b.calls ≤ a.calls + back_calls a.held
+  pub calls_asked : OnOk result (Told a → b.calls ≤ a.calls + (laying_calls a.held + back_calls a.held))
   pub damaged : IfErr result (λ e. Told a → IsNoDamage e)
   pub causes : IfErr result IsReadFault
 
@@ -117,6 +121,6 @@ pub record Repairs (result : Result (Unit {0}) OpenFault) (old new : Parts) (a b
   pub intent : new.intent ≡ old.intent
   pub steps : Steps (Rearranges old.place) a b
   pub cost : b.travel.written ≤ a.travel.written + repair_cost old.place.layout.format old.tally.height
-  pub calls : b.calls ≤ a.calls + repair_calls (most_segments old.place.layout) old.tally.height
+  pub calls : b.calls ≤ a.calls + mending_calls (most_segments old.place.layout) (repair_window old.tally.height old.tally.counts)
   pub damaged : IfErr result (λ e. Told a → e ≡ Failed)
   pub causes : IfErr result IsRepairFault

@@ -7,9 +7,9 @@ ghost use Rattle.station.specs.Steps.{Steps};
 ghost use Rattle.header_gate.specs.Places.{height_limit, segment_size};
 ghost use Rattle.map_model.specs.Items.{first_full};
 ghost use Rattle.map_model.specs.Image.{map_of};
-ghost use Rattle.batch_intent.specs.Gate.{reason_at, has_intent};
+ghost use Rattle.batch_intent.specs.Gate.{reason_at};
 ghost use Rattle.recovery.specs.Faults.{IsNoDamage, IsIntentFault};
-ghost use Rattle.recovery.specs.Intents.{intent_of, intent_reason, intent_reads, IsIntentFor, may_meet, place_among};
+ghost use Rattle.recovery.specs.Intents.{intent_of, intent_reason, intent_calls, intent_reads, IsIntentFor, may_meet, place_among};
 ghost use Rattle.recovery.specs.Opening.{IsReadBack};
 
 use crate::fault::{OpenFault, of_header, of_repair};
@@ -38,7 +38,7 @@ pub(crate) fn take_intent<S: Station>(
     ensures unwritten { (S.view station.new).travel.written ≡ (S.view station.old).travel.written }
     ensures reads { Told (S.view station.old) → (S.view station.new).travel.read ≤ (S.view station.old).travel.read + intent_reads (S.view station.old).held }
     ensures calls { (S.view station.new).calls ≤ (S.view station.old).calls + (2 + 2 ^ parts.now.tally.height) }
-    ensures one_call { Told (S.view station.old) → has_intent parts.now.place.layout (S.view station.old).held ≡ false → (S.view station.new).calls ≤ (S.view station.old).calls + 1 }
+    ensures calls_told { Told (S.view station.old) → (S.view station.new).calls ≤ (S.view station.old).calls + intent_calls (S.view station.old).held }
     ensures damaged { IfErr result (λ e. Told (S.view station.old) → IsNoDamage e) }
     ensures causes { IfErr result IsIntentFault }
     ensures failed { IsErrOf result OpenFault.Failed → Rose (S.view station.old).disk_faults (S.view station.new).disk_faults }
@@ -62,6 +62,7 @@ fn admit<S: Station>(station: &mut S, parts: &Parts, intent: &Intent) -> Result<
     ensures steps { Steps Same (S.view station.old) (S.view station.new) }
     ensures unwritten { (S.view station.new).travel.written ≡ (S.view station.old).travel.written }
     ensures unread { may_meet (height_limit parts.now.place.layout) (sum parts.now.tally.counts) intent.now ≡ false → (S.view station.new).travel.read ≡ (S.view station.old).travel.read }
+    ensures uncalled { may_meet (height_limit parts.now.place.layout) (sum parts.now.tally.counts) intent.now ≡ false → (S.view station.new).calls ≡ (S.view station.old).calls }
     ensures reads { (S.view station.new).travel.read ≤ (S.view station.old).travel.read + segment_size parts.now.place.layout * 2 ^ parts.now.tally.height }
     ensures calls { (S.view station.new).calls ≤ (S.view station.old).calls + 2 ^ parts.now.tally.height }
     ensures damaged { IfErr result (λ e. Told (S.view station.old) → IsNoDamage e) }

@@ -2,9 +2,8 @@
 
 ghost use Rattle.std.specs.Prelude.{◌≡◌, ℕ, ◌+◌, ◌≤◌, ◌^◌, length, IfSome};
 ghost use Rattle.key_slot.specs.declared.sizes.TheConstants.{MAX_KEY_LEN, MAX_VALUE_LEN};
-ghost use Rattle.map_model.specs.ArrayUpdates.{key_of};
 ghost use Rattle.map_model.specs.Items.{first_full};
-ghost use Rattle.map_model.specs.Store.{Map};
+ghost use Rattle.map_model.specs.Store.{Map, key_of};
 ghost use Rattle.batch_intent.specs.Items.{update_of};
 ghost use Rattle.batch_intent.specs.Spelling.{item_bytes};
 ghost use Rattle.recovery.specs.Intents.{puts_in, is_put as is_bind, meets_by, records_by, place_among, IsCounted};

@@ -12,8 +12,9 @@ use Rattle.station.specs.View.{View, Told, Rose}
 use Rattle.station.specs.Steps.{Steps}
 use Rattle.key_slot.specs.declared.sizes.TheConstants.{SEGMENT_SLOTS}
 use Rattle.map_model.specs.Array.{rows}
-use Rattle.map_model.specs.Image.{array_of, map_of}
+use Rattle.map_model.specs.Image.{array_of, map_of, height_of}
 use Rattle.map_model.proofs.Entries.{length-rows}
+use Rattle.map_model.proofs.Reasonings.{own_rows}
 use Rattle.redo_journal.specs.declared.place.Place.{Place}
 use Rattle.segment.specs.declared.fault.StoreFault.{StoreFault}
 use Rattle.segment.specs.declared.fault.StoreFault.TheVariants.{Failed}
@@ -63,7 +64,7 @@ upgraded_bounds l height n limit bounds le = elim (cases_lt (l.hmax - 1) height)
 pub own_bounds : (place : Place) (t : TallyView) (image : List ℕ) → StandsFor place t image → IsInBounds t.height t.height (length (rows (array_of image)))
 own_bounds place t image stands =
     let is = stands.settled.represents in
-    let total : len (map_of image) ≡ length (rows (array_of image)) = sym (length-rows (rows (array_of image)) (map_of image) is.rows_are) in
+    let total : len (map_of image) ≡ length (rows (array_of image)) = sym (length-rows (rows (array_of image)) (map_of image) (own_rows image (map_of image) (height_of image) is)) in
     subst (λ (h : ℕ). IsInBounds h h (length (rows (array_of image)))) stands.height_is (record { least_is = omega (arith, total, is.least_is); most_is = omega (arith, total, is.most_is) })
 
 -- an upgrade that failed

@@ -10,6 +10,8 @@ mod batch_stops;
 #[cfg(test)]
 mod batches;
 #[cfg(test)]
+mod closings;
+#[cfg(test)]
 mod cursors;
 #[cfg(test)]
 mod faults;

@@ -16,15 +16,18 @@ use std::test::Fail;
 // The longest file that it serves, in bytes.
 const REACH: usize = 1 << 40;
 
-// A file. From a call on, the byte at a place is another one; one call fails, and all from another on.
+// A file, what was settled of it last, and the file with another byte at each pending place. From a call on, the byte at a place
+// is another one; one call fails, and all from another on.
 #[derive(Drop)]
 pub(super) struct UntoldStation {
     pub(super) file: Vec<u8>,
+    pub(super) settled: Vec<u8>,
+    pub(super) filled: Vec<u8>,
     pub(super) said: Vec<u8>,
     change: (u64, usize, u8),
     faults: Faults,
     attached: Option<bool>,
-    calls: u64,
+    pub(super) calls: u64,
     disk_faults: u64,
     say_faults: u64,
     pub(super) travel: Travel,
@@ -51,6 +54,15 @@ fn write_into(file: &mut Vec<u8>, place: usize, bytes: &[u8]) {
     for (offset, byte) in bytes.iter().enumerate() {
         if let Some(old) = file.get_mut(place.saturating_add(offset)) {
             *old = *byte;
+        }
+    }
+}
+
+// Writes a byte at so many places, as far as there are places.
+fn fill(file: &mut Vec<u8>, place: usize, count: usize) {
+    for offset in 0..count {
+        if let Some(old) = file.get_mut(place.saturating_add(offset)) {
+            *old = 0xA5;
         }
     }
 }
@@ -130,6 +142,7 @@ impl Station for UntoldStation {
         self.calls = self.calls.saturating_add(1);
         self.travel.add_write(bytes.len() as u64);
         write_into(&mut self.file, pos as usize, bytes);
+        fill(&mut self.filled, pos as usize, bytes.len());
         if fails {
             return self.disk_fault();
         }
@@ -142,6 +155,8 @@ impl Station for UntoldStation {
         if fails {
             return self.disk_fault();
         }
+        write_into(&mut self.settled, 0, &self.file);
+        write_into(&mut self.filled, 0, &self.file);
         Ok(())
     }
 
@@ -172,6 +187,8 @@ fn untold(
 {
     Ok(UntoldStation {
         file: Vec::from_slice(alloc, file)?,
+        settled: Vec::from_slice(alloc, file)?,
+        filled: Vec::from_slice(alloc, file)?,
         said: Vec::new(alloc),
         change,
         faults,
@@ -249,7 +266,8 @@ fn a_store_of_parts_goes_by_their_index(rt: HostRuntime) -> Result<(), Fail> {
     let file = answered(&rt, rt.alloc(), "2", None, &[Part::Put(1, 65)])?;
     let mut station = untold(rt.alloc(), &file, NO_CHANGE, NO_FAULTS)?;
     let mut parts = open_store(rt.alloc(), &mut station)?;
-    assert!(rt; parts.intent.is_none() && parts.tally.height() == 1);
+    assert!(rt; parts.intent.is_none());
+    assert!(rt; parts.tally.height() == 1);
     parts.index.set_fence(1, &Key::from_bytes(b"k050")?);
     let mut store = Store::from_parts(parts);
     let found = store.get(&mut station, &Key::from_bytes(b"k040")?)?;

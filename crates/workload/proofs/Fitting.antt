@@ -1,7 +1,7 @@
 -- The counts of generated commands: each command adds at most 10 to each of them.
 use Rattle.std.proofs.Common.{◌≡◌, ℕ, zero, suc, ◌*◌, ◌%◌, ◌/◌, ◌^◌, ◌≤◌, ◌==◌, nat_lt, Bool, true, false, cond, List, length, refl, ap, arith, Option, Some, None, decimal}
 use Rattle.std.specs.List.{count_by, sum_by}
-use Rattle.std.specs.FinMap.{contains_key, entries, get, len}
+use Rattle.std.specs.FinMap.{entries, get}
 use Rattle.std.specs.FinMap.Entries.{where_key}
 use Rattle.std.proofs.lemmas.List.{length-take}
 use Rattle.std.proofs.lemmas.List.Sums.{sum_by-append}
@@ -9,7 +9,8 @@ use Rattle.key_slot.specs.Record.{Bytes, Record, key_cmp}
 use Rattle.density_rule.specs.Bounds.{upper_of}
 use Rattle.map_model.specs.ArrayState.{ArrayState}
 use Rattle.map_model.specs.Scan.{scanned, is_within}
-use Rattle.command_text.specs.Answers.{answers, row_line, found_or_absent}
+use Rattle.map_model.specs.Store.{bind, unbind, Effect, Replaces, Adds, FindsFull, Takes, FindsNone, effect_of}
+use Rattle.command_text.specs.Answers.{answers, row_line, found_or_absent, effect_line}
 use Rattle.command_text.specs.declared.command.Command.{Command}
 use Rattle.command_text.specs.declared.command.Command.TheVariants as command
 use Rattle.command_text.specs.declared.reply.Reply.{Reply}
@@ -31,14 +32,12 @@ record IsFew (f : Reply → ℕ) : Type 0 where
   found : (v : Bytes) → f (Found v) ≤ 1
 
 module _ (f : Reply → ℕ) (few : IsFew f) where
-  of_put : (a b : Bool) (n : ℕ) → f (cond a Replaced (cond b (Full n) Stored)) ≤ 1
-  of_put true b n = few.replaced
-  of_put false true n = few.full n
-  of_put false false n = few.stored
-
-  of_remove : (a : Bool) → f (cond a Removed Absent) ≤ 1
-  of_remove true = few.removed
-  of_remove false = few.absent
+  of_update : (n : ℕ) (effect : Effect) → f (effect_line n effect) ≤ 1
+  of_update n Replaces = few.replaced
+  of_update n Adds = few.stored
+  of_update n FindsFull = few.full n
+  of_update n Takes = few.removed
+  of_update n FindsNone = few.absent
 
   of_get : (v : Option Bytes) → f (found_or_absent v) ≤ 1
   of_get None = few.absent
@@ -56,8 +55,8 @@ module _ (f : Reply → ℕ) (few : IsFew f) where
   chosen_few s r i =
       let key : Bytes = key_numbered (r / 8 % 100000) in
       let rows : List Record = scanned (Some key) None 10 (entries s.map) in
-      let put : AddsFew s (command.Put key (decimal i)) = omega (arith, of_put (contains_key s.map key) (len s.map == upper_of gen_hmax) (upper_of gen_hmax)) in
-      let remove : AddsFew s (command.Remove key) = omega (arith, of_remove (contains_key s.map key)) in
+      let put : AddsFew s (command.Put key (decimal i)) = omega (arith, of_update (upper_of gen_hmax) (effect_of gen_hmax s.map (bind key (decimal i)))) in
+      let remove : AddsFew s (command.Remove key) = omega (arith, of_update (upper_of gen_hmax) (effect_of gen_hmax s.map (unbind key))) in
       let get : AddsFew s (command.Get key) = omega (arith, of_get (get s.map key)) in
       let range : AddsFew s (command.Range (Some key) None 10) = omega (arith, rows_count_nothing f few.row rows (End (length rows)), few.end (length rows), length-take 10 (where_key key_cmp (is_within (Some key) None) (entries s.map))) in
       either s (nat_lt (r % 8) 5) _ _ put (either s (r % 8 == 5) _ _ remove (either s (r % 8 == 6) _ _ get range))

@@ -1,17 +1,17 @@
 -- The first commands of three seeds, and the lines of four runs, as they are known from outside.
-use Rattle.std.proofs.Common.{◌≡◌, ℕ, ◌+◌, Bool, false, cond, not, List, [], ◌∷◌, ◌++◌, Some, None, Option, is_some, refl, ap, ◌∙◌}
-use Rattle.std.specs.Prelude.{codes, nat_lt, ◌&&◌, ◌||◌, ◌==◌}
+use Rattle.std.proofs.Common.{◌≡◌, ℕ, ◌+◌, Bool, false, cond, List, [], ◌∷◌, ◌++◌, Some, None, Option, is_some, refl, ap, ◌∙◌}
+use Rattle.std.specs.Prelude.{codes, nat_lt}
 use Rattle.std.specs.Fmt.{digits}
 use Rattle.std.specs.FinMap.{contains_key, insert, len, get-empty, len-empty, len-insert}
 use Rattle.std.specs.Cmp.Lexicographic.{nat_list_cmp_total}
 use Rattle.key_slot.specs.Record.{Bytes, Record, key_cmp}
 use Rattle.density_rule.specs.Bounds.{upper_of}
-use Rattle.map_model.specs.Store.{bind, map_after, height_after}
+use Rattle.map_model.specs.Store.{bind, map_after, height_after, Adds, effect_by, effect_of, effect_map, effect_height}
 use Rattle.map_model.specs.Scan.{scanned}
-use Rattle.command_text.specs.Answers.{found_or_absent, range_lines}
+use Rattle.command_text.specs.Answers.{found_or_absent, range_lines, effect_line}
 use Rattle.command_text.specs.declared.command.Command.TheVariants.{Put, Get, Range}
 use Rattle.command_text.specs.declared.reply.Reply.{Reply}
-use Rattle.command_text.specs.declared.reply.Reply.TheVariants.{Stored, Replaced, Full, Absent, End}
+use Rattle.command_text.specs.declared.reply.Reply.TheVariants.{Stored, Absent, End}
 use Rattle.workload.specs.Generator.{next_draw, key_numbered, command_chosen, generated}
 use Rattle.workload.specs.Summaries.{summary_of, summary_text}
 use Rattle.workload.specs.Generation.{gen_layout, empty_state, lines_to, gen_state, gen_line}
@@ -57,14 +57,15 @@ key = codes "k14717"
 absent : contains_key nothing key ≡ false
 absent = ap is_some (get-empty key_cmp key)
 
-replied : (a : Bool) (n : ℕ) → a ≡ false → n ≡ 0 → cond a Replaced (cond (n == upper_of 11) (Full (upper_of 11)) Stored) ∷ [] ≡ Stored ∷ []
-replied a n is_absent is_0 = ap (λ (b : Bool). cond b Replaced (cond (n == upper_of 11) (Full (upper_of 11)) Stored) ∷ []) is_absent ∙ ap (λ (k : ℕ). cond (k == upper_of 11) (Full (upper_of 11)) Stored ∷ []) is_0
+-- it adds a record
+added : effect_of 11 nothing (bind key (codes "1")) ≡ Adds
+added = (λ t. effect_by (absent t) (nat_lt (none t) (upper_of 11)) (bind key (codes "1")))
 
 stored : map_after 11 nothing (bind key (codes "1")) ≡ insert nothing key (codes "1")
-stored = ap (λ (b : Bool). cond (b || nat_lt (len nothing) (upper_of 11)) (insert nothing key (codes "1")) nothing) absent ∙ ap (λ (n : ℕ). cond (nat_lt n (upper_of 11)) (insert nothing key (codes "1")) nothing) none
+stored = (λ t. effect_map (added t) nothing (bind key (codes "1")))
 
 low : height_after 11 0 nothing (bind key (codes "1")) ≡ 0
-low = ap (λ (b : Bool). cond (not b && (nat_lt (len nothing) (upper_of 11) && nat_lt (upper_of 0) (len nothing + 1))) 1 0) absent ∙ ap (λ (n : ℕ). cond (nat_lt n (upper_of 11) && nat_lt (upper_of 0) (n + 1)) 1 0) none
+low = (λ t. effect_height (added t) 0 (none t))
 
 one_held : len (insert nothing key (codes "1")) ≡ 1
 one_held = len-insert nat_list_cmp_total nothing key (codes "1") ∙ ap (λ (b : Bool). cond b (len nothing) (len nothing + 1)) absent ∙ ap (λ (n : ℕ). n + 1) none
@@ -72,4 +73,4 @@ one_held = len-insert nat_list_cmp_total nothing key (codes "1") ∙ ap (λ (b :
 -- a put into it
 pub line_of_put : gen_line 1 2 ≡ codes "gen commands=1 stored=1 replaced=0 removed=0 absent=0 found=0 ranged=0 records=1 height=0" ++ 10 ∷ []
 unfolding summary_text next_draw command_chosen key_numbered digits
-line_of_put = line_by 1 2 1 0 (Stored ∷ []) (replied (contains_key nothing key) (len nothing) absent none) (ap len stored ∙ one_held) low
+line_of_put = line_by 1 2 1 0 (Stored ∷ []) (λ t. effect_line (upper_of 11) (added t) ∷ []) (ap len stored ∙ one_held) low

@@ -1,6 +1,6 @@
 use Rattle.std.proofs.Common.{◌≡◌, Some, IfOk, is_ok, ap, subst, ◌∙◌}
 use Rattle.map_model.specs.Array.{segment_at}
-use Rattle.map_model.specs.ArrayUpdates.{key_of}
+use Rattle.map_model.specs.Store.{key_of}
 use Rattle.segment.specs.Rows.{key_at}
 use Rattle.one_commit.specs.Fitting.{change_before}
 use Rattle.one_commit.proofs.Finding.{taken_change}

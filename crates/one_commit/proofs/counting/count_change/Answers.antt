@@ -1,4 +1,4 @@
-use Rattle.std.proofs.Common.{◌≡◌, ◌+◌, ◌≤◌, ap, subst, sym, ◌∙◌, arith}
+use Rattle.std.proofs.Common.{◌+◌, ◌≤◌, ap, subst, sym, ◌∙◌, arith}
 use Rattle.cost_ledger.specs.Potential.{potential_of}
 use Rattle.density_rule.specs.Marks.{updated_marks}
 use Rattle.density_rule.specs.Updates.{counts_after}

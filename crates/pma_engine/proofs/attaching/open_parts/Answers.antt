@@ -10,8 +10,8 @@ close_clean-requires-clause-reach g c = omega (arith, c.requires.reach, page_bef
 pub close_clean-requires-clause-page : goal.close_clean-requires-clause-page
 close_clean-requires-clause-page g c told = (c.requires.agrees (g.S.Station.view c.args.station.now).held (inl (told, refl))).stands.stands.settled.represents.header.page
 
-pub returns-in-Ok : goal.returns-in-Ok
-returns-in-Ok g c =
+pub returns-in-Ok-clause-takes : goal.returns-in-Ok-clause-takes
+returns-in-Ok-clause-takes g c =
     let closing = c.close_clean.ensures in
     let a = g.S.Station.view c.args.station.now in
     let b = g.S.Station.view c.close_clean.new.station in
@@ -25,8 +25,8 @@ returns-in-Ok g c =
       failed = tt;
     }
 
-pub returns-in-Err : goal.returns-in-Err
-returns-in-Err g c =
+pub returns-in-Err-clause-takes : goal.returns-in-Err-clause-takes
+returns-in-Err-clause-takes g c =
     let closing = c.close_clean.ensures in
     record {
       store = tt;

@@ -39,12 +39,12 @@ returns-in-Ok g c =
     let is : c.into_parts-parts.result.place.layout.version ≡ INDEXED = grind (arith, nat_tests, c.if-parts-ne-INDEXED.false) in
     let does = c.in-Ok.ensures in
     subst (λ (s : StoreView). LeavesIndex 0 s (g.S.Station.view c.args.station.now) (g.S.Station.view c.leave_index.new.station)) (same g here)
-    (leaves_by 0 (same_store g here) (g.S.Station.view c.args.station.now) (g.S.Station.view c.leave_index.new.station) is (inl refl) c.leave_index.ensures.steps (λ e. does.left) (λ e. does.opened) (λ e. does.settled) c.leave_index.ensures.cost c.leave_index.ensures.no_reads (λ e. absurd (omega (arith, e))))
+    (leaves_by 0 (same_store g here) (g.S.Station.view c.args.station.now) (g.S.Station.view c.leave_index.new.station) is (inl refl) c.leave_index.ensures.steps (λ e. does.left) (λ e. does.opened) (λ e. does.settled) c.leave_index.ensures.cost c.leave_index.ensures.no_reads c.leave_index.ensures.calls (λ e. absurd (omega (arith, e))))
 
 pub returns : goal.returns
 returns g c =
     let here = (goal.at.returns g c).After-into_parts-parts in
     let is : c.into_parts-parts.result.place.layout.version ≡ INDEXED = grind (arith, nat_tests, c.if-parts-ne-INDEXED.false) in
     subst (λ (s : StoreView). LeavesIndex 4 s (g.S.Station.view c.args.station.now) (g.S.Station.view c.leave_index.new.station)) (same g here)
-    (leaves_by 4 (same_store g here) (g.S.Station.view c.args.station.now) (g.S.Station.view c.leave_index.new.station) is (inr refl) c.leave_index.ensures.steps (λ e. absurd (omega (arith, e))) (λ e. absurd (omega (arith, e))) (λ e. absurd (omega (arith, e))) c.leave_index.ensures.cost c.leave_index.ensures.no_reads
+    (leaves_by 4 (same_store g here) (g.S.Station.view c.args.station.now) (g.S.Station.view c.leave_index.new.station) is (inr refl) c.leave_index.ensures.steps (λ e. absurd (omega (arith, e))) (λ e. absurd (omega (arith, e))) (λ e. absurd (omega (arith, e))) c.leave_index.ensures.cost c.leave_index.ensures.no_reads c.leave_index.ensures.calls
     (λ e. c.in-Err.ensures.cause))

@@ -1,6 +1,5 @@
-use Rattle.std.proofs.Common.{◌≡◌, ◌⊎◌, ap, subst, sym, ◌∙◌, refl, arith}
+use Rattle.std.proofs.Common.{ap, subst, sym, ◌∙◌, refl, arith}
 use Rattle.station.specs.View.{Fixed, Told}
-use Rattle.pma_engine.specs.Jobs.{TakesNothing}
 use Rattle.pma_engine.proofs.Loading.{Comes, comes_opened, comes_unopened, untaken_of}
 use Rattle.pma_engine.proofs.Closing.{keeps_staying}
 use Rattle.pma_engine.proofs.Opening.{clean_opened, clean_unopened}

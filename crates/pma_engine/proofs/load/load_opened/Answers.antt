@@ -9,7 +9,14 @@ use Rattle.window_tally.specs.View.{TallyView}
 use Rattle.pma_engine.specs.Loading.{LoadsOpened}
 use Rattle.pma_engine.proofs.Closing.{spare_gate, stays_said}
 use Rattle.pma_engine.proofs.Loading.{Facts, Laws, facts_from, loaded_of}
+use Rattle.pma_engine.proofs.Parting.{parts_stand}
 use Rattle.pma_engine.proofs.load.load_opened.Goals as goal
+
+pub load_rows-loaded-requires-clause-stands : goal.load_rows-loaded-requires-clause-stands
+load_rows-loaded-requires-clause-stands g c =
+    let parts = c.into_parts-parts.result in
+    let is = c.into_parts-parts.ensures in
+    parts_stand c.args.store parts.place parts.tally (g.S.Station.view c.args.station.now) is.place is.tally c.requires.open
 
 pub returns : goal.returns
 returns g c =

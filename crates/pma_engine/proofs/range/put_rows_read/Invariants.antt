@@ -7,10 +7,10 @@ use Rattle.pma_engine.proofs.range.put_rows_read.Given as goal
 abbrev pub invariant-loop-sweep : goal.invariant-loop-sweep
 invariant-loop-sweep l = record {
   rows : List Record;
-  text : l.piece.items ≡ l.fn.piece.items ++ row_text rows;
+  text : l.piece ≡ l.fn.piece ++ row_text rows;
   takes : TakesAlong rows l.fn.sweep l.sweep;
   is_sweep : IsSweep l.sweep;
-  begun : l.fn.piece.items ≡ [] → IsAtHand l.fn.sweep → l.fn.sweep.given < l.sweep.given;
+  begun : l.fn.piece ≡ [] → IsAtHand l.fn.sweep → l.fn.sweep.given < l.sweep.given;
 }
 
 abbrev pub decreases-loop-sweep : goal.decreases-loop-sweep

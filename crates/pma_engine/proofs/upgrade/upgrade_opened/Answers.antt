@@ -2,9 +2,16 @@
 use Rattle.std.proofs.Common.{◌≡◌, ◌-◌, ap, refl, subst, sym, arith}
 use Rattle.pma_engine.specs.Upgrading.{UpgradesOpened}
 use Rattle.pma_engine.proofs.Closing.{spare_gate, stays_said}
+use Rattle.pma_engine.proofs.Parting.{parts_stand}
 use Rattle.pma_engine.proofs.Upgrading.{seen, upgraded_from}
 use Rattle.pma_engine.proofs.upgrade.upgrade_opened.Goals as goal
 use Rattle.pma_store.specs.Store.{StoreView, IsOpenOn}
+
+pub upgrade-upgraded-requires-clause-stands : goal.upgrade-upgraded-requires-clause-stands
+upgrade-upgraded-requires-clause-stands g c =
+    let parts = c.into_parts-parts.result in
+    let is = c.into_parts-parts.ensures in
+    parts_stand c.args.store parts.place parts.tally (g.S.Station.view c.args.station.now) is.place is.tally c.requires.open
 
 pub returns-clause-upgrades : goal.returns-clause-upgrades
 returns-clause-upgrades g c =

@@ -30,6 +30,7 @@ returns-then-count-eq0-clause-committed g c =
       none = λ zero. refl;
       cost = omega arith;
       unread = refl;
+      calls = omega arith;
       cause = tt;
     }
 
@@ -44,5 +45,6 @@ returns-clause-committed g c =
       none = λ zero. absurd (omega (arith, zero, c.if-count-eq0.false));
       cost = omega (arith, c.commit.ensures.cost, c.requires.pages);
       unread = c.commit.ensures.no_reads;
+      calls = c.commit.ensures.calls;
       cause = c.commit.ensures.cause;
     }

@@ -1,8 +1,7 @@
 use Rattle.std.proofs.Common.{◌≡◌, ◌<◌, ◌^◌, ℕ, length, get_or}
 use Rattle.key_slot.specs.Record.{IsAscending}
 use Rattle.map_model.specs.Array.{Array, rows, segment_for}
-use Rattle.map_model.specs.ArrayUpdates.{key_of}
-use Rattle.map_model.specs.Store.{Update}
+use Rattle.map_model.specs.Store.{Update, key_of}
 use Rattle.veb_index.specs.Arrays.{IsIndexOf}
 use Rattle.pma_store.proofs.finding.find_segments.Given as goal
 

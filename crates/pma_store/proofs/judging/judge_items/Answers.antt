@@ -5,9 +5,9 @@ use Rattle.std.proofs.lemmas.Bool.{cases_eq}
 use Rattle.std.proofs.lemmas.Grind.{get_or-set_at}
 use Rattle.std.proofs.lemmas.List.{get_or-set_other}
 use Rattle.density_rule.specs.Bounds.{upper_of}
-use Rattle.map_model.specs.ArrayUpdates.{key_of}
-use Rattle.map_model.specs.Store.{Update, unbind}
-use Rattle.pma_store.specs.Judging.{counts_of, meets_by, records_by, counted_by}
+use Rattle.map_model.specs.Store.{Update, unbind, key_of}
+use Rattle.recovery.specs.Intents.{meets_by, records_by}
+use Rattle.pma_store.specs.Judging.{counts_of, counted_by}
 use Rattle.pma_store.specs.Updating.{update_of}
 use Rattle.pma_store.proofs.Judgements.{IsJudged, none_judged, all_judged, full_judged, next_judged, full_of, room_of}
 use Rattle.std.proofs.lemmas.List.{get_or_default}

@@ -4,8 +4,7 @@ use Rattle.std.proofs.lemmas.Grind.{take-set_at}
 use Rattle.std.proofs.lemmas.List.{append-nil, length-set, take_all}
 use Rattle.key_slot.specs.Record.{IsAscending}
 use Rattle.map_model.specs.Array.{Array, rows, segment_at}
-use Rattle.map_model.specs.ArrayUpdates.{key_of}
-use Rattle.map_model.specs.Store.{Update, unbind}
+use Rattle.map_model.specs.Store.{Update, unbind, key_of}
 use Rattle.one_commit.specs.declared.changes.ItemChange.{ItemChange}
 use Rattle.one_commit.specs.Fitting.{change_before, changes_in, is_put, with_change}
 use Rattle.segment.specs.Rows.{key_at}

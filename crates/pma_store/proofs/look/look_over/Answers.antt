@@ -1,4 +1,4 @@
-use Rattle.std.proofs.Common.{ℕ, ◌^◌, ◌<◌, List, length, refl, ap, ◌∙◌, arith}
+use Rattle.std.proofs.Common.{ℕ, ◌+◌, ◌^◌, ◌<◌, List, length, refl, ap, ◌∙◌, arith}
 use Rattle.std.proofs.Math.Pow.{pow_mono}
 use Rattle.std.proofs.lemmas.Nat.{pow_pos}
 use Rattle.station.specs.declared.travel.Travel.{Travel}
@@ -8,6 +8,7 @@ use Rattle.header_gate.specs.Places.{height_limit}
 use Rattle.map_model.specs.Array.{segment_at}
 use Rattle.map_model.specs.Image.{array_of}
 use Rattle.redo_journal.specs.Frames.{Batch}
+use Rattle.pma_store.proofs.BatchCalls.{looks_once}
 use Rattle.pma_store.proofs.LookLaws.{loads_none, looks_none, loads_later, looks_later, reads_none, reads_more, reads_all}
 use Rattle.pma_store.proofs.Making.{no_fault}
 use Rattle.pma_store.proofs.Standing.{rows_ascend, size_of}
@@ -22,7 +23,7 @@ loop-segment-init g c =
       steps = no_steps (g.S.Station.view c.args.station.now);
       unwritten = refl;
       upto = omega arith;
-      reads = reads_none c.args.place.now c.args.segments.now (g.S.Station.view c.args.station.now);
+      reads = (reads_none c.args.place.now c.args.segments.now (g.S.Station.view c.args.station.now), omega (arith, c.requires.fresh));
       loaded = loads_none layout.format c.start.new.self c.args.look.now known c.start.ensures.batch none c.requires.fresh;
       looked = λ told. looks_none layout.format (array_of (g.S.Station.view c.args.station.now).held) c.args.segments.now c.args.intent.now c.start.new.self c.args.look.now known none;
       journal = ap (λ (b : Batch). b.journal) c.start.ensures.after ∙ c.requires.journal;
@@ -31,11 +32,14 @@ loop-segment-init g c =
 pub returns-in-Err : goal.returns-in-Err
 returns-in-Err g c =
     let is = c.loop-segment.invariant in
+    let more = reads_more c.args.place.now c.args.segments.now c.loop-segment.from c.in-Some.segment (g.S.Station.view c.args.station.now) (g.S.Station.view c.loop-segment.station) (g.S.Station.view c.read_rows.new.station) is.reads.0 c.in-Some.ensures c.read_rows.ensures.reads c.read_rows.ensures.calls in
     record {
       loaded = tt;
       looked = tt;
       journal = is.journal;
       reads = tt;
+      looks = (looks_once c.args.place.now c.args.segments.now c.args.intent.now (c.in-Some.segment + 1) c.args.tally.now.height c.requires.segments c.requires.within c.requires.belong more.0).0;
+      few = tt;
       steps = same_on is.steps c.read_rows.ensures.steps;
       unwritten = ap (λ (t : Travel). t.written) c.read_rows.ensures.reads ∙ is.unwritten;
       damaged = λ told. c.in-Err.ensures.damaged (told_on is.steps.frame told);
@@ -66,11 +70,12 @@ loop-segment-preserved g c =
     let tally = c.args.tally.now in
     let is = c.loop-segment.invariant in
     let least = c.in-Some.ensures in
+    let more = reads_more place c.args.segments.now c.loop-segment.from c.in-Some.segment a (g.S.Station.view c.loop-segment.station) (g.S.Station.view c.read_rows.new.station) is.reads.0 least c.read_rows.ensures.reads c.read_rows.ensures.calls in
     record {
       steps = same_on is.steps c.read_rows.ensures.steps;
       unwritten = ap (λ (t : Travel). t.written) c.read_rows.ensures.reads ∙ is.unwritten;
       upto = omega (arith, c.requires.within least.at least.inside, least.is);
-      reads = reads_more place c.args.segments.now c.loop-segment.from c.in-Some.segment a (g.S.Station.view c.loop-segment.station) (g.S.Station.view c.read_rows.new.station) is.reads least c.read_rows.ensures.reads;
+      reads = (more.0, omega (arith, is.reads.1, more.1, c.take_in.ensures.count));
       loaded = c.take_in.ensures.loaded;
       looked = λ told.
           let stands = c.requires.stands told in
@@ -89,6 +94,8 @@ returns g c =
     let place = c.args.place.now in
     let tally = c.args.tally.now in
     let is = c.loop-segment.invariant in
+    let all = reads_all place c.args.segments.now c.loop-segment.from (2 ^ tally.height) a (g.S.Station.view c.loop-segment.station) is.upto c.in_default.ensures is.reads.0 in
+    let looks = looks_once place c.args.segments.now c.args.intent.now (2 ^ tally.height) tally.height c.requires.segments c.requires.within c.requires.belong all.0 in
     record {
       loaded = loads_later place.layout.format c.loop-segment.from (2 ^ tally.height) c.loop-segment.frames c.loop-segment.look is.upto is.loaded;
       looked = λ told.
@@ -98,7 +105,9 @@ returns g c =
           let ascends = rows_ascend place.layout place.region tally.height tally.counts a.held stands in
           looks_later place.layout.format array c.args.segments.now c.args.intent.now some ascends c.requires.intent.distinct c.requires.segments (c.requires.belong told) c.loop-segment.from (2 ^ tally.height) c.loop-segment.frames c.loop-segment.look (λ k lt le. absurd (omega (arith, c.in_default.ensures k lt, le))) (is.looked told);
       journal = is.journal;
-      reads = reads_all place c.args.segments.now c.loop-segment.from (2 ^ tally.height) a (g.S.Station.view c.loop-segment.station) is.upto c.in_default.ensures is.reads;
+      reads = all.0;
+      looks = looks.0;
+      few = omega (arith, is.reads.1, all.1, looks.1);
       steps = is.steps;
       unwritten = is.unwritten;
       met = tt;

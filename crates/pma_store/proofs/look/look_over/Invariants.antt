@@ -1,4 +1,4 @@
-use Rattle.std.proofs.Common.{◌≡◌, ◌-◌, ◌^◌, ◌≤◌}
+use Rattle.std.proofs.Common.{◌≡◌, ◌-◌, ◌^◌, ◌≤◌, length}
 use Rattle.station.specs.Bytes.{Same}
 use Rattle.station.specs.View.{Told}
 use Rattle.station.specs.Steps.{Steps}
@@ -13,7 +13,7 @@ invariant-loop-segment g l = record {
   upto : l.from ≤ 2 ^ l.tally.height;
   loaded : AreLoaded l.place.layout.format l.frames l.look l.from;
   looked : Told (g.S.Station.view l.fn.station) → HasLooked l.place.layout.format (array_of (g.S.Station.view l.fn.station).held) l.segments l.intent l.frames l.look l.from;
-  reads : ReadsOnce l.place l.segments l.from (g.S.Station.view l.fn.station) (g.S.Station.view l.station);
+  reads : (reads : ReadsOnce l.place l.segments l.from (g.S.Station.view l.fn.station) (g.S.Station.view l.station)) × (l.look.count ≤ length reads.read);
   journal : l.frames.journal ≡ l.place.layout.journal;
 }
 

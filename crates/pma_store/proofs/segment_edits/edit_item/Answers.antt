@@ -1,7 +1,7 @@
 use Rattle.std.proofs.Common.{sym, ap, ◌∙◌}
 use Rattle.batch_intent.specs.Items.{update_of}
 use Rattle.batch_intent.specs.declared.item.Item.{Item}
-use Rattle.one_commit.specs.Editing.{edited}
+use Rattle.map_model.specs.ArrayUpdates.{edited}
 use Rattle.one_commit.proofs.Heads.{without_absent}
 use Rattle.pma_store.proofs.Owning.{not_there}
 use Rattle.pma_store.proofs.segment_edits.edit_item.Goals as goal

@@ -1,6 +1,6 @@
 use Rattle.std.proofs.Common.{◌<◌, [], length, ap, ◌∙◌, arith}
 use Rattle.map_model.specs.Store.{Update, unbind}
-use Rattle.one_commit.specs.Editing.{edited}
+use Rattle.map_model.specs.ArrayUpdates.{edited}
 use Rattle.pma_store.proofs.Owning.{own_more, other_more}
 use Rattle.pma_store.proofs.segment_edits.edit_items.Goals as goal
 use Rattle.pma_store.proofs.segment_edits.edit_items.Goals.{else-segments-i-via-then-segments-i+else-not-edit_item, else-segments-i-via-else-segments-i}

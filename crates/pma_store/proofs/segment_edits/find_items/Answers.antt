@@ -1,8 +1,7 @@
 use Rattle.std.proofs.Common.{◌≡◌, ℕ, ◌<◌, List, length, set, get_or, Result, Err, sym, subst, ap, ◌∙◌, arith, inl, inr}
 use Rattle.std.proofs.lemmas.Bool.{cases_eq}
 use Rattle.std.proofs.lemmas.List.{length-set, get_or-set_same, get_or-set_other}
-use Rattle.map_model.specs.ArrayUpdates.{key_of}
-use Rattle.map_model.specs.Store.{Update}
+use Rattle.map_model.specs.Store.{Update, key_of}
 use Rattle.pma_store.specs.Own.{FindsIn}
 use Rattle.pma_store.proofs.segment_edits.find_items.Goals as goal
 use Rattle.pma_store.proofs.segment_edits.find_items.Goals.{then-segments-i, else-segments-i}

@@ -1,6 +1,5 @@
 use Rattle.std.proofs.Common.{◌≡◌, ℕ, ◌<◌, length, get_or, Err}
-use Rattle.map_model.specs.ArrayUpdates.{key_of}
-use Rattle.map_model.specs.Store.{Update}
+use Rattle.map_model.specs.Store.{Update, key_of}
 use Rattle.pma_store.specs.Own.{FindsIn}
 use Rattle.pma_store.proofs.segment_edits.find_items.Given as goal
 

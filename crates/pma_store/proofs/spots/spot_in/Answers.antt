@@ -1,7 +1,7 @@
 use Rattle.std.proofs.Common.{List, subst}
 use Rattle.std.specs.Prelude.{IsSome, IsOk, ◌↔◌}
 use Rattle.key_slot.specs.Record.{Bytes, Record}
-use Rattle.map_model.specs.ArrayUpdates.{key_of}
+use Rattle.map_model.specs.Store.{key_of}
 use Rattle.segment.specs.Rows.{value_of}
 use Rattle.pma_store.specs.Updating.{update_of}
 use Rattle.pma_store.proofs.Editing.{present_is}

@@ -1,4 +1,4 @@
-use Rattle.std.proofs.Common.{ℕ, ◌-◌, length, sym, ap, ◌∙◌}
+use Rattle.std.proofs.Common.{◌-◌, length, sym, ap, ◌∙◌}
 use Rattle.density_rule.specs.Windows.{count_in}
 use Rattle.key_slot.proofs.SegmentLaws.{segment_rows}
 use Rattle.range_scan.specs.Running.{met_page}

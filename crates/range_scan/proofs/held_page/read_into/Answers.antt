@@ -1,4 +1,4 @@
-use Rattle.std.proofs.Common.{refl, rules, ◌≡◌, ◌≤◌, ℕ, length, take, Option, Some, sym, ap, ◌∙◌, subst, arith, ◌+◌, ◌-◌}
+use Rattle.std.proofs.Common.{refl, ◌≤◌, ℕ, length, take, sym, ap, ◌∙◌, subst, arith, ◌+◌, ◌-◌}
 use Rattle.range_scan.proofs.BadSlots.{slot_within}
 use Rattle.station.specs.Bytes.{Filled}
 use Rattle.header_gate.specs.Places.{segment_size}

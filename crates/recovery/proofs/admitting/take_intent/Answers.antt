@@ -20,8 +20,8 @@ use Rattle.batch_intent.specs.Gate.{has_intent, intent_area, form_reason, reason
 use Rattle.batch_intent.specs.Spelling.{items_in}
 use Rattle.batch_intent.proofs.Meanings.{some_pending}
 use Rattle.recovery.specs.Faults.{IsEarly, IsIntentFault, fault_of}
-use Rattle.recovery.specs.Intents.{intent_reason, intent_reads, look_reads, place_among}
-use Rattle.recovery.proofs.Intents.{none_waits, none_wrong, some_waits, some_wrong, form_wrong, reads_within, look_within}
+use Rattle.recovery.specs.Intents.{intent_reason, intent_calls, intent_reads, look_reads, place_among}
+use Rattle.recovery.proofs.Intents.{none_waits, none_wrong, some_waits, some_wrong, form_wrong, reads_within, look_within, calls_within, look_called}
 use Rattle.recovery.proofs.Opening.{refused_back}
 use Rattle.recovery.proofs.ReadBacks.{still_back}
 use Rattle.recovery.proofs.admitting.take_intent.Goals as goal
@@ -159,6 +159,47 @@ pub returns-in-Err-admit-clause-reads : goal.returns-in-Err-admit-clause-reads
 returns-in-Err-admit-clause-reads g c told =
     let at = goal.at.returns-in-Err-admit-clause-reads g c in
     taken g at.After-admit told (some g at.In-Ok-Some told) (layout_is g at.After-read_intent told) (items_are g at.In-Ok-Some told)
+
+-- The calls.
+
+looked_in : (g : _) (c : After-admit g) → Told (g.S.Station.view c.args.station.now) → has_intent c.args.parts.now.place.layout (g.S.Station.view c.args.station.now).held ≡ true
+    → layout_in (g.S.Station.view c.args.station.now).held ≡ c.args.parts.now.place.layout → c.in-Ok-Some.intent ≡ items_in (intent_area (g.S.Station.view c.args.station.now).held)
+    → (g.S.Station.view c.admit.new.station).calls ≤ (g.S.Station.view c.args.station.now).calls + intent_calls (g.S.Station.view c.args.station.now).held
+looked_in g c told some is same =
+    let parts = c.args.parts.now in
+    let image = (g.S.Station.view c.args.station.now).held in
+    let start = (g.S.Station.view c.args.station.now).calls in
+    let from = (g.S.Station.view c.read_intent.new.station).calls in
+    let end = (g.S.Station.view c.admit.new.station).calls in
+    let pending_is = some_pending image (ap (λ (l : Layout). has_intent l image) is ∙ some) ∙ sym same in
+    let look =
+    look_called parts.place.layout parts.place.region parts.tally.height parts.tally.counts image c.in-Ok-Some.intent (end - from) (c.requires.back.stands image (inl (told, refl))) pending_is
+    (λ few. omega (arith, c.admit.ensures.uncalled few)) (omega (arith, c.admit.ensures.calls)) in
+    omega (arith, calls_within parts.place.layout image (end - start) is (λ none. absurd (true≢false (sym some ∙ none))) (omega (arith, look, c.read_intent.ensures.calls)))
+
+-- where no look is made
+asked : (g : _) (c : After-read_intent g) → Told (g.S.Station.view c.args.station.now) → (g.S.Station.view c.read_intent.new.station).calls ≤ (g.S.Station.view c.args.station.now).calls + intent_calls (g.S.Station.view c.args.station.now).held
+asked g c told =
+    let start = (g.S.Station.view c.args.station.now).calls in
+    let end = (g.S.Station.view c.read_intent.new.station).calls in
+    let read = c.read_intent.ensures in
+    omega (arith, calls_within c.args.parts.now.place.layout (g.S.Station.view c.args.station.now).held (end - start) (layout_is g c told) (λ none. omega (arith, read.one_call told none)) (omega (arith, read.calls)))
+
+pub returns-in-Ok-None-clause-calls_told : goal.returns-in-Ok-None-clause-calls_told
+returns-in-Ok-None-clause-calls_told g c told = asked g (goal.at.returns-in-Ok-None-clause-calls_told g c).After-read_intent told
+
+pub returns-in-Err-clause-calls_told : goal.returns-in-Err-clause-calls_told
+returns-in-Err-clause-calls_told g c told = asked g (goal.at.returns-in-Err-clause-calls_told g c).After-read_intent told
+
+pub returns-in-Ok-clause-calls_told : goal.returns-in-Ok-clause-calls_told
+returns-in-Ok-clause-calls_told g c told =
+    let at = goal.at.returns-in-Ok-clause-calls_told g c in
+    looked_in g at.After-admit told (some g at.In-Ok-Some told) (layout_is g at.After-read_intent told) (items_are g at.In-Ok-Some told)
+
+pub returns-in-Err-admit-clause-calls_told : goal.returns-in-Err-admit-clause-calls_told
+returns-in-Err-admit-clause-calls_told g c told =
+    let at = goal.at.returns-in-Err-admit-clause-calls_told g c in
+    looked_in g at.After-admit told (some g at.In-Ok-Some told) (layout_is g at.After-read_intent told) (items_are g at.In-Ok-Some told)
 
 -- Its form is wrong, or the disk failed.
 

@@ -1,6 +1,5 @@
 use Rattle.std.proofs.Common.{◌≡◌, ℕ, ◌<◌, ◌≤◌, false, ◌||◌, length, get_or, is_some}
-use Rattle.map_model.specs.Store.{Update}
-use Rattle.map_model.specs.ArrayUpdates.{key_of}
+use Rattle.map_model.specs.Store.{Update, key_of}
 use Rattle.segment.specs.Rows.{value_of}
 use Rattle.recovery.proofs.looking.mark_keys.Given as goal
 

@@ -50,6 +50,11 @@ returns-in-Ok-Some-clause-idle g c none =
     not_both _ (cursor_of c.in-Some.entry)
     (cursor_there c.self.inside.slots c.in-Some.place c.in-Some.entry c.args.name.now c.self.invariant c.in-Some.ensures.there c.in-Some.ensures.named c.args.self.now c.self.view_is) none
 
+pub returns-in-Ok-Some-clause-uncalled : goal.returns-in-Ok-Some-clause-uncalled
+returns-in-Ok-Some-clause-uncalled g c none =
+    not_both _ (cursor_of c.in-Some.entry)
+    (cursor_there c.self.inside.slots c.in-Some.place c.in-Some.entry c.args.name.now c.self.invariant c.in-Some.ensures.there c.in-Some.ensures.named c.args.self.now c.self.view_is) none
+
 pub returns-in-Ok-None-clause-reads : goal.returns-in-Ok-None-clause-reads
 returns-in-Ok-None-clause-reads g c =
     near_for _ _ _ (cursor_of c.in-Some.entry) _ _ _ (λ P h. tt)
@@ -61,6 +66,11 @@ returns-in-Ok-None-clause-idle g c none =
     not_both _ (cursor_of c.in-Some.entry)
     (cursor_there c.self.inside.slots c.in-Some.place c.in-Some.entry c.args.name.now c.self.invariant c.in-Some.ensures.there c.in-Some.ensures.named c.args.self.now c.self.view_is) none
 
+pub returns-in-Ok-None-clause-uncalled : goal.returns-in-Ok-None-clause-uncalled
+returns-in-Ok-None-clause-uncalled g c none =
+    not_both _ (cursor_of c.in-Some.entry)
+    (cursor_there c.self.inside.slots c.in-Some.place c.in-Some.entry c.args.name.now c.self.invariant c.in-Some.ensures.there c.in-Some.ensures.named c.args.self.now c.self.view_is) none
+
 pub returns-in-Err-clause-reads : goal.returns-in-Err-clause-reads
 returns-in-Err-clause-reads g c =
     near_for _ _ _ (cursor_of c.in-Some.entry) _ _ _ (λ P h. h)
@@ -69,6 +79,11 @@ returns-in-Err-clause-reads g c =
 
 pub returns-in-Err-clause-idle : goal.returns-in-Err-clause-idle
 returns-in-Err-clause-idle g c none =
+    not_both _ (cursor_of c.in-Some.entry)
+    (cursor_there c.self.inside.slots c.in-Some.place c.in-Some.entry c.args.name.now c.self.invariant c.in-Some.ensures.there c.in-Some.ensures.named c.args.self.now c.self.view_is) none
+
+pub returns-in-Err-clause-uncalled : goal.returns-in-Err-clause-uncalled
+returns-in-Err-clause-uncalled g c none =
     not_both _ (cursor_of c.in-Some.entry)
     (cursor_there c.self.inside.slots c.in-Some.place c.in-Some.entry c.args.name.now c.self.invariant c.in-Some.ensures.there c.in-Some.ensures.named c.args.self.now c.self.view_is) none
 

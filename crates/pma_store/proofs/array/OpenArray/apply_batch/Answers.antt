@@ -6,8 +6,10 @@ use Rattle.header_gate.specs.declared.layout.TheConstants.{INTENT_VERSION}
 use Rattle.segment.specs.declared.fault.StoreFault.{StoreFault}
 use Rattle.pma_store.specs.declared.at_once.Tried.{Tried}
 use Rattle.pma_store.specs.AtOnce.{TriesOnce}
+use Rattle.pma_store.specs.BatchCalls.{CallsIntent}
 use Rattle.pma_store.specs.Batching.{AppliesBatch, version_of}
 use Rattle.pma_store.specs.Store.{StoreView, limit_of}
+use Rattle.pma_store.proofs.BatchCalls.{intent_behind}
 use Rattle.pma_store.proofs.Batched.{full_batch, judged_then, no_batch}
 use Rattle.pma_store.proofs.array.OpenArray.apply_batch.Goals as goal
 
@@ -19,8 +21,8 @@ returns-then-self-lt-INTENT_VERSION g c =
 pub returns-in-Ok-Judged : goal.returns-in-Ok-Judged
 returns-in-Ok-Judged g c =
     let judges = subst (λ (r : Result Tried StoreFault). TriesOnce c.args.intent.now r c.args.self.now c.try_at_once.new.self (g.S.Station.view c.args.station.now) (g.S.Station.view c.try_at_once.new.station)) (c.in-Ok-Judged.is ∙ ap Ok c.in-Ok-Judged.field-0-is) c.try_at_once.ensures in
-    judged_then c.args.intent.now c.run_batch.result c.args.self.now c.run_batch.new.self c.requires.open (g.met.S.Station.lawful c.args.station.now) judges.steps judges.unwritten c.run_batch.ensures.made
-    (subst (λ (v : StoreView). AppliesBatch c.args.intent.now c.run_batch.result v c.run_batch.new.self (g.S.Station.view c.try_at_once.new.station) (g.S.Station.view c.run_batch.new.station)) judges.store c.run_batch.ensures.applied)
+    judged_then c.args.intent.now c.run_batch.result c.args.self.now c.run_batch.new.self c.requires.open (g.met.S.Station.lawful c.args.station.now) judges.steps judges.unwritten judges.looks (intent_behind c.args.intent.now c.args.self.now judges.steps judges.looks (subst (λ (v : StoreView). CallsIntent c.args.intent.now v (g.S.Station.view c.try_at_once.new.station) (g.S.Station.view c.run_batch.new.station)) judges.store c.run_batch.ensures.intent))
+    c.run_batch.ensures.made (subst (λ (v : StoreView). AppliesBatch c.args.intent.now c.run_batch.result v c.run_batch.new.self (g.S.Station.view c.try_at_once.new.station) (g.S.Station.view c.run_batch.new.station)) judges.store c.run_batch.ensures.applied)
 
 pub returns-in-Ok-Full : goal.returns-in-Ok-Full
 returns-in-Ok-Full g c =

@@ -4,9 +4,8 @@ use Rattle.batch_intent.specs.Spelling.{fits_item}
 use Rattle.batch_intent.proofs.Kept.{all_at}
 use Rattle.header_gate.specs.declared.layout.Layout.{Layout}
 use Rattle.map_model.specs.Array.{segment_at, segment_for}
-use Rattle.map_model.specs.ArrayUpdates.{key_of}
 use Rattle.map_model.specs.Image.{array_of}
-use Rattle.map_model.specs.Store.{Update, unbind}
+use Rattle.map_model.specs.Store.{Update, unbind, key_of}
 use Rattle.segment.specs.Rows.{value_of}
 use Rattle.pma_store.specs.Items.{IsAsFound, MakesItem}
 use Rattle.pma_store.specs.Judging.{found_at}
@@ -78,7 +77,7 @@ returns-in-Ok-close_intent g c =
     let e = g.S.Station.view c.close_intent.new.station in
     let end : c.loop-i.i ≡ length items = omega (arith, c.len-i-end.ensures.count, c.loop-i-test.false) in
     let made = subst (λ (n : ℕ). HasMade items n c.loop-i.charges c.args.self.now c.loop-i.self a b) end c.loop-i.invariant.made in
-    all_made items c.loop-i.charges c.args.self.now c.loop-i.self a b e made c.close_intent.ensures.steps c.close_intent.ensures.cost c.len-i-end.ensures.intent.most (g.met.S.Station.lawful c.close_intent.new.station) c.in-Ok-close_intent.ensures.settled
+    all_made items c.loop-i.charges c.args.self.now c.loop-i.self a b e made c.close_intent.ensures.steps c.close_intent.ensures.cost c.close_intent.ensures.calls c.len-i-end.ensures.intent.most (g.met.S.Station.lawful c.close_intent.new.station) c.in-Ok-close_intent.ensures.settled
     (λ told. ap (λ (n : ℕ). n % 2) (c.in-Ok-close_intent.ensures.closed told))
 
 pub returns-in-Err-close_intent : goal.returns-in-Err-close_intent
@@ -89,4 +88,4 @@ returns-in-Err-close_intent g c =
     let e = g.S.Station.view c.close_intent.new.station in
     let end : c.loop-i.i ≡ length items = omega (arith, c.len-i-end.ensures.count, c.loop-i-test.false) in
     let made = subst (λ (n : ℕ). HasMade items n c.loop-i.charges c.args.self.now c.loop-i.self a b) end c.loop-i.invariant.made in
-    not_closed items c.loop-i.charges c.args.self.now c.loop-i.self a b e made c.close_intent.ensures.steps c.close_intent.ensures.cost c.len-i-end.ensures.intent.most c.in-Err-close_intent.ensures.cause
+    not_closed items c.loop-i.charges c.args.self.now c.loop-i.self a b e made c.close_intent.ensures.steps c.close_intent.ensures.cost c.close_intent.ensures.calls c.len-i-end.ensures.intent.most c.in-Err-close_intent.ensures.cause

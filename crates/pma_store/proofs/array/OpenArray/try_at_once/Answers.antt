@@ -1,4 +1,4 @@
-use Rattle.std.proofs.Common.{◌≡◌, ℕ, ◌*◌, ◌^◌, ◌<◌, ◌≤◌, List, length, take, get_or, Result, Ok, Err, Some, None, refl, sym, ap, subst, ◌∙◌, arith}
+use Rattle.std.proofs.Common.{◌≡◌, ℕ, ◌+◌, ◌*◌, ◌^◌, ◌<◌, ◌≤◌, List, length, take, get_or, Result, Ok, Err, Some, None, refl, sym, ap, subst, ◌∙◌, arith}
 use Rattle.std.proofs.lemmas.List.{length-take-le}
 use Rattle.station.specs.View.{Told}
 use Rattle.station.proofs.Composition.{told_back}
@@ -9,12 +9,15 @@ use Rattle.segment.specs.declared.fault.StoreFault.{StoreFault}
 use Rattle.segment.specs.declared.fault.StoreFault.TheVariants.{Failed}
 use Rattle.pma_store.specs.declared.at_once.Tried.{Tried}
 use Rattle.pma_store.specs.AtOnce.{TriesOnce}
+use Rattle.pma_store.specs.BatchCalls.{CallsBatch}
 use Rattle.pma_store.specs.Batching.{AppliesBatch, done_by, version_of}
 use Rattle.pma_store.specs.Inside.{view_of}
 use Rattle.pma_store.specs.Judging.{JudgesItems, counts_of, edits_of, judged_of}
 use Rattle.pma_store.specs.Looked.{BelongThere, HasLooked}
 use Rattle.pma_store.specs.Store.{StoreView, IsOpenOn, limit_of}
-use Rattle.pma_store.proofs.AppliedOnce.{committed, not_committed}
+use Rattle.redo_journal.specs.Neighbours.{run_count}
+use Rattle.pma_store.proofs.AppliedOnce.{committed, not_committed, once_looked}
+use Rattle.pma_store.proofs.BatchCalls.{looks_behind}
 use Rattle.pma_store.proofs.Batched.{judged_then, judging_fails}
 use Rattle.pma_store.proofs.ItemsApplied.{tall_of}
 use Rattle.pma_store.proofs.Committed.{IsReadyAtOnce, judges, looks_fail}
@@ -98,6 +101,10 @@ still g c is = opens_on (view_of c.self.inside) (view_of c.self.inside) (g.met.S
 pub commit_edits-requires-clause-nothing : goal.commit_edits-requires-clause-nothing
 commit_edits-requires-clause-nothing g c = (still g (goal.at.commit_edits-requires-clause-nothing g c).After-look_over (opened g (goal.at.commit_edits-requires-clause-nothing g c).After-find_segments)).on.settled
 
+pub commit_edits-requires-clause-settled : goal.commit_edits-requires-clause-settled
+commit_edits-requires-clause-settled g c = λ image held.
+    ((still g (goal.at.commit_edits-requires-clause-settled g c).After-look_over (opened g (goal.at.commit_edits-requires-clause-settled g c).After-find_segments)).on.stands image held).balanced.stands.settled
+
 pub returns : goal.returns
 returns g c =
     let here = (goal.at.returns g c).After-look_over in
@@ -132,17 +139,23 @@ returns g c =
     let judged_is = λ (told : Told b). tells.judged (told_back steps.frame told) ∙ ap (λ (x : List ℕ). judged_of (limit_of s) (map_of x) items) (held told) in
     let index = c.commit_edits.new.index in
     let tally = c.commit_edits.new.tally in
+    let looks = c.in-Ok.ensures.looks in
+    let here_looked : look.count ≤ length looks.looked = c.in-Ok.ensures.few in
+    let looked = looks_behind items s.tally.height steps looks in
+    let few : look.count ≤ length looked.0.looked = omega (arith, here_looked, looked.1) in
+    let calls : e.calls ≤ b.calls + (8 + run_count frames.numbers) → CallsBatch items s a e =
+    λ few. once_looked items s numbers frames look judged changes ready law_b version judged_is c.in-Some.ensures.total {start = a} {c = e} looks here_looked few in
     let journal = c.commit_edits.ensures.journal ∙ c.look_over.ensures.journal ∙ sym c.self.invariant.journal in
     subst (λ (v : StoreView). TriesOnce items c.match-commit_edits.result v (record s { tally = tally; index = index; journal = c.commit_edits.new.frames.journal }) a e) c.self.view_is (elim c.match-commit_edits.branch [
       | in-Ok-commit_edits w ↦
           subst (λ (r : Result Tried StoreFault). TriesOnce items r s (record s { tally = tally; index = index; journal = c.commit_edits.new.frames.journal }) a e) (sym w.result-is)
           (subst (λ (j : ℕ). AppliesBatch items (Ok (done_by (counts_of judged) (2 * edits_of judged))) s (record s { tally = tally; index = index; journal = j }) a e) (sym journal)
-          (judged_then items (Ok (done_by (counts_of judged) (2 * edits_of judged))) s (record s { tally = tally; index = index }) is law steps c.look_over.ensures.unwritten (λ none. absurd cc)
-          (committed items s numbers frames look judged changes ready law_b version judged_is c.in-Some.ensures.total (g.met.S.Station.lawful c.commit_edits.new.station) index tally w.in-Ok-commit_edits.ensures.committed)))
+          (judged_then items (Ok (done_by (counts_of judged) (2 * edits_of judged))) s (record s { tally = tally; index = index }) is law steps c.look_over.ensures.unwritten looks (calls w.in-Ok-commit_edits.ensures.committed.frames.calls) (λ refusal. refusal)
+          (committed items s numbers frames look judged changes ready law_b version judged_is c.in-Some.ensures.total looked.0 few (g.met.S.Station.lawful c.commit_edits.new.station) index tally w.in-Ok-commit_edits.ensures.committed)))
       | in-Err-commit_edits w ↦
           let commits = w.in-Err-commit_edits.ensures.committed in
           subst (λ (r : Result Tried StoreFault). TriesOnce items r s (record s { tally = tally; index = index; journal = c.commit_edits.new.frames.journal }) a e) (sym w.result-is)
           (subst (λ (t : StoreView). AppliesBatch items (Err Failed) s t a e) (sym (λ τ. record s { tally = commits.unchanged.1 τ; index = commits.unchanged.0 τ; journal = journal τ }))
-          (judged_then items (Err Failed) s s is law steps c.look_over.ensures.unwritten tt
-          (not_committed items s numbers frames look judged changes ready law_b version judged_is c.in-Some.ensures.total _ commits.frames)))
+          (judged_then items (Err Failed) s s is law steps c.look_over.ensures.unwritten looks (calls commits.frames.calls) tt
+          (not_committed items s numbers frames look judged changes ready law_b version judged_is c.in-Some.ensures.total _ looked.0 few commits.frames)))
     ])

@@ -20,6 +20,8 @@ returns-in-Err-clause-batch g c =
       cost = tt;
       most = made.most;
       spent = made.spent;
+      looks = tt;
+      calls = made.calls;
       paid = tt;
       met = elim made.met [
         | inl disk ↦ inl disk

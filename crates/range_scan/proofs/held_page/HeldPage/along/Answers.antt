@@ -1,4 +1,4 @@
-use Rattle.std.proofs.Common.{ℕ, length, sym, ap, ◌∙◌}
+use Rattle.std.proofs.Common.{length, sym, ap, ◌∙◌}
 use Rattle.range_scan.specs.PageView.{PageView}
 use Rattle.range_scan.proofs.Runs.{length-pages_of}
 use Rattle.range_scan.proofs.held_page.HeldPage.along.Goals as goal

@@ -1,7 +1,6 @@
-use Rattle.std.proofs.Common.{◌≡◌, ◌<◌, ℕ, [], length, drop, take, ◌+◌, sym, ap, subst, ◌∙◌, arith}
-use Rattle.key_slot.specs.Record.{Bytes}
+use Rattle.std.proofs.Common.{◌<◌, [], length, drop, ◌+◌, sym, ap, subst, ◌∙◌, arith}
 use Rattle.segment.specs.Viewed.{IsJudged}
-use Rattle.range_scan.specs.PageView.{PageView, page_of, pages_of}
+use Rattle.range_scan.specs.PageView.{PageView, page_of}
 use Rattle.range_scan.specs.Running.{first_of}
 use Rattle.range_scan.proofs.Runs.{length-pages_of, size_less, pages_first, stepped}
 use Rattle.range_scan.proofs.held_page.HeldPage.go_on.Goals as goal

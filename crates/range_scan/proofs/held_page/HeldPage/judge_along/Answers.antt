@@ -1,7 +1,7 @@
-use Rattle.std.proofs.Common.{◌≡◌, ◌<◌, ◌≤◌, ◌+◌, ◌-◌, ◌/◌, ℕ, [], length, take, drop, sym, ap, subst, ◌∙◌, Result, Ok, Err, Option, Some, arith}
-use Rattle.std.specs.Prelude.{IfOk, IfErr}
+use Rattle.std.proofs.Common.{◌≡◌, ◌<◌, ◌≤◌, ◌+◌, ◌-◌, ◌/◌, ℕ, [], length, take, drop, sym, ap, subst, ◌∙◌, Result, Ok, Err, arith}
+use Rattle.std.specs.Prelude.{IfOk}
 use Rattle.std.proofs.lemmas.List.{length-drop, length-take-le}
-use Rattle.std.proofs.lemmas.Result.{IfErr-weaker}
+use Rattle.std.proofs.lemmas.Result.{IfErr-weaker, IfOk-weaker}
 use Rattle.key_slot.specs.Format.{HasFormat, format_of, narrow, segment_length}
 use Rattle.key_slot.specs.Record.{Bytes}
 use Rattle.key_slot.specs.Segment.{IsSegment, first_bad_slot, segment_of}
@@ -56,3 +56,9 @@ returns-clause-bad c =
     let i = c.self.inside in
     let format : format_of (next here) ≡ c.args.self.now.format = ap (λ (n : ℕ). n / segment_length narrow) (one_size here) ∙ ap (λ (v : PageView). v.format) c.self.view_is in
     IfErr-weaker c.count_rows.result _ _ (λ error found. sym (λ t. first_bad_slot (format t) (first here t)) ∙ found) c.count_rows.ensures.bad
+
+pub returns-clause-count : goal.returns-clause-count
+returns-clause-count c =
+    let here = (goal.at.returns-clause-count c).After-count_rows in
+    let format : format_of (next here) ≡ c.args.self.now.format = ap (λ (n : ℕ). n / segment_length narrow) (one_size here) ∙ ap (λ (v : PageView). v.format) c.self.view_is in
+    IfOk-weaker c.count_rows.result _ _ (λ count found. sym (λ t. length (segment_of (format t) (first here t))) ∙ found) c.count_rows.ensures.count

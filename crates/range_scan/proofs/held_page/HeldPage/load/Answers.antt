@@ -3,13 +3,12 @@ use Rattle.std.proofs.Common.{◌≡◌, ◌≤◌, ◌+◌, ◌-◌, ◌*◌, �
 use Rattle.std.proofs.lemmas.List.{length-drop, length-take-le, take-append-le, drop-append-le}
 use Rattle.station.specs.Bytes.{Filled}
 use Rattle.header_gate.specs.declared.layout.Layout.{Layout}
-use Rattle.header_gate.specs.Places.{IsFormat, segment_place, segment_size}
+use Rattle.header_gate.specs.Places.{segment_place, segment_size}
 use Rattle.key_slot.specs.Format.{format_of}
-use Rattle.key_slot.specs.Record.{Bytes, Record}
-use Rattle.key_slot.specs.Segment.{FitsSegment, IsSegment, segment_of}
+use Rattle.key_slot.specs.Record.{Bytes}
+use Rattle.key_slot.specs.Segment.{IsSegment, segment_of}
 use Rattle.segment.specs.Viewed.{IsJudged}
 use Rattle.range_scan.specs.PageView.{pages_of}
-use Rattle.range_scan.specs.Reading.{page_in}
 use Rattle.range_scan.specs.Running.{pages_in}
 use Rattle.range_scan.proofs.Held.{nothing_fits, none_judged, none_rows, none_is}
 use Rattle.range_scan.proofs.Pages.{format_is, read_as}

@@ -1,5 +1,5 @@
 -- Zeros are a segment without records.
-use Rattle.std.proofs.Common.{◌<◌, ◌≤◌, ◌+◌, ◌-◌, ◌≡◌, take, drop, length, ap, ◌∙◌, sym, refl, inl, inr, arith}
+use Rattle.std.proofs.Common.{◌<◌, ◌≤◌, ◌+◌, ◌-◌, ◌≡◌, take, drop, length, ap, ◌∙◌, sym, refl, arith}
 use Rattle.std.proofs.lemmas.List.{length-drop, length-take-le}
 use Rattle.key_slot.specs.Format.{HasFormat}
 use Rattle.range_scan.specs.PageView.{PageView}

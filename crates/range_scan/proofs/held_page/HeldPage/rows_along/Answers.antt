@@ -2,7 +2,7 @@ use Rattle.std.proofs.Common.{◌≡◌, ◌<◌, ◌≤◌, ◌+◌, ◌-◌, �
 use Rattle.std.proofs.lemmas.List.{length-drop, length-take-le}
 use Rattle.key_slot.specs.Format.{format_of, narrow, segment_length}
 use Rattle.key_slot.specs.Record.{Bytes}
-use Rattle.key_slot.specs.Segment.{IsSegment, segment_of}
+use Rattle.key_slot.specs.Segment.{segment_of}
 use Rattle.segment.specs.Viewed.{IsJudged}
 use Rattle.range_scan.specs.PageView.{PageView, page_of, pages_of}
 use Rattle.range_scan.specs.Running.{first_of}

@@ -1,10 +1,10 @@
-use Rattle.std.proofs.Common.{◌≡◌, ◌+◌, ◌-◌, ◌<◌, ℕ, true, List, [], ◌∷◌, length, Option, Some, sym, ap, refl, subst, ◌∙◌, arith}
+use Rattle.std.proofs.Common.{◌≡◌, ◌+◌, ◌-◌, ◌<◌, ℕ, List, [], ◌∷◌, length, Option, Some, sym, ap, subst, ◌∙◌, arith}
 use mathlib.Core.Bool.{true≢false}
 use Rattle.key_slot.specs.Record.{Bytes, Record}
 use Rattle.key_slot.specs.Segment.{FitsSegment}
 use Rattle.segment.specs.Rows.{key_at}
 use Rattle.range_scan.specs.ReaderView.{ReaderView}
-use Rattle.range_scan.specs.Running.{MetIn, read_for}
+use Rattle.range_scan.specs.Running.{read_for}
 use Rattle.range_scan.proofs.Pages.{last_some}
 use Rattle.range_scan.proofs.reader.RegionReader.meet_next.Goals as goal
 use Rattle.range_scan.proofs.reader.RegionReader.meet_next.Goals.{else-along-eq0-via-then-along-eq0+else-self, else-along-eq0-via-else-along-eq0}

@@ -1,4 +1,4 @@
-use Rattle.std.proofs.Common.{◌≡◌, ◌<◌, ◌^◌, ℕ, Bool, true, false, length, sym, ap, ◌∙◌, refl, arith, ne_eqb}
+use Rattle.std.proofs.Common.{◌≡◌, ◌<◌, Bool, true, false, length, sym, ap, ◌∙◌, refl, arith, ne_eqb}
 use Rattle.std.specs.Prelude.{is_some, ◌==◌, ◌&&◌}
 use Rattle.density_rule.specs.Windows.{count_in}
 use Rattle.range_scan.specs.SweepView.{SweepView}

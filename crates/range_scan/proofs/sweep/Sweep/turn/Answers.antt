@@ -1,19 +1,18 @@
 -- What was read along is judged as what is read.
-use Rattle.std.proofs.Common.{◌≡◌, ◌+◌, ◌-◌, ◌<◌, ◌≤◌, ℕ, true, List, [], ◌∷◌, T, length, drop, take, refl, sym, ap, subst, ◌∙◌, arith}
+use Rattle.std.proofs.Common.{◌≡◌, ◌+◌, ◌-◌, ◌<◌, ℕ, true, List, [], ◌∷◌, None, T, length, drop, take, refl, sym, ap, subst, ◌∙◌, arith}
 use Rattle.std.specs.List.{list_all}
-use Rattle.header_gate.specs.declared.layout.Layout.{Layout}
 use Rattle.key_slot.specs.Record.{Bytes, Record, is_record}
-use Rattle.key_slot.specs.Segment.{FitsSegment, IsSegment}
+use Rattle.density_rule.specs.Windows.{count_in}
+use Rattle.key_slot.specs.Segment.{IsSegment, segment_of}
 use Rattle.range_scan.specs.Bounds.{are_before, are_from}
 use Rattle.range_scan.specs.ReaderView.{ReaderView, IsReader}
-use Rattle.range_scan.specs.Reading.{last_behind, page_in}
-use Rattle.range_scan.specs.Running.{StepsBy, first_of, pages_in, read_for, rest_of}
-use Rattle.range_scan.specs.SweepRuns.{IsSweepRun}
+use Rattle.range_scan.specs.Reading.{last_behind, page_fault, page_in}
+use Rattle.range_scan.specs.Running.{StepsBy, first_of, pages_in, read_for}
 use Rattle.range_scan.specs.SweepView.{SweepView, IsSweep, judged}
 use Rattle.range_scan.specs.Sweeping.{IsSweeping}
 use Rattle.range_scan.specs.Taking.{Turns}
 use Rattle.range_scan.proofs.Going.{sweep_over}
-use Rattle.range_scan.proofs.Onward.{sweeping_read}
+use Rattle.range_scan.proofs.Onward.{next_count, next_fine, sweeping_read}
 use Rattle.range_scan.proofs.Runs.{first_any, read_none, rest_any}
 use Rattle.range_scan.proofs.Sweeps.{all_dropped}
 use Rattle.range_scan.proofs.sweep.Sweep.turn.Goals as goal
@@ -101,3 +100,24 @@ returns-clause-turned c =
 
 pub returns-clause-is_sweep : goal.returns-clause-is_sweep
 returns-clause-is_sweep c = is_sweep (goal.at.returns-clause-is_sweep c).After-start_in-self-inside
+
+-- Where it stays amid the scan of an image, it asks for no record, or has none that was read along.
+pub returns-then-not-turn-clause-goes : goal.returns-then-not-turn-clause-goes
+returns-then-not-turn-clause-goes c image sweeping wanting nothing some =
+    let i = c.self.inside in
+    let s : SweepView = record { reader = i.reader; tally = i.tally.now; first = i.first; low = i.low; high = i.high; limit = i.limit; given = i.given; kept = drop i.place i.page.now.rows; along = i.page.now.along; faulted = i.faulted } in
+    let is = c.self.invariant.2 in
+    let amid : IsSweeping s image = subst (λ (t : SweepView). IsSweeping t image) (sym c.self.view_is) sweeping in
+    let more : 0 < length s.along = omega (arith, c.if-along-eq0.false, c.along.ensures) in
+    let lt : judged s < s.reader.end = omega (arith, more, is.reader.within, is.first_is) in
+    let page = page_in s.reader.layout s.reader.region image s.reader.next in
+    let first : first_of s.along [] ≡ first_of s.along page = first_any s.along [] page more in
+    let format : i.page.now.format ≡ s.reader.layout.format = c.self.invariant.3 more in
+    let segment : c.next_number.result - c.along-2.result ≡ judged s = omega (arith, c.next_number.ensures.next, c.along-2.ensures) in
+    let fine : page_fault i.page.now.format (judged s) s.reader.last (first_of s.along []) ≡ None = (λ t. page_fault (format t) (judged s) s.reader.last (first t)) ∙ next_fine s image is amid lt in
+    let count : length (segment_of i.page.now.format (first_of s.along [])) ≡ c.kept_count-kept.result =
+    (λ t. length (segment_of (format t) (first t)))
+    ∙ next_count s image is amid lt
+    ∙ ap (count_in s.tally.counts 0) (sym segment)
+    ∙ sym c.kept_count-kept.ensures.count in
+    sym c.if-not-turn.true ∙ c.turn.ensures.sound (judged s) fine count

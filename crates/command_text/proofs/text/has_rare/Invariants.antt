@@ -1,0 +1,7 @@
+-- A byte so far that is escaped was found.
+use Rattle.std.proofs.Common.{ℕ, ◌+◌, ◌<◌, ◌≤◌, get_or, IsTrue}
+use Rattle.command_text.specs.Printed.{is_escaped}
+use Rattle.command_text.proofs.text.has_rare.Given as goal
+
+abbrev pub invariant-loop-i : goal.invariant-loop-i
+invariant-loop-i l = (i : ℕ) → l.first ≤ i → i < l.first + l.i → IsTrue (is_escaped (get_or l.bytes i 0)) → IsTrue l.rare
