@@ -157,10 +157,17 @@ def contestants(there, program, workloads, folder):
     return found
 
 
+def commit_of(part):
+    """The last commit that changed this part of the checkout, marked where it has changed since; nothing outside a checkout."""
+    def said(*words):
+        words = ["git", "-C", HERE.parent, *words, "--", part]
+        return subprocess.run(words, capture_output=True, text=True).stdout.strip()
+    return said("log", "-1", "--format=%h") + "-dirty" * bool(said("status", "--porcelain"))
+
+
 def version(contestant, program):
     if contestant.height is not None:
-        done = subprocess.run(["git", "-C", str(HERE), "describe", "--always", "--dirty"], capture_output=True, text=True)
-        return "pma " + (done.stdout.strip() or "of this folder")
+        return "pma " + (commit_of("crates") or "of this folder")
     done = subprocess.run([contestant.words[0]], capture_output=True, text=True, check=True)
     return re.sub(r":.*", "", done.stdout.strip())
 

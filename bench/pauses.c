@@ -1,5 +1,5 @@
 /* Sends the lines of a script one at a time, each when the reply before it is there, and tells how long the replies took.
-   Usage: pauses REPORT PROGRAM WORD.. <SCRIPT; each line has one line of reply.
+   Usage: pauses REPORT PROGRAM WORD.. <SCRIPT; each line has one line of reply. A get that isn't counted comes first.
    The report: commands, then microseconds of the median, of 99 in 100, of the greatest and of all together, then processor
    seconds of the program and the most memory in KiB. */
 #define _GNU_SOURCE
@@ -70,6 +70,7 @@ int main(int words, char **word)
     if (words < 3)
         return 2;
     pid_t child = start(word + 2);
+    asked("get a\n", 6); /* the program has opened then */
     for (; fgets(line, sizeof line, stdin); count++) {
         if (count == room)
             took = realloc(took, (room = room ? 2 * room : 4096) * sizeof *took);

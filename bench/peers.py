@@ -153,7 +153,7 @@ class Run:
             self.moved(turn, took)
             self.bench.write([])
             for one in turned(self.all, turn):
-                opening[one.name] = statistics.median(self.bench.run(one.command())[0] for _ in range(3))
+                opening[one.name] = statistics.median(self.bench.run(one.command())[0] for _ in range(5))
             for name, lines in self.work.turn(turn, self.cursors):
                 self.bench.write(lines)
                 for one in turned(self.all, turn):
@@ -189,7 +189,7 @@ class Run:
 
     def on_disk(self, disk, commands, traced):
         """Rows of durable updates a second by the clock, with bytes and syncs; so many updates over all rounds, each command sent
-        when the reply before it is there, so that an opening isn't in the time."""
+        when the reply before it is there, the first one when the program has opened."""
         each, took, rows = max(2, commands // self.rounds), {}, []
         files = {one.name: one.copied(disk) for one in self.stores}
         for turn in range(self.rounds + 2, 2 * self.rounds + 2):

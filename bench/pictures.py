@@ -78,13 +78,13 @@ def draw_puts(numbers):
         rows = where(numbers.puts, workload=work)
         syncs = by_contestant(rows, "syncs_a_put")
         rates = by_contestant(rows, "a_second")
-        notes = [f"{syncs[name]:.1f}" if name in syncs else "" for name in rates]
+        notes = [f"{syncs[name]:.3g}" if name in syncs else "" for name in rates]
         all_of.append(bars(work + ", with the syncs of a put", "durable puts a second, by the clock", rates, notes))
     panels(numbers.folder / "puts.svg", "1500,420", all_of)
 
 
 def draw_growth(numbers):
-    head = "set logscale x\nset yrange [0:*]\nset key top left\nset xlabel 'records'\nset ylabel 'us, processor time'\n"
+    head = "set logscale xy\nset key outside below\nset xlabel 'records'\nset ylabel 'us, processor time'\n"
     all_of, rows = [head + "set format x '10^{%L}'\n" + GRID], []
     for work in ("readrandom", "overwrite", "seekrandom 100"):
         times = {records: numbers.time(records, work) for records in numbers.records}
@@ -99,7 +99,7 @@ def draw_growth(numbers):
 
 
 def draw_charges(numbers):
-    head = "set logscale xy\nset key center right\nset xlabel 'updates'\nset ylabel 'charge of an update'\nset yrange [1:*]\n"
+    head = "set logscale xy\nset key center left\nset xlabel 'updates'\nset ylabel 'charge of an update'\nset yrange [1:*]\n"
     head += "set format x '10^{%L}'\n"
     colours = {"random": "#1f4e79", "ascending": "#b5302a", "descending": "#e08a5f", "one place": "#6b4c9a"}
     drawn = [(points(where(numbers.charges, order=order), "charge"), colour, order) for order, colour in colours.items()]

@@ -44,7 +44,7 @@ def lost(what, unit_of, values, cause, more=False):
 def lost_on_disk(numbers):
     rows = []
     causes = dict.fromkeys(("overwrite", "fillrandom", "deleterandom"), "four syncs, one after the other")
-    causes[BATCH] = "each item has its own syncs, and the batch three more"
+    causes[BATCH] = "four syncs a batch, and each segment of an item is written whole, twice"
     for work, cause in causes.items():
         rates = by_contestant(where(numbers.puts, workload=work), "a_second")
         rows += lost(f"durable updates on a disk, {work}", "a second", rates, cause, more=True)
@@ -83,7 +83,8 @@ def lost_time(numbers):
     reads = "each segment is read by a system call and judged whole"
     updates = "a segment is judged and edited whole, and written twice"
     causes = {work: reads for work in READS} | {work: updates for work in UPDATES}
-    causes |= {"half and half": updates, "mostly scans": reads, BATCH: "each item is an update with its own writes"}
+    causes |= {"half and half": updates, "mostly scans": reads}
+    causes[BATCH] = "each item's segment is judged and edited whole, and written twice"
     causes |= {"cursor": "each `next` looks for its key anew, in a segment that is read and judged whole"}
     causes |= {"bulk, load": "records are packed and then spread, so each segment is written twice", "bulk, dump": reads}
     causes["fillseq"] = "ascending keys all come into one segment, whose window is spread again and again"
@@ -98,8 +99,9 @@ def losses(numbers):
         "## Where `pma` loses",
         f"At {numbers.greatest} records, beside the best of the peers in each row:",
         table(["what", "unit", "`pma`", "with a JOURNAL of 1024", "take instead", "the cause"], rows),
-        "A batch of `pma` is one command in a crash, and no faster than its puts: where updates come in batches, take one of the "
-        "peers, whose transactions are synced once. `pma` doesn't read backwards: SQLite, LMDB and LevelDB do.",
+        "A batch of `pma` is one command in a crash, of 16 items at most, and four syncs where its segments fit into the journal "
+        "and no item asks for a rebalance: where more updates are to come together, take one of the peers, whose transactions have "
+        "no such limit and are synced once or twice. `pma` doesn't read backwards: SQLite, LMDB and LevelDB do.",
     ]
 
 

@@ -28,8 +28,8 @@ class Workloads:
         self.records, self.rounds = records, rounds
         self.small = records < 1000
         self.gets = 100000 if records > 100000 else 20000
-        self.updates = 10000 if records > 100000 else 4000 if self.small else 2000
-        self.scans = self.gets // 10
+        self.updates = 20000 if records > 100000 else 4000 if self.small else 2000
+        self.scans = self.gets // 5
         self.walked = min(WALKED, records)
         self.walks = max(1, self.gets // self.walked)
         fresh = 2 if self.small else self.updates + self.scans // 20 + 1
@@ -129,9 +129,9 @@ class Workloads:
         some = [r.choice(self.keys) for _ in range(self.gets)]
         yield "readrandom", [b"get %s\n" % k for k in some]
         yield "readmissing", [b"get %s\n" % r.choice(self.missing) for _ in some]
-        yield "seekrandom 10", [b"range %s * 10\n" % k for k in some[:self.gets // 5]]
-        yield "seekrandom 100", [b"range %s * 100\n" % k for k in some[:self.gets // 20]]
-        yield "readseq", [b"range * *\n"] * max(1, 100000 // self.records)
+        yield "seekrandom 10", [b"range %s * 10\n" % k for k in some[:self.gets // 2]]
+        yield "seekrandom 100", [b"range %s * 100\n" % k for k in some[:self.gets // 5]]
+        yield "readseq", [b"range * *\n"] * max(5, 100000 // self.records)
         if cursors:
             yield CURSOR, self.walk()
         yield BY_RANGE, [b"range * * %d\n" % self.walked] * self.walks
