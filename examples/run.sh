@@ -4,6 +4,8 @@
 set -u
 examples=$(dirname "$0")
 program=${1:-./pma}
+# Stores in memory where there is room for them: on a slow disk thousands of synced updates take minutes.
+[ -n "${TMPDIR:-}" ] || { [ -w /dev/shm ] && export TMPDIR=/dev/shm; }
 folder=$(mktemp -d)
 trap 'rm -rf "$folder"' EXIT
 failed=0
