@@ -2,7 +2,8 @@
 # What a stranger would do, as a user who isn't root, with an empty home, in a fresh clone of what is committed: makes the program,
 # tries the demo and the documents' examples, installs it in a folder of its own, reads the page, runs it from there, uninstalls
 # and cleans. Then the gate, and what is outside it. Ends with 1 where a step failed.
-# Usage: tools/newcomer.sh [short]; with `short` it ends with the cleaning, after a quarter of an hour, and else takes one to two hours.
+# Usage: tools/newcomer.sh [short]; with `short` it ends with the cleaning, after a quarter of an hour to three quarters, by the machine,
+# and else takes some hours.
 set -u
 cd "$(dirname "$0")/.."
 folder=$(mktemp -d)
