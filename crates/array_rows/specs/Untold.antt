@@ -4,7 +4,7 @@ use Rattle.std.proofs.lemmas.Bool.{false≢true}
 use Rattle.station.specs.View.{View, Lawful}
 
 abbrev pub untell : View → View
-untell v = record v { fixed = record v.fixed { tells_held = false; tells_said = false; tells_crashes = false; honest = false } }
+untell v = record v { fixed = record v.fixed { tells_held = false; tells_said = false; honest = false } }
 
 pub untold_lawful : (v : View) → Lawful v → Lawful (untell v)
 untold_lawful v law = record {

@@ -8,7 +8,7 @@ use Rattle.station.specs.declared.travel.Travel.{Travel}
 -- a station that tells none of its optional meanings
 abbrev pub untold_station : Option Bool → ℕ → ℕ → ℕ → Travel → View
 untold_station attached calls disk_faults say_faults travel = record {
-  fixed = record { tells_held = false; tells_said = false; tells_crashes = false; honest = false; name = None; reach = 2 ^ 40 };
+  fixed = record { tells_held = false; tells_said = false; honest = false; name = None; reach = 2 ^ 40 };
   held = [];
   said = [];
   may_leave = λ image. ⊥;

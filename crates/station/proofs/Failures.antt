@@ -2,10 +2,10 @@
 use Rattle.std.proofs.Common.{◌≡◌, ⊎_elim, List, ℕ, length, refl, false}
 use Rattle.station.specs.Bytes.{AreBytes}
 use Rattle.station.specs.View.{View}
-use Rattle.station.specs.Steps.{Torn, Tears}
+use Rattle.station.specs.FromBelow.{Torn, Tears}
 
--- where it changed a held byte or the length, all that it may tear may be left: no station leaves only old or new, or
--- forgets what was pending
+-- where it changed a held byte or the length, all that it may tear may be left: not only old or new, and nothing that
+-- was pending is forgotten
 pub torn_where_changed : {R : List ℕ → List ℕ → Type 0} {a b : View} → Tears R false a b → (b.held ≡ a.held → ⊥) → Torn R a b
 torn_where_changed tears changed = ⊎_elim (λ same. absurd (changed same.held)) (λ torn. torn) (tears.err refl)
 

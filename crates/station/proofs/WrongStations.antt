@@ -4,13 +4,13 @@ use Rattle.std.proofs.Common.{◌≡◌, ◌⊎◌, inl, inr, ⊎_elim, ℕ, zer
 use Rattle.std.proofs.lemmas.Bool.{false≢true}
 use Rattle.station.specs.Bytes.{byte, AreBytes, Blurred, Resizing}
 use Rattle.station.specs.View.{View}
-use Rattle.station.specs.Steps.{Tears}
+use Rattle.station.specs.FromBelow.{Tears}
 use Rattle.station.proofs.Failures.{torn_where_changed, no_image_lost}
 
 -- an honest station that holds these bytes and may leave these images
 abbrev holding : List ℕ → (List ℕ → Type 0) → View
 holding held leaves = record {
-  fixed = record { tells_held = true; tells_said = true; tells_crashes = true; honest = true; name = Some []; reach = 2 };
+  fixed = record { tells_held = true; tells_said = true; honest = true; name = Some []; reach = 2 };
   held = held;
   said = [];
   may_leave = leaves;

@@ -1,6 +1,7 @@
 pub mod Bytes
 pub mod View
 pub mod Steps
+pub mod FromBelow
 pub mod Memory
 pub mod CallLog
 pub mod MemStation

@@ -5,6 +5,7 @@
 //! file systems: what was written since the last sync may hold anything after a crash, and all else is kept.
 #![tactic(auto)]
 
+mod call_counts;
 mod call_log;
 mod crash_image;
 mod crash_station;
@@ -15,7 +16,6 @@ mod memory;
 mod note;
 mod station;
 mod sure_station;
-mod tally;
 mod travel;
 
 pub use crash_image::Pick;
