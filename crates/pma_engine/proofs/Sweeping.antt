@@ -10,11 +10,12 @@ use Rattle.range_scan.specs.Sweeping.{scan_of}
 use Rattle.command_text.specs.Reply.{reply_text}
 use Rattle.command_text.specs.declared.reply.Reply.TheVariants.{End}
 use Rattle.pma_engine.specs.Ranging.{LeavesLast, SaysFront, SaysNext, SaysSweep, row_text, scan_text}
+use Rattle.pma_engine.specs.Session.{IsPartSaid}
 use Rattle.pma_engine.specs.declared.fault.ServeFault.{ServeFault}
 use Rattle.pma_engine.specs.declared.fault.ServeFault.TheVariants.{Reply}
-use Rattle.pma_engine.proofs.Pieces.{front_on, piece_front, row_text-append}
+use Rattle.pma_engine.proofs.Pieces.{front_on, part_behind, piece_front, row_text-append}
 use Rattle.pma_engine.proofs.Ranging.{first_rows, no_fault}
-use Rattle.pma_engine.proofs.RangeAnswers.{rest_of, whole_of}
+use Rattle.pma_engine.proofs.RangeAnswers.{more_than, part_of, rest_of, whole_of}
 
 -- What is said of an answer, whatever it is.
 
@@ -36,8 +37,11 @@ module _ (s t : SweepView) (fresh : s.given ≡ 0) {a b : View} where
   sweep_stopped fault next = record {
     text = row_text next.stops.rows;
     front = next.stops.front;
-    begins = λ told. rest_of next.stops.rows next.stops.rest (scan_of s a.held) (subst (λ (n : ℕ). take n (scan_of s a.held) ++ next.stops.rows ++ next.stops.rest ≡ scan_of s a.held) fresh (next.stops.are told));
+    begins = λ told. rest_of next.stops.rows next.stops.rest (scan_of s a.held) (rows_are told);
     whole = tt;
+    cut = λ is told said.
+        let more = rest_of next.stops.rows next.stops.rest (scan_of s a.held) (rows_are told) in
+        part_of (row_text next.stops.rows) more.0 (scan_text s a.held) a.said b.said more.1 (more_than next.stops.rows next.stops.rest (scan_of s a.held) (rows_are told)) (next.stops.front.said said);
     between = λ is told said.
         let rows = next.between is in
         rows.1.whole.said said ∙ ap (λ (l : List Record). a.said ++ row_text l) (first_rows s rows.0 t.given fresh rows.1 told);
@@ -58,6 +62,9 @@ module _ (s t : SweepView) (fresh : s.given ≡ 0) {a b : View} where
     told = next.told;
     never = next.never;
   }
+    where
+      rows_are : Told a → next.stops.rows ++ next.stops.rest ≡ scan_of s a.held
+      rows_are told = subst (λ (n : ℕ). take n (scan_of s a.held) ++ next.stops.rows ++ next.stops.rest ≡ scan_of s a.held) fresh (next.stops.are told)
 
   -- all but the last were said, and then these and the line with their number, or a front of it
   module _ {d : View} (law : Lawful a) {left : List ℕ} (leaves : LeavesLast left s t a b) (count : ℕ) (number : count ≡ t.given) (says : Says (left ++ reply_text (End count)) b d) (few_said : d.calls ≤ b.calls + length (left ++ reply_text (End count))) where
@@ -111,6 +118,7 @@ module _ (s t : SweepView) (fresh : s.given ≡ 0) {a b : View} where
           ∙ ap (λ (l : List ℕ). l ++ (left ++ reply_text (End count))) (leaves.rows.whole.said said)
           ∙ append_assoc a.said (row_text leaves.before) (left ++ reply_text (End count))
           ∙ ap (λ (l : List ℕ). a.said ++ l) (lines_are told);
+      cut = no_fault tt;
       between = tt;
       within = leaves.within;
       same = leaves.same;
@@ -124,12 +132,16 @@ module _ (s t : SweepView) (fresh : s.given ≡ 0) {a b : View} where
       never = tt;
     }
 
-    pub sweep_cut : Rose b.say_faults d.say_faults → SaysSweep (Err Reply) s t a d
-    sweep_cut rose = record {
+    pub sweep_cut : (SaidTold b → IsPartSaid (left ++ reply_text (End count)) b.said d.said) → Rose b.say_faults d.say_faults → SaysSweep (Err Reply) s t a d
+    sweep_cut part rose = record {
       text = lines;
       front = front_said;
       begins = begun;
       whole = tt;
+      cut = λ is told said.
+          let here = part (ap (λ f. f.tells_said) leaves.rows.whole.front.run.fixed ∙ said) in
+          subst (λ (l : List ℕ). IsPartSaid l a.said d.said) (lines_are told)
+          (part_behind (row_text leaves.before) (left ++ reply_text (End count)) a.said b.said d.said (leaves.rows.whole.said said) here);
       between = λ is. absurd cc;
       within = leaves.within;
       same = leaves.same;
