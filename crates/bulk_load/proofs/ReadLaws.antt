@@ -1,15 +1,18 @@
 -- A text is read one line at a time.
-use Rattle.std.proofs.Common.{◌≡◌, inl, ℕ, ◌+◌, ◌<◌, ◌≤◌, Bool, false, cond, List, [], ◌∷◌, ◌++◌, length, Err, refl, sym, ap, ◌∙◌, arith}
+use Rattle.std.proofs.Common.{◌≡◌, inl, ℕ, ◌+◌, ◌<◌, ◌≤◌, Bool, false, cond, List, [], ◌∷◌, ◌++◌, length, Err, refl, sym, ap, ◌∙◌, arith, length-append}
 use Rattle.std.specs.Str.Lines.{strip_carriage_return}
 use Rattle.std.proofs.lemmas.Bool.{lt-ltb, le-ltb}
 use Rattle.line_source.specs.Lines.{raw_lines, line_limit}
 use Rattle.line_source.specs.SourceView.{SourceView, SourceTold}
+use Rattle.line_source.specs.LineStep.{Takes}
+use Rattle.line_source.specs.Progress.{HasGiven}
 use Rattle.line_source.specs.ReaderView.{ReaderView, rest}
+use Rattle.line_source.proofs.Reading.{took_on}
 use Rattle.key_slot.specs.Record.{Record}
 use Rattle.command_text.specs.Load.{load_line, load_line_raw}
 use Rattle.command_text.specs.declared.load.LoadLine.{LoadLine}
 use Rattle.command_text.specs.declared.load.LoadLine.TheVariants.{Bad}
-use Rattle.bulk_load.specs.Loading.{Loading, reads, wrong, full, after_line, load_step, load_from, loading}
+use Rattle.bulk_load.specs.Loading.{Loading, TakesAtMost, reads, wrong, full, after_line, load_step, load_from, loading}
 use Rattle.bulk_load.specs.Faults.{IsLineFault, IsReadingFault}
 use Rattle.bulk_load.specs.Reading.{IsNextEntry, GivesEntry}
 use Rattle.bulk_load.specs.declared.fault.LoadFault.{LoadFault}
@@ -92,3 +95,22 @@ module _ (format most : ℕ) (r0 : ReaderView) (s0 : SourceView) (given : List (
     line_fault s1 (Damaged segment why) is = absurd is
     line_fault s1 Script is = absurd is
     line_fault s1 Spent is = absurd is
+
+-- What was taken.
+
+-- by calls that gave lines
+pub takes_given : (r0 : ReaderView) (s0 : SourceView) (given : List (List ℕ)) (r : ReaderView) (s : SourceView) → HasGiven r0 s0 given r s → SourceTold s0 → TakesAtMost r0.room s0 s
+takes_given r0 s0 given r s here told =
+    let took = here.front told in
+    record { front = took.front; is = took.is; most_is = omega (arith, here.taken told, ap length took.is, length-append took.front s.left) }
+
+-- and by the last call
+pub takes_last : (r0 : ReaderView) (s0 : SourceView) (given : List (List ℕ)) (r : ReaderView) (s : SourceView) (r1 : ReaderView) (s1 : SourceView) → HasGiven r0 s0 given r s → (SourceTold s → Takes r s r1 s1) → SourceTold s0 → TakesAtMost r0.room s0 s1
+takes_last r0 s0 given r s r1 s1 here takes told =
+    let last = takes (here.went.tells ∙ told) in
+    let took = took_on s0 s s1 (here.front told) last.front in
+    record { front = took.front; is = took.is; most_is = omega (arith, here.taken told, last.count, ap length took.is, length-append took.front s1.left) }
+
+-- nothing at all
+pub takes_none : (most : ℕ) (s : SourceView) → TakesAtMost most s s
+takes_none most s = record { front = []; is = refl; most_is = omega arith }

@@ -1,5 +1,5 @@
 -- A load text is read one line at a time.
-use Rattle.std.specs.Prelude.{◌≡◌, ◌⊎◌, ℕ, ◌+◌, ◌==◌, if◌then◌else◌, not, Bool, true, false, List, [], ◌∷◌, ◌++◌, length}
+use Rattle.std.specs.Prelude.{◌≡◌, ◌⊎◌, ℕ, ◌+◌, ◌≤◌, ◌==◌, if◌then◌else◌, not, Bool, true, false, List, [], ◌∷◌, ◌++◌, length}
 use Rattle.line_source.specs.Lines.{raw_lines}
 use Rattle.line_source.specs.SourceView.{SourceView, SourceTold}
 use Rattle.line_source.specs.ReaderView.{ReaderView, rest}
@@ -61,3 +61,9 @@ pub record IsUnread (r : ReaderView) : Type 0 where
   pub fresh : r.done ≡ false
   pub begun : r.held ≡ []
   pub going : r.ended ≡ false
+
+-- what was taken is a front of what was left, of at most so many bytes
+pub record TakesAtMost (most : ℕ) (a b : SourceView) : Type 0 where
+  pub front : List ℕ
+  pub is : a.left ≡ front ++ b.left
+  pub most_is : length front ≤ most

@@ -10,7 +10,7 @@ ghost use Rattle.line_source.specs.SourceView.{SourceTold, Went};
 ghost use Rattle.map_model.specs.Regions.{Spares};
 ghost use Rattle.segment_frames.specs.Standing.{StandsFor};
 ghost use Rattle.bulk_load.specs.Faults.{IsLoadFault, IsWritingFault, IsNoDamage, IsNoDisk, IsShownBy};
-ghost use Rattle.bulk_load.specs.Loading.{IsUnread};
+ghost use Rattle.bulk_load.specs.Loading.{IsUnread, TakesAtMost};
 ghost use Rattle.bulk_load.specs.Loads.{most_records, TextFor, Loads, IsLeastHeight, IsWrittenOut, IsLoaded};
 ghost use Rattle.bulk_load.specs.Packing.{CanFill};
 ghost use Rattle.bulk_load.specs.Spreading.{load_calls};
@@ -68,6 +68,9 @@ pub fn load_rows<I: Source, S: Station>(
     ensures cost { IfOk result (λ loaded. (S.view station.new).travel.written ≤ (S.view station.old).travel.written + (2 * segment_size place.old.layout * 2 ^ loaded.height + 9)) }
     ensures calls { IfOk result (λ loaded. (S.view station.new).calls ≤ (S.view station.old).calls + load_calls place.old.layout loaded.records (2 ^ loaded.height)) }
 
+    // Whatever is answered, what was taken is a front of the text, and no more than the reader might take.
+    ensures takes { SourceTold (I.view source.old) → TakesAtMost reader.old.room (I.view source.old) (I.view source.new) }
+
     // Why it fails.
     ensures fault { IfErr result (IsLoadFault place.old.layout.format (most_records place.old.layout) (sum tally.now.counts) reader.old (I.view source.old) (I.view source.new)) }
     ensures kept { IfErr result (λ fault. IsNoDisk fault → EachHeld (StandsFor place.old tally.now) (S.view station.new)) }
@@ -108,6 +111,7 @@ fn write_text<I: Source, S: Station>(
     ensures written { IfOk result (λ loaded. (rows : List Record) × IsWrittenOut place.now rows loaded.records loaded.height (TextFor place.now.layout reader.old (I.view source.old)) (S.view station.new)) }
     ensures whole { OnOk result (SourceTold (I.view source.old) → ((I.view source.new).left ≡ []) × (length (I.view source.old).left < reader.old.room)) }
     ensures fault { IfErr result (IsWritingFault place.now.layout.format (most_records place.now.layout) reader.old (I.view source.old) (I.view source.new)) }
+    ensures takes { SourceTold (I.view source.old) → TakesAtMost reader.old.room (I.view source.old) (I.view source.new) }
     ensures steps { Steps (Spares place.now.layout place.now.region) (S.view station.old) (S.view station.new) }
     ensures cost { IfOk result (λ loaded. (S.view station.new).travel.written ≤ (S.view station.old).travel.written + 2 * segment_size place.now.layout * 2 ^ loaded.height) }
     ensures calls { IfOk result (λ loaded. (S.view station.new).calls + 4 ≤ (S.view station.old).calls + load_calls place.now.layout loaded.records (2 ^ loaded.height)) }

@@ -10,10 +10,11 @@ ghost use Rattle.key_slot.specs.Row.{record_of};
 ghost use Rattle.command_text.specs.declared.load.LoadLine.TheVariants as load;
 ghost use Rattle.map_model.specs.Regions.{Spares};
 ghost use Rattle.line_source.specs.SourceView.{SourceView, SourceTold, Went};
+ghost use Rattle.line_source.specs.LineStep.{Takes};
 ghost use Rattle.line_source.specs.ReaderView.{ReaderView};
 ghost use Rattle.line_source.specs.Progress.{HasGiven};
 ghost use Rattle.bulk_load.specs.Faults.{IsReadingFault};
-ghost use Rattle.bulk_load.specs.Loading.{IsUnread};
+ghost use Rattle.bulk_load.specs.Loading.{IsUnread, TakesAtMost};
 ghost use Rattle.bulk_load.specs.Loads.{most_records};
 ghost use Rattle.bulk_load.specs.Packing.{CanFill, goes_on_by, WritesRuns, room_in};
 ghost use Rattle.bulk_load.specs.Reading.{IsNextEntry, FitsLine, IsTaking, TakesOn, IsRead};
@@ -43,6 +44,7 @@ pub(crate) fn read_text<I: Source, S: Station>(
     ensures read { IfOk result (λ taken. (rows : List Record) × IsRead place.now reader.old (I.view source.old) rows taken frames.new (S.view station.new)) }
     ensures whole { OnOk result (SourceTold (I.view source.old) → ((I.view source.new).left ≡ []) × (length (I.view source.old).left < reader.old.room)) }
     ensures faulty { IfErr result (IsReadingFault place.now.layout.format (most_records place.now.layout) reader.old (I.view source.old) (I.view source.new)) }
+    ensures takes { SourceTold (I.view source.old) → TakesAtMost reader.old.room (I.view source.old) (I.view source.new) }
     ensures journal { frames.new.journal ≡ frames.old.journal }
     ensures steps { Steps (Spares place.now.layout place.now.region) (S.view station.old) (S.view station.new) }
     ensures cost { IfOk result (λ taken. (S.view station.new).travel.written ≤ (S.view station.old).travel.written + segment_size place.now.layout * taken.written) }
@@ -85,6 +87,7 @@ fn next_entry<I: Source>(
     requires fresh { reader.old.done ≡ false }
     requires format { format ≤ wide }
     ensures next { (r0 : ReaderView) (s0 : SourceView) (given : List (List ℕ)) → HasGiven r0 s0 given reader.old (I.view source.old) → IsNextEntry format result r0 s0 given reader.new (I.view source.new) }
+    ensures takes { SourceTold (I.view source.old) → Takes reader.old (I.view source.old) reader.new (I.view source.new) }
     ensures fits { IfOk result (λ next. IfSome next (FitsLine format)) }
     ensures falls { IfOk result (λ next. IsSome next → reader.new.room + length reader.new.held < reader.old.room + length reader.old.held) }
     ensures fresh { IfOk result (λ next. IsSome next → reader.new.done ≡ false) }

@@ -31,7 +31,8 @@ use Rattle.range_scan.proofs.Checks.{counted_all}
 use Rattle.segment_frames.specs.Standing.{StandsFor}
 use Rattle.bulk_load.specs.Faults.{IsLoadFault, IsNoDamage, IsNoDisk, IsOutsideFault}
 use Rattle.bulk_load.specs.LoadText.{IsFirstWrong, IsLoadText, IsOneTooMany, IsUnfinished}
-use Rattle.bulk_load.specs.Loading.{full, loading, reads, wrong}
+use Rattle.bulk_load.specs.Loading.{TakesAtMost, full, loading, reads, wrong}
+use Rattle.bulk_load.proofs.ReadLaws.{takes_none}
 use Rattle.bulk_load.specs.Loads.{IsLoaded, Loads, TextFor, most_records}
 use Rattle.bulk_load.specs.declared.fault.LoadFault.{LoadFault}
 use Rattle.bulk_load.specs.declared.fault.LoadFault.TheVariants as load
@@ -76,6 +77,7 @@ pub record FactsBy (reader : ReaderView) (r : Result Loaded LoadFault) (s : Stor
   pub loaded : IfOk r (λ loaded. (rows : List Record) × IsLoaded s.place rows loaded.records loaded.height (TextFor s.place.layout reader s0) b)
   pub none_before : OnOk r (sum s.tally.counts ≡ 0)
   pub whole : OnOk r (SourceTold s0 → (s1.left ≡ []) × (length s0.left < reader.room))
+  pub takes : SourceTold s0 → TakesAtMost reader.room s0 s1
   pub settled : OnOk r (NothingPending b)
   pub steps : Steps (Loads s.place (TextFor s.place.layout reader s0)) a b
   pub untouched : 0 < sum s.tally.counts → Steps Same a b × (b.travel ≡ a.travel) × (b.held ≡ a.held)
@@ -204,6 +206,7 @@ module _ (laws : Laws) (most : ℕ) (s : StoreView) (s0 s1 : SourceView) (layout
       line = λ e told. (line, refuses, from told);
       why = λ e told. (line, answers told, from);
       left = λ some. let same = left_alone (Err fault) b facts some in (says.held ∙ same.0, ap (λ (t : Travel). t.written) says.travel ∙ same.1);
+      takes = facts.takes;
       too_long = λ e. absurd (omega (arith, e));
       cut = λ e. absurd (elim e [ inl x ↦ omega (arith, x) | inr x ↦ omega (arith, x) ]);
       admitted = λ told_s told none rows text short calm_disk calm_script. absurd (no_text told_s told none rows text short calm_disk calm_script);
@@ -231,6 +234,7 @@ module _ (laws : Laws) (most : ℕ) (s : StoreView) (s0 s1 : SourceView) (layout
       line = λ e. absurd (other REFUSED e ((λ x. omega (arith, x)), (λ x. omega (arith, x)), (λ x. omega (arith, x))));
       why = λ e. absurd (other REFUSED e ((λ x. omega (arith, x)), (λ x. omega (arith, x)), (λ x. omega (arith, x))));
       left = left_alone (Err fault) b facts;
+      takes = facts.takes;
       too_long = spent;
       cut = none;
       admitted = λ told_s told zero_is rows text short calm_disk calm_script. absurd (no_text told_s told zero_is rows text short calm_disk calm_script);
@@ -278,6 +282,7 @@ module _ (laws : Laws) (most : ℕ) (s : StoreView) (s0 s1 : SourceView) (layout
       line = λ e. absurd (omega (arith, e));
       why = λ e. absurd (omega (arith, e));
       left = left_alone (Ok done) b facts;
+      takes = facts.takes;
       too_long = λ e. absurd (omega (arith, e));
       cut = λ e. facts.none_before;
       admitted = λ told_s told zero_is text_rows text short calm_disk calm_script. refl;
@@ -352,6 +357,7 @@ module _ (most : ℕ) (s : SourceView) (a b : View) (law : Lawful a) (ab : Steps
       silent = λ quiet. ab.frame.said;
       refused = λ e. absurd (other REFUSED e ((λ x. omega (arith, x)), (λ x. omega (arith, x))));
       memory = λ e. unopened.memory (memory e);
+      takes = λ told. takes_none most s;
       too_long = λ e. absurd (other TOO_LONG e ((λ x. omega (arith, x)), (λ x. omega (arith, x))));
       complete = λ told m here calm. inr (inl (ends calm));
       admitted = λ told_s told here rows text short calm calm_script. inr (ends calm);
@@ -382,6 +388,7 @@ module _ (most : ℕ) (s : SourceView) (a b : View) (law : Lawful a) (ab : Steps
       silent = λ other. absurd (other refl);
       refused = λ e. refused;
       memory = λ e. absurd (omega (arith, e));
+      takes = λ told. takes_none most s;
       too_long = λ e. absurd (omega (arith, e));
       complete = λ told m here. absurd (never told m here);
       admitted = λ told_s told here. absurd (never told empty_map here);
@@ -511,6 +518,7 @@ module _ (most : ℕ) (s0 s1 : SourceView) (a b : View) (law : Lawful a) (ab : S
         silent = λ other. loads.silent other ∙ ab.frame.said;
         refused = was_refused;
         memory = λ e. absurd (elim loads.status_is [ inl (inl x) ↦ omega (arith, e, x) | inl (inr (inl x)) ↦ omega (arith, e, x) | inl (inr (inr x)) ↦ omega (arith, e, x) | inr (inl x) ↦ omega (arith, e, x) | inr (inr x) ↦ omega (arith, e, x) ]);
+        takes = loads.takes;
         too_long = loads.too_long;
         complete = λ told m here calm. elim loads.status_is [
           | inl (inl e) ↦ inl e

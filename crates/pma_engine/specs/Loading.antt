@@ -16,6 +16,7 @@ use Rattle.map_model.specs.Holding.{IsBalancedArray}
 use Rattle.map_model.specs.Image.{array_of, height_of}
 use Rattle.map_model.specs.Store.{Map}
 use Rattle.batch_intent.specs.Means.{Means, MeansMap, has_pending, meant_map, opening_reason}
+use Rattle.bulk_load.specs.Loading.{TakesAtMost}
 use Rattle.bulk_load.specs.Loads.{IsLeastHeight, most_records}
 use Rattle.bulk_load.specs.LoadText.{IsLoadText, IsFirstWrong, IsUnfinished, IsOneTooMany}
 use Rattle.bulk_load.specs.declared.fault.LoadFault.{LoadFault}
@@ -148,6 +149,8 @@ pub record LoadsFile (status most : ℕ) (s0 s1 : SourceView) (a b : View) : Typ
   pub silent : (status ≡ REFUSED → ⊥) → b.said ≡ a.said
   pub refused : status ≡ REFUSED → IsLoadRefused s0 s1 a b
   pub memory : status ≡ OUT_OF_MEMORY → IsOutOfMemory (attached_by false a) b
+  -- at every status a front of the text was taken, of at most so many bytes
+  pub takes : SourceTold s0 → TakesAtMost most s0 s1
   pub too_long : status ≡ TOO_LONG → SourceTold s0 → length s0.left ≡ length s1.left + most
   -- of a store: where no disk call failed, it ends so, or for want of memory, or with the one answer that is due, or for the source
   pub complete : Told a → (m : Map) → MeansMap a.held m → (Rose a.disk_faults b.disk_faults → ⊥) →
@@ -172,6 +175,7 @@ pub record LoadsOpened (status most : ℕ) (l : Layout) (records : ℕ) (s0 s1 :
   pub line : status ≡ REFUSED → SaidTold a → (line : Reply) × IsRefusal line × SaysLine line a.said a b
   pub why : status ≡ REFUSED → Told a → (line : Reply) × AnswersLoad l records s0 s1 line × (SaidTold a → SaysLine line a.said a b)
   pub left : 0 < records → (b.held ≡ a.held) × (b.travel.written ≡ a.travel.written)
+  pub takes : SourceTold s0 → TakesAtMost most s0 s1
   pub too_long : status ≡ TOO_LONG → SourceTold s0 → length s0.left ≡ length s1.left + most
   pub cut : IsCutText status → records ≡ 0
   pub admitted : SourceTold s0 → Told a → records ≡ 0 → (rows : List Record) → HasText l s0 rows → length s0.left < most →

@@ -15,6 +15,7 @@ use Rattle.bulk_load.specs.Loads.{most_records, TextFor, Loads}
 use Rattle.bulk_load.proofs.LoadLaws.{tall_limit, spare_loads, loads_same, flips_load, represents, array_new, settled_new, enough, at_of, no_records_fault, file_fault, file_no_damage}
 use Rattle.bulk_load.specs.Faults.{IsLoadFault, IsNoDamage, IsNoDisk, IsShownBy, load_fault_of}
 use Rattle.bulk_load.proofs.CauseLaws.{file_shown}
+use Rattle.bulk_load.proofs.ReadLaws.{takes_none}
 use Rattle.std.proofs.Math.Pow.{pow_pos}
 use Rattle.density_rule.specs.Windows.{IsBalanced}
 use Rattle.header_gate.specs.Header.{live_copy}
@@ -177,3 +178,6 @@ returns-in-Err-clause-untouched g c some = absurd (no_records g (goal.at.returns
 
 pub returns-then-records-gt0-clause-untouched : goal.returns-then-records-gt0-clause-untouched
 returns-then-records-gt0-clause-untouched g c some = (refl, refl)
+
+pub returns-then-records-gt0-clause-takes : goal.returns-then-records-gt0-clause-takes
+returns-then-records-gt0-clause-takes g c told = takes_none c.args.reader.now.room (g.I.Source.view c.args.source.now)

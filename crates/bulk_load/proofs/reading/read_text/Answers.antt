@@ -13,7 +13,7 @@ use Rattle.bulk_load.specs.Reading.{GivesEntry, IsNextEntry, FitsLine}
 use Rattle.bulk_load.proofs.Calls.{none_spares, spares_on, fill_on}
 use Rattle.bulk_load.proofs.PackLaws.{room_some, cost_on, runs_on}
 use Rattle.bulk_load.proofs.TakenLaws.{none_taken}
-use Rattle.bulk_load.proofs.ReadLaws.{reading_fault, line_fault, loaded_more}
+use Rattle.bulk_load.proofs.ReadLaws.{reading_fault, line_fault, loaded_more, takes_given, takes_last}
 use Rattle.bulk_load.proofs.reading.read_text.Goals as goal
 use Rattle.bulk_load.proofs.reading.read_text.Goals.{After-take_line, After-start_shares}
 
@@ -145,3 +145,19 @@ returns-else-taken-clause-faulty g c told =
 
 pub returns-then-taken-clause-calls : goal.returns-then-taken-clause-calls
 returns-then-taken-clause-calls g c = c.loop-line.invariant.calls
+
+-- What was taken.
+
+pub returns-in_err-line-clause-takes : goal.returns-in_err-line-clause-takes
+returns-in_err-line-clause-takes g c = takes_last c.args.reader.now (g.I.Source.view c.args.source.now) c.loop-line.invariant.given c.loop-line.reader (g.I.Source.view c.loop-line.source) c.next_entry.new.reader (g.I.Source.view c.next_entry.new.source) c.loop-line.invariant.reading c.next_entry.ensures.takes
+
+pub returns-then-taken-clause-takes : goal.returns-then-taken-clause-takes
+returns-then-taken-clause-takes g c = takes_last c.args.reader.now (g.I.Source.view c.args.source.now) c.loop-line.invariant.given c.loop-line.reader (g.I.Source.view c.loop-line.source) c.next_entry.new.reader (g.I.Source.view c.next_entry.new.source) c.loop-line.invariant.reading c.next_entry.ensures.takes
+
+pub returns-else-taken-clause-takes : goal.returns-else-taken-clause-takes
+returns-else-taken-clause-takes g c = takes_last c.args.reader.now (g.I.Source.view c.args.source.now) c.loop-line.invariant.given c.loop-line.reader (g.I.Source.view c.loop-line.source) c.next_entry.new.reader (g.I.Source.view c.next_entry.new.source) c.loop-line.invariant.reading c.next_entry.ensures.takes
+
+pub returns-in-Err-clause-takes : goal.returns-in-Err-clause-takes
+returns-in-Err-clause-takes g c =
+    let next = turn g (goal.at.returns-in-Err-clause-takes g c).After-take_line in
+    takes_given c.args.reader.now (g.I.Source.view c.args.source.now) (c.loop-line.invariant.given ++ next.raw ∷ []) c.next_entry.new.reader (g.I.Source.view c.next_entry.new.source) next.more

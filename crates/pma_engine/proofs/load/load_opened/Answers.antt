@@ -42,6 +42,7 @@ returns g c =
       loaded = does.loaded;
       none_before = does.empty;
       whole = does.whole;
+      takes = does.takes;
       settled = does.settled;
       steps = does.steps;
       untouched = λ some.
