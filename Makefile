@@ -1,6 +1,7 @@
 # make: proves and builds ./pma; JOBS=.. says how many processors it may use.  make demo: makes a store that grows.
 # make check: the merge gate.  make clean: removes all that was made.
-# make install PREFIX=..: the program, its manual page, manual and format.  make uninstall PREFIX=..: removes them.
+# make install PREFIX=..: the program, its page, manual and format, and the clients.  make uninstall PREFIX=..: removes them.
+# make clients: tries the clients on the program, also while it is killed.
 # make gate-times: how long the gate's parts take.  make dear-goals: which goals of the proofs cost most, after a check.
 # make doc-examples: the examples of README, MANUAL and pma(1).  make doc-names: the names in the documents.
 # make trials: wrong bodies of trials/, each of which must be refused.
@@ -13,7 +14,7 @@
 # make bench-plots: pictures and tables of docs/BENCHMARKS.md from docs/bench.  make examples: the worked uses of docs/USES.md.
 
 .PHONY: all demo check clean install uninstall gate-times dear-goals said-twice reading doc-examples doc-names trials bench faults \
-    bench-peers bench-plots examples
+    bench-peers bench-plots examples clients
 
 JOBS ?=
 PREFIX ?= /usr/local
@@ -44,17 +45,23 @@ check:
 	.ci/run
 
 clean:
-	rm -rf pma demo.pma out crates/*/out bench/out bench/__pycache__
+	rm -rf pma demo.pma out crates/*/out bench/out bench/__pycache__ clients/python/__pycache__ clients/python/*/__pycache__
+	$(MAKE) -s -C clients/c clean
 
 install: pma
 	install -d $(DESTDIR)$(PREFIX)/bin $(DESTDIR)$(PREFIX)/share/man/man1 $(DESTDIR)$(PREFIX)/share/doc/pma
 	install -m 755 pma $(DESTDIR)$(PREFIX)/bin/pma
 	install -m 644 docs/pma.1 $(DESTDIR)$(PREFIX)/share/man/man1/pma.1
-	install -m 644 docs/MANUAL.md docs/FORMAT.md $(DESTDIR)$(PREFIX)/share/doc/pma
+	install -m 644 docs/MANUAL.md docs/FORMAT.md clients/PROTOCOL.md $(DESTDIR)$(PREFIX)/share/doc/pma
+	install -d $(DESTDIR)$(PREFIX)/share/pma/python/pma
+	install -m 644 clients/python/pma/*.py clients/python/pma/py.typed $(DESTDIR)$(PREFIX)/share/pma/python/pma
+	if command -v $(CC) >/dev/null; then $(MAKE) -s -C clients/c install CC='$(CC)' PREFIX='$(PREFIX)' DESTDIR='$(DESTDIR)'; \
+	else echo "the C client: left out, since $(CC) isn't there"; fi
 
 uninstall:
 	rm -f $(DESTDIR)$(PREFIX)/bin/pma $(DESTDIR)$(PREFIX)/share/man/man1/pma.1
-	rm -rf $(DESTDIR)$(PREFIX)/share/doc/pma
+	rm -rf $(DESTDIR)$(PREFIX)/share/doc/pma $(DESTDIR)$(PREFIX)/share/pma
+	$(MAKE) -s -C clients/c uninstall PREFIX='$(PREFIX)' DESTDIR='$(DESTDIR)'
 
 gate-times:
 	tools/gate-times.sh
@@ -85,9 +92,13 @@ faults: pma
 
 bench-peers: pma
 	bench/peers.py --program ./pma --records '$(RECORDS)' --csv '$(CSV)' --disk '$(DISK)'
+	bench/clients.py --program ./pma --csv '$(CSV)' --disk '$(DISK)'
 
 bench-plots:
 	bench/plots.py docs/bench docs/BENCHMARKS.md
 
 examples: pma
 	examples/run.sh ./pma
+
+clients: pma
+	clients/run.sh ./pma

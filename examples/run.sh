@@ -23,16 +23,16 @@ tried table "$examples/table.sh" "$program"
 tried index "$examples/index.sh" "$program"
 tried graph "$examples/graph.sh" "$program"
 
-"$program" create "$folder/client.pma" 4
 if command -v python3 >/dev/null; then
-    tried coprocess.py python3 "$examples/coprocess.py" "$program" "$folder/client.pma"
+    tried client.py python3 -B "$examples/client.py" "$program" "$folder/python.pma"
 else
-    echo "coprocess.py: left out, since python3 isn't there"
+    echo "client.py: left out, since python3 isn't there"
 fi
 if command -v "${CC:-cc}" >/dev/null; then
-    "${CC:-cc}" -O2 -o "$folder/coprocess" "$examples/coprocess.c" || failed=1
-    tried coprocess.c "$folder/coprocess" "$program" "$folder/client.pma"
+    client=$examples/../clients/c
+    "${CC:-cc}" -O2 -I "$client" -o "$folder/client" "$examples/client.c" "$client/pma.c" || failed=1
+    tried client.c "$folder/client" "$program" "$folder/c.pma"
 else
-    echo "coprocess.c: left out, since ${CC:-cc} isn't there"
+    echo "client.c: left out, since ${CC:-cc} isn't there"
 fi
 exit $failed

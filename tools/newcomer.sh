@@ -39,6 +39,7 @@ step_of() {
 step 'make' make
 step 'make demo' make demo
 step 'make doc-examples' make doc-examples
+step 'make clients' make clients
 step 'make install' make install "PREFIX=$folder/prefix"
 if command -v man >/dev/null; then
     step_of 'the page, without a warning' \
