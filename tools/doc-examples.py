@@ -1,5 +1,5 @@
 #!/usr/bin/env python3
-"""The examples of the documents: runs each line behind `$` in README and MANUAL, and in the examples of pma(1), and compares what comes.
+"""The examples of the documents: runs each line behind `$` in README, MANUAL, FORMAT and pma(1), and compares what comes.
 
 Usage: tools/doc-examples.py [PROGRAM], the program being ./pma where none is named. Ends with 1 where an example is wrong.
 An example is a line behind `$ ` in a block, with the lines that its quotes keep open; what stands behind it, up to the next `$ ` or
@@ -15,6 +15,7 @@ import tempfile
 
 top = pathlib.Path(__file__).resolve().parent.parent
 SECONDS = 60  # that a line may take
+MARKDOWN = ["README.md", "docs/MANUAL.md", "docs/FORMAT.md"]
 
 
 def sections_of_markdown(text: str) -> list[tuple[str, list[list[str]]]]:
@@ -98,7 +99,7 @@ def main() -> int:
     with tempfile.TemporaryDirectory() as shelf:
         (pathlib.Path(shelf) / "pma").symlink_to(program)
         path = f"{shelf}:{os.environ['PATH']}"
-        wrong = sum([wrong_in(name, sections_of_markdown((top / name).read_text()), path) for name in ("README.md", "docs/MANUAL.md")])
+        wrong = sum([wrong_in(name, sections_of_markdown((top / name).read_text()), path) for name in MARKDOWN])
         wrong += wrong_in("docs/pma.1", sections_of_page((top / "docs/pma.1").read_text()), path)
     return 1 if wrong else 0
 

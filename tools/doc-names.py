@@ -15,7 +15,7 @@ import pathlib
 import re
 import sys
 
-DOCUMENTS = ["README.md", "docs/PROMISES.md", "docs/DEFINITIONS.md", "docs/ARCHITECTURE.md", "docs/DECISIONS.md"]
+DOCUMENTS = ["README.md"] + [f"docs/{name}.md" for name in ("PROMISES", "DEFINITIONS", "ARCHITECTURE", "DECISIONS", "FORMAT")]
 WORD = re.compile(r"[^\W\d][\w']*(?:-[^\W\d][\w']*)*")
 PATH = re.compile(r"[\w.*-]+(?:/[\w.*-]*)+|[\w-]+\.(?:rt|antt|md|sh|py|edit|txt|c)")
 NAME = re.compile(r"\.?[^\W\d][\w'-]*(?:(?:\.|::)[^\W\d][\w'-]*)*")
