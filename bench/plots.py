@@ -7,6 +7,7 @@ table. Ends with 1 where gnuplot is missing.
 import pathlib
 import shutil
 import sys
+import textwrap
 
 from numbers_of_runs import BATCH, CONTESTANTS, MEMORY, OPEN, QUICK, QUICK_MEMORY, READS, UPDATES, WORKLOADS
 from numbers_of_runs import Numbers, by_contestant, number, unit, where
@@ -19,6 +20,11 @@ NO_RUN = "No run is kept here yet: `make bench-peers CSV=docs/bench` makes one, 
 def table(head, rows):
     lines = ["| " + " | ".join(head) + " |", "|" + "---|" * len(head)]
     return "\n".join(lines + ["| " + " | ".join(str(cell) for cell in row) + " |" for row in rows])
+
+
+def wrapped(text):
+    """A paragraph in lines of at most 130 columns; tables, headings and pictures as they stand."""
+    return text if text.startswith(("|", "#", "![")) else textwrap.fill(text, 130, break_on_hyphens=False)
 
 
 def columns(rows, words, numeric, scale=1):
@@ -99,8 +105,8 @@ def losses(numbers):
         "## Where `pma` loses",
         f"At {numbers.greatest} records, beside the best of the peers in each row:",
         table(["what", "unit", "`pma`", "with a JOURNAL of 1024", "take instead", "the cause"], rows),
-        "A batch of `pma` is one command in a crash, of 16 items at most, and four syncs where its segments fit into the journal "
-        "and no item asks for a rebalance: where more updates are to come together, take one of the peers, whose transactions have "
+        "A batch of `pma` is one command in a crash, of 16 items at most, and four syncs if its segments fit into the journal "
+        "and no item needs a rebalance. If more updates are to happen together, take one of the peers, whose transactions have "
         "no such limit and are synced once or twice. `pma` doesn't read backwards: SQLite, LMDB and LevelDB do.",
     ]
 
@@ -111,7 +117,7 @@ def losses(numbers):
 def described(numbers):
     return [
         "## Beside peers",
-        "What each workload is, and how the peers are run, stands below under [how peers are run](#how-peers-are-run).",
+        "[How peers are run](#how-peers-are-run), below, says what each workload is.",
         table(["what", ""], [[row["what"], row["value"]] for row in numbers.setup]),
         table(["contestant", "version", "settings"], [list(row.values()) for row in numbers.contestants]),
         "![Processor time of reads and scans](bench/reads.svg)",
@@ -131,7 +137,7 @@ def processor_time(numbers, records):
             rows.append([f"{work}, {unit(work)}", *texts])
     text = ("A command's, the median of the rounds with the least and the greatest, the opening subtracted; of a batch an "
             "item's, of a cursor and the range beside it a record's; an opening's, a load's and a dump's by itself. `nothing` "
-            "keeps no record and answers alike: so much the script language costs.")
+            "keeps no record and answers alike: this is what the script language costs.")
     if int(records) < 1000:
         text += (" Each put of a new key is followed by its removal, and the two are two commands. LevelDB keeps what was "
                  "removed until it compacts, and its ranges pass over that.")
@@ -172,7 +178,7 @@ def sized(numbers):
 def charged(numbers):
     return [
         "## Charges of updates",
-        "What an update is charged, by `cost`, over so many puts of new keys into an empty store. A charge counts images of "
+        "What an update is charged, by `cost`, over that many puts of new keys into an empty store. A charge counts images of "
         "segments, of 4096 bytes, that are written. At one place each key comes between the two that were put before it.",
         "![Charge of an update against the number of updates](bench/charges.svg)",
         table(["order", "updates", "charge of an update", "proved bound"],
@@ -218,7 +224,7 @@ def main():
     draw_all(numbers)
     before, rest = document.read_text().split(BEGIN)
     after = rest.split(END)[1]
-    document.write_text(before + BEGIN + "\n\n" + "\n\n".join(sections(numbers)) + "\n\n" + END + after)
+    document.write_text(before + BEGIN + "\n\n" + "\n\n".join(map(wrapped, sections(numbers))) + "\n\n" + END + after)
     return 0
 
 
