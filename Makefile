@@ -3,7 +3,7 @@
 # make install PREFIX=..: the program, its page, manual and format, and the clients.  make uninstall PREFIX=..: removes them.
 # make clients: tries the clients on the program, also while it is killed.
 # make gate-times: how long the gate's parts take.  make dear-goals: which goals of the proofs cost most, after a check.
-# make doc-examples: the examples of README, MANUAL and pma(1).  make doc-names: the names in the documents.
+# make doc-examples: the examples of README, MANUAL, FORMAT and pma(1).  make doc-names: the names in the documents.
 # make trials: wrong bodies of trials/, each of which must be refused.
 # make said-twice: functions of a crate that say the same clauses.  make reading CLAUSE=..: what there is to read behind a
 # clause of run_words.
