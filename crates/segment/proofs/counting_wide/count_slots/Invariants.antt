@@ -1,0 +1,10 @@
+-- The slots so far hold the rows so far.
+use Rattle.std.proofs.Common.{◌-◌, ◌<◌, ◌≤◌, [], get_or, Some}
+use Rattle.key_slot.specs.Format.{wide}
+use Rattle.key_slot.specs.Slot.{IsSlot, fields_of}
+use Rattle.segment.specs.Held.{held_rows}
+use Rattle.segment.proofs.SlotReading.{HoldsSlots}
+use Rattle.segment.proofs.counting_wide.count_slots.Given as goal
+
+abbrev pub invariant-loop-i : goal.invariant-loop-i
+invariant-loop-i l = record { holds : HoldsSlots wide l.page l.i (held_rows wide l.count l.slots); most : l.count ≤ l.i; last : 0 < l.count → IsSlot wide (Some (fields_of wide (get_or l.slots (l.count - 1) []))) (get_or l.slots (l.count - 1) []) }
