@@ -3,7 +3,7 @@
 ghost use Rattle.std.specs.Prelude.{◌≡◌, ◌≤◌, false, is_err, is_some, Some, None, IsOk, IfOk, IfErr, OnOk, OnErr, IsErrOf};
 ghost use Rattle.std.specs.FinMap.{get, contains_key, empty, remove};
 ghost use Rattle.station.specs.Bytes.{Same};
-ghost use Rattle.station.specs.View.{Told, EachHeld, NothingPending, Rose};
+ghost use Rattle.station.specs.View.{Told, EachHeld, Rose};
 ghost use Rattle.station.specs.Steps.{Steps};
 ghost use Rattle.header_gate.specs.Places.{file_length};
 ghost use Rattle.map_model.specs.Image.{map_of};
@@ -103,7 +103,7 @@ impl CursorSet {
     ) -> Result<Step, StoreFault>
         requires open { R.closed store.old ≡ false }
         requires store { EachHeld (R.stands store.old) (S.view station.old) }
-        requires nothing { NothingPending (S.view station.old) }
+        requires rests { R.rests store.old (S.view station.old) }
         requires reach { file_length (R.kept store.old).layout ≤ (S.view station.old).fixed.reach }
         ensures answer { IfOk result (λ step. Told (S.view station.old) → told_by step ≡ next_in (map_of (S.view station.old).held) self.old name.now) }
         ensures known { IfOk result (λ step. is_some (told_by step) ≡ contains_key self.old name.now) }
@@ -117,7 +117,7 @@ impl CursorSet {
         ensures state { R.state store.new ≡ R.state store.old }
         ensures kept { R.kept store.new ≡ R.kept store.old }
         ensures store { OnOk result (EachHeld (R.stands store.new) (S.view station.new)) }
-        ensures settled { OnOk result (NothingPending (S.view station.new)) }
+        ensures rests { OnOk result (R.rests store.new (S.view station.new)) }
         ensures steps { Steps Same (S.view station.old) (S.view station.new) }
         ensures reads { (k : Cursor) → get self.old name.now ≡ Some k → ReadsNear (later k.low k.past) (R.kept store.old) result (S.view station.old) (S.view station.new) }
         ensures idle { get self.old name.now ≡ None → (S.view station.new).travel ≡ (S.view station.old).travel }

@@ -4,7 +4,7 @@ ghost use Rattle.std.specs.Prelude.{◌≡◌, ◌≤◌, false, is_err, IfOk, I
 ghost use Rattle.std.specs.Option.{option_map};
 ghost use Rattle.std.specs.FinMap.{entries};
 ghost use Rattle.station.specs.Bytes.{Same};
-ghost use Rattle.station.specs.View.{Told, EachHeld, NothingPending, Rose};
+ghost use Rattle.station.specs.View.{View, Told, EachHeld, Rose};
 ghost use Rattle.station.specs.Steps.{Steps};
 ghost use Rattle.header_gate.specs.Places.{file_length};
 ghost use Rattle.key_slot.specs.Row.{record_of};
@@ -27,6 +27,9 @@ pub trait Seek {
     /// That it stands for the bytes of a file.
     ghost stands: { Self → List ℕ → Type 0 };
 
+    /// That a station, whose every image it stands for, is as it needs it between its calls.
+    ghost rests: { Self → View → Type 0 };
+
     /// Where its region lies, with the height and the counts that it keeps.
     ghost kept: { Self → KeptRegion };
 
@@ -47,7 +50,7 @@ pub trait Seek {
     ) -> Result<Option<Row>, StoreFault>
         requires open { closed self.old ≡ false }
         requires store { EachHeld (stands self.old) (S.view station.old) }
-        requires nothing { NothingPending (S.view station.old) }
+        requires rests { rests self.old (S.view station.old) }
         requires reach { file_length (kept self.old).layout ≤ (S.view station.old).fixed.reach }
         ensures row { IfOk result (λ row. Told (S.view station.old) → option_map record_of row ≡ first_ahead low past high (entries (map_of (S.view station.old).held))) }
         ensures damaged { IfErr result (λ fault. Told (S.view station.old) → fault ≡ StoreFault.Failed) }
@@ -56,7 +59,7 @@ pub trait Seek {
         ensures kept { kept self.new ≡ kept self.old }
         ensures state { state self.new ≡ state self.old }
         ensures store { OnOk result (EachHeld (stands self.new) (S.view station.new)) }
-        ensures settled { OnOk result (NothingPending (S.view station.new)) }
+        ensures rests { OnOk result (rests self.new (S.view station.new)) }
         ensures steps { Steps Same (S.view station.old) (S.view station.new) }
         ensures reads { ReadsNear (later low past) (kept self.old) result (S.view station.old) (S.view station.new) };
 }
