@@ -95,7 +95,7 @@ module _ (old new : List ℕ) (was : IsSoundHeader old) (touched : Touched IsUnn
       image_same k o = behind (image_place (layout_in new) k + live_shift (layout_in new) new + o) (omega arith) ∙ (λ t. byte old (image_place (layout_same t) k + shift_same t + o))
 
   -- so are the live segments
-  segment_same : (i : ℕ) → i < 2 ^ height_limit (layout_in old) → live_segment new i ≡ live_segment old i
+  pub segment_same : (i : ℕ) → i < 2 ^ height_limit (layout_in old) → live_segment new i ≡ live_segment old i
   segment_same i below =
       let low : i < 2 ^ height_limit (layout_in new) = subst (λ (l : Layout). i < 2 ^ height_limit l) (sym layout_same) below in
       let long = length-live_segment new sound_new i low in

@@ -22,6 +22,7 @@ use Rattle.map_model.specs.Store.{Map, Update, map_after, key_of}
 use Rattle.key_slot.proofs.SegmentLaws.{times_up}
 use Rattle.map_model.proofs.Recovering.{determined}
 use Rattle.map_model.proofs.Resuming.{get_before}
+use Rattle.redo_journal.specs.Rest.{RestsAt}
 use Rattle.segment.specs.declared.fault.StoreFault.{StoreFault}
 use Rattle.segment.specs.declared.fault.StoreFault.TheVariants.{Failed}
 use Rattle.pma_store.specs.Answers.{state_in}
@@ -186,7 +187,7 @@ module _ (items : List Update) (k charge : ℕ) (s t next : StoreView) (a b c : 
         meant = λ base admitted each.
             let before = is.meant base admitted each in (
               goes_on (Ok charge_next) made base admitted each,
-              item_made s.place.layout base items admitted k d lt b c law before.1 (step (Ok charge_next) made) made.store.settled (λ told_b m represents.
+              item_made s.place.layout base items admitted k d lt b c next law before.1 (step (Ok charge_next) made) made.store (λ told_b m represents.
                   let own : m ≡ map_of b.held = (determined b.held m represents.0 represents.1).0 in
                   let mapped : map_of c.held ≡ map_after (limit_of s) (map_of b.held) (get_or items k d) = ap (λ (x : ArrayState). x.map) (made.state told_b) ∙ ap (λ (h : ℕ). map_after h (map_of b.held) (get_or items k d)) limit_same in
                   subst (RepresentsMap c.held) (mapped ∙ ap (λ (x : Map). map_after (limit_of s) x (get_or items k d)) (sym own)) (own_of next c.held (stands_there next made.store (told_on made.steps.frame told_b)))),
@@ -278,15 +279,15 @@ module _ (items : List Update) (charge : ℕ) (s t : StoreView) (a b c : View) (
   begun_all : AreForItems items s a is.of_items
   begun_all = record { begun = length items; some = omega arith; last = t.tally; are_for = is.are_for }
 
-  pub all_made : length items ≤ 16 → Lawful c → NothingPending c → (Told b → intent_gate c.held ≡ 0) → MakesItems items (Ok charge) s t a c
-  all_made few law settled even =
+  pub all_made : length items ≤ 16 → Lawful c → NothingPending c → RestsAt t.place.layout t.turn c → (Told b → intent_gate c.held ≡ 0) → MakesItems items (Ok charge) s t a c
+  all_made few law settled rests even =
       let stands : EachHeld (Stands t) c = each_on (Stands t) (Stands t) closing is.on.stands (λ d i stands step. spared_stands t d i stands (gate_touched d i step)) in
       record {
         state = λ told.
             let told_b = told_on is.touched.frame told in
             spared_state t b.held c.held (stands_there t is.on told_b) (gate_touched b.held c.held (closing.held told_b)) ∙ is.state told ∙ ap (next_states (limit_of s) (state_in s a.held)) whole;
         charge = λ told. is.charged told ∙ ap (charge_after_items (limit_of s) (state_in s a.held)) whole;
-        store = stands_again t t is.on refl closing.frame stands settled;
+        store = stands_again t t is.on refl closing.frame stands rests;
         no_intent = each_held c (λ image. has_pending image ≡ false) law settled (λ told. even_idle_at c.held (even (told_back closing.frame told)));
         steps = closes;
         touched = touches_gate;

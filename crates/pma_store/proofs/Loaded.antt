@@ -45,7 +45,7 @@ module _ (format : ℕ) (b : Batch) (f segment : ℕ) (rows : List Record) (writ
 
   -- the batch with the segment
   abbrev pub with_segment : Batch
-  with_segment = record { journal = b.journal; numbers = pages_of_all format (segments_in format b.numbers ++ segment ∷ []); slots = slots }
+  with_segment = record { journal = b.journal; turn = b.turn; numbers = pages_of_all format (segments_in format b.numbers ++ segment ∷ []); slots = slots }
 
   there : own * f + own ≤ length b.slots
   there = segment_room format f b.journal b.slots held.frames.frames room
@@ -110,7 +110,7 @@ module _ (format : ℕ) (b : Batch) (f segment : ℕ) (rows : List Record) (writ
   pub still_held : IsFrames (record b { numbers = with_segment.numbers }) → IsHeld format with_segment
   still_held frames = record {
     known = held.known;
-    frames = record { journal = frames.journal; frames = size ∙ frames.frames; few = frames.few; ascends = frames.ascends; small = frames.small };
+    frames = record { journal = frames.journal; turn = frames.turn; frames = size ∙ frames.frames; few = frames.few; ascends = frames.ascends; small = frames.small };
     pages = whole_pages format with_segment.numbers (segments_in format b.numbers ++ segment ∷ []) held.known.least refl;
     lists = subst (λ (a : Array). HoldsLists format a (grouped format slots)) (sym lists_are) all;
   }

@@ -4,9 +4,9 @@ use Rattle.std.specs.List.{list_all}
 use Rattle.std.proofs.lemmas.List.{take_all}
 use Rattle.std.proofs.lemmas.Bool.Decides.{nat_tests}
 use Rattle.station.specs.Bytes.{byte, Touched}
-use Rattle.station.specs.View.{View, Told, EachHeld, NothingPending, Lawful}
+use Rattle.station.specs.View.{View, Told, MayHold, EachHeld, NothingPending, Lawful}
 use Rattle.station.specs.Steps.{Frame, Steps}
-use Rattle.station.proofs.Composition.{no_steps, weaken, andthen, each_held, each_on, told_back, only_held}
+use Rattle.station.proofs.Composition.{no_steps, weaken, andthen, each_held, each_on, told_back, told_of}
 use Rattle.header_gate.specs.declared.layout.Layout.{Layout}
 use Rattle.header_gate.specs.declared.layout.TheConstants.{INTENT_VERSION}
 use Rattle.header_gate.specs.Header.{layout_in, intent_gate}
@@ -20,10 +20,11 @@ use Rattle.batch_intent.specs.Gate.{IsIntentGatePlace, IsIntentPlace, Intends}
 use Rattle.batch_intent.specs.Means.{MeansMap, KeepsIntent, IsApart, InBatch, map_after_all, has_pending}
 use Rattle.batch_intent.proofs.Meanings.{update_keeps, means_idle, batch_means, batch_next_at, batch_closed, intent_open, intent_whole}
 use Rattle.pma_store.specs.Meaning.{MeansNow, BecomesMeant}
-use Rattle.pma_store.specs.Store.{StoreView, IsOpenOn, limit_of}
+use Rattle.pma_store.specs.Store.{StoreView, StandsOn, IsOpenOn, limit_of}
 use Rattle.pma_store.specs.Touching.{Updates, IsUpdatePlace}
+use Rattle.pma_store.proofs.Resting.{covered_held, held_layout, alike_held, map_of_held}
 use Rattle.pma_store.proofs.Steps.{own_of}
-use Rattle.pma_store.proofs.Touching.{wider}
+use Rattle.pma_store.proofs.Touching.{moves_touch, wider}
 
 -- what holds where bytes are told, holds of a run of calls
 pub if_told : {a b : View} {R : List ℕ → List ℕ → Type 0} → Lawful a → Frame a b → (Told a → Steps R a b) → Steps R a b
@@ -80,11 +81,28 @@ still_idle hmax u ab idle = each_on (λ image. has_pending image ≡ false) (λ 
 pub meant_idle : (image : List ℕ) (m : Map) → RepresentsMap image m → has_pending image ≡ false → MeansMap image m
 meant_idle image m is idle = (is.0, means_idle image m is.0 is.1 idle)
 
+-- what a store's station may hold has one intent
+pub intent_held : {a : View} (s : StoreView) → Lawful a → StandsOn s a → (d : List ℕ) → MayHold a d → KeepsIntent a.held d
+intent_held {a} s law on d left =
+    let stands = on.stands a.held (inl (told_of law d left, refl)) in
+    let layout = (alike_held s law on d left).settled.layout_is ∙ sym (held_layout s law on d left) in
+    update_keeps a.held d (ap (λ (l : Layout). l.format) layout) (wider a.held d (update_apart (layout_in a.held)) (moves_touch s a.held d stands (covered_held s law on d left)))
+
+-- none waits, where none does in the held bytes
+pub idle_held : {a : View} (s : StoreView) → Lawful a → StandsOn s a → (Told a → has_pending a.held ≡ false) → EachHeld (λ image. has_pending image ≡ false) a
+idle_held {a} s law on idle d left = keeps_idle a.held d (intent_held s law on d left) ∙ idle (told_of law d left)
+
+-- and each is as far in a batch as they are
+pub batch_held : {a : View} (s : StoreView) (layout : Layout) (base : Map) (items : List Update) (k : ℕ) → Lawful a → StandsOn s a → (Told a → InBatch layout base items k a.held) → EachHeld (InBatch layout base items k) a
+batch_held {a} s layout base items k law on is d left =
+    let own = is (told_of law d left) in
+    batch_next_at layout base items a.held d k k own (intent_held s law on d left) (map_of_held s law on d left (map_after_items (height_limit layout) base (take k items)) own.represents)
+
 -- at every moment of an update that begins without an intent the file means the store's map or the map after it
-pub update_meant : {a b : View} (u : Update) (s : StoreView) → IsOpenOn s a → Steps (Updates (limit_of s) u) a b → Steps (BecomesMeant (map_of a.held) (map_after (limit_of s) (map_of a.held) u)) a b
-update_meant {a} {b} u s is ab = weaken ab (λ d i left step.
+pub update_meant : {a b : View} (u : Update) (s : StoreView) → Lawful a → IsOpenOn s a → Steps (Updates (limit_of s) u) a b → Steps (BecomesMeant (map_of a.held) (map_after (limit_of s) (map_of a.held) u)) a b
+update_meant {a} {b} u s law is ab = weaken ab (λ d i left step.
     let idle = update_idle (limit_of s) u d i step (is.no_intent d left) in
-    subst (λ (x : List ℕ). BecomesMeant (map_of x) (map_after (limit_of s) (map_of x) u) d i) (only_held a is.on.settled d left) (elim (step.map_is (map_of d) (own_of s d (is.on.stands d left))) [
+    subst (λ (m : Map). BecomesMeant m (map_after (limit_of s) m u) d i) (map_held s law is.on d left) (elim (step.map_is (map_of d) (own_of s d (is.on.stands d left))) [
       | inl same ↦ inl (meant_idle i (map_of d) same idle)
       | inr next ↦ inr (meant_idle i (map_after (limit_of s) (map_of d) u) next idle)
     ]))
@@ -118,9 +136,9 @@ module _ (layout : Layout) (base : Map) (items : List Update) (admitted : AreAdm
     ])
 
     -- once it is made
-    pub item_made : (a b : View) → Lawful b → EachHeld (InBatch layout base items k) a → Steps (Updates (height_limit layout) (get_or items k d)) a b → NothingPending b
+    pub item_made : (a b : View) (t : StoreView) → Lawful b → EachHeld (InBatch layout base items k) a → Steps (Updates (height_limit layout) (get_or items k d)) a b → StandsOn t b
         → (Told a → (m : Map) → RepresentsMap a.held m → RepresentsMap b.held (map_after (height_limit layout) m (get_or items k d))) → EachHeld (InBatch layout base items (suc k)) b
-    item_made a b law each ab nothing made = each_held b (InBatch layout base items (suc k)) law nothing (λ told.
+    item_made a b t law each ab on made = batch_held t layout base items (suc k) law on (λ told.
         let told_a : Told a = told_back ab.frame told in
         let is = each a.held (inl (told_a, refl)) in
         let next = made told_a (map_after_items (height_limit layout) base (take k items)) is.represents in

@@ -85,7 +85,8 @@ pub(crate) fn look_over<S: Station>(
     requires within { (k : ℕ) → k < length segments.now → slice_index_or segments.now k 0 < 2 ^ tally.now.height }
     requires belong { Told (S.view station.old) → BelongThere (array_of (S.view station.old).held) segments.now intent.now }
     requires fresh { look.old.count ≡ 0 }
-    ensures { LooksOver place.now tally.now segments.now intent.now result frames.new look.new (S.view station.old) (S.view station.new) }
+    ensures looks { LooksOver place.now tally.now segments.now intent.now result frames.new look.new (S.view station.old) (S.view station.new) }
+    ensures turn { frames.new.turn ≡ frames.old.turn }
 {
     frames.start();
     let mut from = 0;
@@ -149,6 +150,7 @@ fn take_in(
     ensures count { look.new.count ≤ look.old.count + 1 }
     ensures looked { (array : Array) → 0 < length array → IsAscending (rows_of array) → BelongThere array segments.now intent.now → rows.old ≡ segment_at array segment → HasLooked layout.now.format array segments.now intent.now frames.old look.old segment → HasLooked layout.now.format array segments.now intent.now frames.new look.new (segment + 1) }
     ensures journal { frames.new.journal ≡ frames.old.journal }
+    ensures turn { frames.new.turn ≡ frames.old.turn }
 {
     find_items(rows, intent, segments, segment, &mut look.found);
     if look.whole && has_edit(intent, segments, segment, &look.found) {
@@ -173,6 +175,7 @@ fn load_edits(
     ensures more { result ≡ true → LoadsMore layout.now.format segment (edited_by (own_items segment segments.now intent.now) rows.old) frames.old frames.new }
     ensures kept { result ≡ false → (frames.new ≡ frames.old) × (look.new ≡ look.old) }
     ensures journal { frames.new.journal ≡ frames.old.journal }
+    ensures turn { frames.new.turn ≡ frames.old.turn }
     ensures found { (look.new.found ≡ look.old.found) × (look.new.whole ≡ look.old.whole) }
 {
     let f = look.count;

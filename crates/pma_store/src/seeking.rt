@@ -52,11 +52,14 @@ impl Store {
 
 impl Seek for Metered {
     ghost use Rattle.pma_store.specs.Metered.{MeteredView};
+    ghost use Rattle.redo_journal.specs.Rest.{RestsAt};
     ghost use Rattle.pma_store.specs.Seeking.{StandsIdle, kept_region, unclosed};
 
     ghost closed = { λ m. m.store.closed };
 
     ghost stands = { λ m. StandsIdle m.store };
+
+    ghost rests = { λ m. RestsAt m.store.place.layout m.store.turn };
 
     ghost kept = { λ m. kept_region m.store };
 
