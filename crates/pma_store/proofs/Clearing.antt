@@ -10,7 +10,7 @@ use Rattle.resize_region.specs.Resized.{Settles}
 use Rattle.segment_frames.proofs.Alike.{alike_cleared}
 use Rattle.pma_store.specs.Readying.{KeepsMap}
 use Rattle.pma_store.specs.Store.{StoreView, StandsOn}
-use Rattle.pma_store.specs.Touching.{IsTouchedPlace, IsPlaceAfter}
+use Rattle.pma_store.specs.Touching.{IsClearPlace, IsTouchedPlace, IsPlaceAfter}
 use Rattle.pma_store.proofs.Making.{stands_again}
 use Rattle.pma_store.proofs.Resting.{each_rest, stands_like, turned}
 use Rattle.pma_store.proofs.Touching.{moves_touch, wider}
@@ -27,9 +27,9 @@ module _ {a b : View} (s : StoreView) (on : StandsOn s a) (ab : Steps (Settles s
         touched = moves_touch s d i stands (wider d i (λ k is. elim is [ inl journal ↦ inr (inl journal) | inr gate ↦ inl gate ]) step.clears.touched);
       })
 
-  -- and touches what a resize does
-  pub clear_touches : Steps (Touched (IsTouchedPlace true s.place)) a b
-  clear_touches = weaken ab (λ d i left step. wider d i (λ k is. elim is [ inl journal ↦ inr (inr journal) | inr gate ↦ inr (inl gate) ]) step.clears.touched)
+  -- and touches gate and journals alone
+  pub clear_touches : Steps (Touched (IsClearPlace s.place.layout)) a b
+  clear_touches = weaken ab (λ d i left step. wider d i (λ k is. elim is [ inl journal ↦ inr journal | inr gate ↦ inl gate ]) step.clears.touched)
 
   -- behind it the store stands for its file, with what it notes of the gate
   pub stands_cleared : (turn : ℕ) → Lawful b → RestsAt s.place.layout turn b → StandsOn (record s { turn = turn }) b
@@ -40,7 +40,7 @@ module _ {a b : View} (s : StoreView) (on : StandsOn s a) (ab : Steps (Settles s
       turned s turn b.held (stands_like s a.held b.held (alike_cleared s.place a.held b.held was.balanced.stands.settled (ab.held told).clears) was))) rests
 
 -- the place behind a resize that follows
-pub place_cleared : {a b c : View} (s w v : StoreView) → w.place ≡ s.place → Steps (Touched (IsTouchedPlace true s.place)) a b → IsPlaceAfter true w v b c → IsPlaceAfter true s v a c
+pub place_cleared : {a b c : View} (s w v : StoreView) → w.place ≡ s.place → Steps (Touched (IsClearPlace s.place.layout)) a b → IsPlaceAfter true w v b c → IsPlaceAfter true s v a c
 place_cleared {a} {b} {c} s w v same first after =
     let own : IsPlaceAfter true (record w { place = s.place }) v b c = subst (λ (p : Place). IsPlaceAfter true (record w { place = p }) v b c) same after in
-    record { place_is = own.place_is; inside = touched_on (IsTouchedPlace true s.place) (λ k is. is) (λ k is. is) first own.inside }
+    record { place_is = own.place_is; inside = touched_on (IsTouchedPlace true s.place) (λ k is. inr is) (λ k is. is) first own.inside }

@@ -22,7 +22,8 @@ use Rattle.batch_intent.proofs.Meanings.{update_keeps, means_idle, batch_means, 
 use Rattle.pma_store.specs.Meaning.{MeansNow, BecomesMeant}
 use Rattle.pma_store.specs.Store.{StoreView, StandsOn, IsOpenOn, limit_of}
 use Rattle.pma_store.specs.Touching.{Updates, IsUpdatePlace}
-use Rattle.pma_store.proofs.Resting.{covered_held, held_layout, alike_held, map_of_held}
+use Rattle.pma_store.specs.Readying.{KeepsMap}
+use Rattle.pma_store.proofs.Resting.{covered_held, held_layout, alike_held, map_held, map_of_held}
 use Rattle.pma_store.proofs.Steps.{own_of}
 use Rattle.pma_store.proofs.Touching.{moves_touch, wider}
 
@@ -80,6 +81,17 @@ still_idle hmax u ab idle = each_on (λ image. has_pending image ≡ false) (λ 
 -- an image without an intent means what it represents
 pub meant_idle : (image : List ℕ) (m : Map) → RepresentsMap image m → has_pending image ≡ false → MeansMap image m
 meant_idle image m is idle = (is.0, means_idle image m is.0 is.1 idle)
+
+-- what keeps the map of a file without an intent keeps what it means
+pub keeps_meant : {a b : View} (s : StoreView) → Lawful a → IsOpenOn s a → Steps KeepsMap a b → Steps (MeansNow (map_of a.held)) a b
+keeps_meant {a} {b} s law is ab = weaken ab (λ d i left step.
+    let keeps = update_keeps d i (ap (λ (l : Layout). l.format) step.layout_is) (wider d i (update_apart (layout_in d)) step.touched) in
+    meant_idle i (map_of a.held) (subst (RepresentsMap i) (map_held s law is.on d left) (step.map_is (map_of d) (own_of s d (is.on.stands d left)))) (keeps_idle d i keeps ∙ is.no_intent d left))
+
+-- so it has no intent behind it
+pub keeps_none : {a b : View} → Steps KeepsMap a b → EachHeld (λ image. has_pending image ≡ false) a → EachHeld (λ image. has_pending image ≡ false) b
+keeps_none ab idle = each_on (λ image. has_pending image ≡ false) (λ image. has_pending image ≡ false) ab idle (λ d i is step.
+    keeps_idle d i (update_keeps d i (ap (λ (l : Layout). l.format) step.layout_is) (wider d i (update_apart (layout_in d)) step.touched)) ∙ is)
 
 -- what a store's station may hold has one intent
 pub intent_held : {a : View} (s : StoreView) → Lawful a → StandsOn s a → (d : List ℕ) → MayHold a d → KeepsIntent a.held d

@@ -11,6 +11,7 @@ use Rattle.header_gate.specs.Header.{layout_in, live_copy}
 use Rattle.header_gate.specs.Recovered.{live_table, recovered, IsJournalSound}
 use Rattle.header_gate.proofs.Recoveries.{laid_paired}
 use Rattle.header_gate.proofs.Journals.{sound_alike}
+use Rattle.header_gate.specs.InPlace.{IsRecovered}
 use Rattle.header_gate.specs.Places.{height_limit, page_size, region_place}
 use Rattle.key_slot.specs.Record.{Record}
 use Rattle.map_model.specs.Array.{Array}
@@ -21,7 +22,7 @@ use Rattle.map_model.proofs.Recovering.{determined, kept}
 use Rattle.recovery.proofs.Resting.{IsOutsideAll, rests_apart}
 use Rattle.redo_journal.specs.declared.place.Place.{Place}
 use Rattle.redo_journal.specs.Rest.{RestsAt}
-use Rattle.redo_journal.proofs.Live.{rest_each, rest_live, rest_recovers}
+use Rattle.redo_journal.proofs.Live.{rest_each, rest_held, rest_live, rest_recovers}
 use Rattle.redistribute.specs.Rearranged.{IsMovePlace}
 use Rattle.segment_frames.specs.Standing.{IsSettledAt}
 use Rattle.segment_frames.proofs.Alike.{Alike, alike_rest, each_alike, stands_alike}
@@ -60,6 +61,10 @@ rewritten_like place at rows old new image was alike has =
       holds = λ next holds. subst (Represents image next) alike.height (has.holds next (own next holds));
       array_is = λ next holds. has.array_is next (own next holds) ∙ ap (λ (x : Array). slice_set x at rows) alike.array;
     }
+
+-- what is read of its regions is what its recovered image has there
+pub readable_held : {a : View} (s : StoreView) → StandsOn s a → Told a → IsRecovered s.place.layout a.held
+readable_held {a} s on = rest_held s.place.layout a on.rests.rest
 
 module _ {a : View} (s : StoreView) (law : Lawful a) (on : StandsOn s a) (d : List ℕ) (left : MayHold a d) where
   told_there : Told a

@@ -185,6 +185,7 @@ fn commit_frames<S: Station>(
     requires rests { RestsAt place.now.layout frames.old.turn (S.view station.old) }
     ensures committed { CommitsFrames place.now count result frames.old frames.new.turn (S.view station.old) (S.view station.new) }
     ensures frames { frames.new ≡ record frames.old { turn = frames.new.turn } }
+    ensures turn { OnOk result (frames.old.turn < 2 → frames.new.turn < 2) }
 {
     if count == 0 {
         return Ok(());

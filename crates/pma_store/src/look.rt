@@ -7,6 +7,7 @@ ghost use Rattle.station.specs.Bytes.{Same};
 ghost use Rattle.station.specs.View.{Told, Rose, after_read};
 ghost use Rattle.station.specs.Steps.{Steps};
 ghost use Rattle.batch_intent.specs.Spelling.{IsIntent, fits_item};
+ghost use Rattle.header_gate.specs.InPlace.{IsRecovered};
 ghost use Rattle.header_gate.specs.Places.{IsLayout, file_length, height_limit, segment_place, segment_size};
 ghost use Rattle.key_slot.specs.Record.{IsAscending, is_record};
 ghost use Rattle.map_model.specs.Array.{Array, segment_at, rows as rows_of};
@@ -79,6 +80,7 @@ pub(crate) fn look_over<S: Station>(
     requires journal { frames.old.journal ≡ place.now.layout.journal }
     requires tall { tally.now.height ≤ height_limit place.now.layout }
     requires stands { Told (S.view station.old) → StandsWith place.now.layout place.now.region tally.now.height tally.now.counts (S.view station.old).held }
+    requires readable { Told (S.view station.old) → IsRecovered place.now.layout (S.view station.old).held }
     requires intent { IsIntent intent.now }
     requires items { T (list_all (fits_item place.now.layout.format) intent.now) }
     requires segments { length segments.now ≡ length intent.now }
@@ -116,6 +118,7 @@ fn read_rows<S: Station>(
     requires segment { segment < 2 ^ tally.now.height }
     requires tall { tally.now.height ≤ height_limit place.now.layout }
     requires stands { Told (S.view station.old) → StandsWith place.now.layout place.now.region tally.now.height tally.now.counts (S.view station.old).held }
+    requires readable { Told (S.view station.old) → IsRecovered place.now.layout (S.view station.old).held }
     ensures rows { OnOk result (Told (S.view station.old) → rows.new ≡ segment_at (array_of (S.view station.old).held) segment) }
     ensures fits { OnOk result (T (list_all (is_record place.now.layout.format) rows.new)) }
     ensures steps { Steps Same (S.view station.old) (S.view station.new) }

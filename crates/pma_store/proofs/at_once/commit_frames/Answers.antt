@@ -1,8 +1,10 @@
-use Rattle.std.proofs.Common.{◌≡◌, ℕ, ◌*◌, List, [], refl, sym, ap, ◌∙◌, arith, inl, inr}
+use Rattle.std.proofs.Common.{◌≡◌, ℕ, ◌*◌, List, [], ◌<◌, refl, sym, ap, subst, ◌∙◌, arith, inl, inr}
 use Rattle.std.proofs.lemmas.List.{nil_from_length}
 use Rattle.station.proofs.Composition.{no_steps, weaken}
 use Rattle.header_gate.specs.Recovered.{is_laid, laid_over, live_table, recovered}
 use Rattle.redo_journal.specs.Commit.{frame_byte}
+use Rattle.std.proofs.lemmas.Result.{on_ok_weaker}
+use Rattle.redo_journal.proofs.Live.{next_small}
 use Rattle.pma_store.proofs.FittingLaws.{laid_nothing}
 use Rattle.pma_store.proofs.Touching.{untouched}
 use Rattle.pma_store.proofs.at_once.commit_frames.Goals as goal
@@ -53,3 +55,7 @@ commit-requires-clause-gate g c = c.requires.rests.gates
 
 pub commit-requires-clause-rest : goal.commit-requires-clause-rest
 commit-requires-clause-rest g c paired = c.requires.rests.rest
+
+pub returns-clause-turn : goal.returns-clause-turn
+returns-clause-turn g c =
+    on_ok_weaker c.commit.result (λ turn small. subst (λ (n : ℕ). n < 2) (sym turn) (next_small c.args.place.now.layout c.args.frames.now.turn)) c.commit.ensures.turn

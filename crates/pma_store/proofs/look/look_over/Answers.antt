@@ -1,9 +1,11 @@
-use Rattle.std.proofs.Common.{ℕ, ◌+◌, ◌^◌, ◌<◌, List, length, refl, ap, ◌∙◌, arith}
+use Rattle.std.proofs.Common.{ℕ, ◌+◌, ◌^◌, ◌<◌, List, length, refl, sym, ap, subst, ◌∙◌, arith}
 use Rattle.std.proofs.Math.Pow.{pow_mono}
 use Rattle.std.proofs.lemmas.Nat.{pow_pos}
 use Rattle.station.specs.declared.travel.Travel.{Travel}
-use Rattle.station.proofs.Composition.{no_steps, same_on, told_on}
+use Rattle.station.specs.View.{Told}
+use Rattle.station.proofs.Composition.{no_steps, same_on, told_back, told_on}
 use Rattle.header_gate.proofs.PagedSegments.{known_format}
+use Rattle.header_gate.specs.InPlace.{IsRecovered}
 use Rattle.header_gate.specs.Places.{height_limit}
 use Rattle.map_model.specs.Array.{segment_at}
 use Rattle.map_model.specs.Image.{array_of}
@@ -116,3 +118,9 @@ returns-clause-looks g c =
       damaged = tt;
       failed = no_fault tt;
     }
+
+pub read_rows-requires-clause-readable : goal.read_rows-requires-clause-readable
+read_rows-requires-clause-readable g c told =
+    let steps = c.loop-segment.invariant.steps in
+    let told_a : Told (g.S.Station.view c.args.station.now) = told_back steps.frame told in
+    subst (IsRecovered c.args.place.now.layout) (sym (steps.held told_a)) (c.requires.readable told_a)

@@ -1,4 +1,4 @@
-use Rattle.std.proofs.Common.{◌≡◌, ℕ, ◌^◌, true, ap, refl, sym, subst, ◌∙◌}
+use Rattle.std.proofs.Common.{◌≡◌, ℕ, ◌^◌, ap, refl, sym, subst, ◌∙◌}
 use Rattle.std.proofs.lemmas.Result.{IfErr-weaker, on_ok_weaker}
 use Rattle.station.specs.Bytes.{Touched}
 use Rattle.station.specs.View.{EachHeld}
@@ -11,7 +11,7 @@ use Rattle.pma_store.specs.Inside.{view_of}
 use Rattle.pma_store.specs.Looking.{TellsOther}
 use Rattle.pma_store.specs.Readying.{KeepsStore, clear_cost}
 use Rattle.pma_store.specs.Store.{StoreView, StandsOn, limit_of}
-use Rattle.pma_store.specs.Touching.{IsTouchedPlace}
+use Rattle.pma_store.specs.Touching.{IsClearPlace}
 use Rattle.pma_store.proofs.ClearCosts.{cleared_bytes, cleared_calls}
 use Rattle.pma_store.proofs.Clearing.{clear_keeps, clear_touches, stands_cleared}
 use Rattle.pma_store.proofs.ReadyStores.{kept_store}
@@ -64,10 +64,13 @@ returns-clause-kept g c =
 pub returns-clause-touched : goal.returns-clause-touched
 returns-clause-touched g c =
     let here = (goal.at.returns-clause-touched g c).After-clear_store in
-    subst (λ (s : StoreView). Steps (Touched (IsTouchedPlace true s.place)) (g.S.Station.view c.args.station.now) (g.S.Station.view c.clear_store.new.station)) c.self.view_is
+    subst (λ (s : StoreView). Steps (Touched (IsClearPlace s.place.layout)) (g.S.Station.view c.args.station.now) (g.S.Station.view c.clear_store.new.station)) c.self.view_is
     (clear_touches (view_of c.self.inside) (on g here) c.clear_store.ensures.steps)
 
 pub returns-clause-turned : goal.returns-clause-turned
 returns-clause-turned g c =
     let here = (goal.at.returns-clause-turned g c).After-clear_store in
     same g here ∙ ap (λ (s : StoreView). record s { turn = c.clear_store.new.frames.turn }) c.self.view_is
+
+pub returns-clause-untouched : goal.returns-clause-untouched
+returns-clause-untouched g c single = c.clear_store.ensures.untouched (λ paired. single (ap (λ (s : StoreView). s.place.layout.version) (sym c.self.view_is) ∙ paired))

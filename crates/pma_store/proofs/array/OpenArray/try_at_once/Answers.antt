@@ -23,6 +23,7 @@ use Rattle.pma_store.proofs.Batched.{judged_then, judging_fails}
 use Rattle.pma_store.proofs.ItemsApplied.{tall_of}
 use Rattle.pma_store.proofs.Committed.{IsReadyAtOnce, judges, looks_fail}
 use Rattle.pma_store.proofs.Making.{opens_on, stands_there}
+use Rattle.pma_store.proofs.Resting.{readable_held}
 use Rattle.pma_store.proofs.Standing.{rows_ascend}
 use Rattle.pma_store.proofs.array.OpenArray.try_at_once.Goals as goal
 use Rattle.pma_store.proofs.array.OpenArray.try_at_once.Goals.{in-Ok-commit_edits, in-Err-commit_edits, After-find_segments, After-look_over}
@@ -167,3 +168,6 @@ returns g c =
           (judged_then items (Err Failed) s (record s { turn = turn }) is law steps c.look_over.ensures.looks.unwritten looks (calls commits.frames.calls) tt
           (not_committed items s numbers frames look judged changes ready law_b version judged_is c.in-Some.ensures.total _ looked.0 few turn commits.frames)))
     ])
+
+pub look_over-requires-clause-readable : goal.look_over-requires-clause-readable
+look_over-requires-clause-readable g c = readable_held (view_of c.self.inside) (opened g (goal.at.look_over-requires-clause-readable g c).After-find_segments).on
