@@ -187,19 +187,19 @@ stays_on fixed calls ab bc = record {
 pub stays_said : {a b d : View} {R : List ℕ → List ℕ → Type 0} {text : List ℕ} → Steps R a b → ((d i : List ℕ) → R d i → KeepsGate d i) → Says text b d → StaysShut a d
 stays_said steps keeps says = stays_on steps.frame.fixed steps.frame.calls (stays_steps steps keeps) (shut_says says)
 
--- a look, where nothing is pending
-pub stays_look : {a b : View} → Lawful a → Lawful b → NothingPending a → Looks a b → StaysShut a b
-stays_look {a} {b} law law_b nothing looks = record {
+-- a look
+pub stays_look : {a b : View} → Lawful a → Lawful b → Looks a b → StaysShut a b
+stays_look {a} {b} law law_b looks = record {
   after = λ shut image may. elim may [
     | inl told ↦ let told_a : Told a = ap (λ (f : Fixed). f.tells_held) (sym looks.run.fixed) ∙ told.0 in subst IsShut (sym (told.1 ∙ looks.held told_a)) (shut a.held (inl (told_a, refl)))
     | inr honest ↦
         let honest_a : Honest a = ap (λ (f : Fixed). f.honest) (sym looks.run.fixed) ∙ honest.0 in
         elim (looks.run.moments.each honest_a a.calls image b.said (omega arith) (law_b.now honest.0 a.calls image looks.run.calls honest.1)) [
           | inl past ↦ shut image (inr (honest_a, (law.present honest_a image b.said past).0))
-          | inr same ↦ subst IsShut (sym same) (shut a.held (inr (honest_a, law.held honest_a)))
+          | inr may_leave ↦ shut image (inr (honest_a, may_leave))
         ]
   ];
-  moments = λ shut. leaves_in (λ image said. IsShut image) looks.run.moments (λ honest image said same. subst IsShut (sym same) (shut a.held (inr (honest, law.held honest))));
+  moments = λ shut. leaves_in (λ image said. IsShut image) looks.run.moments (λ honest image said may_leave. shut image (inr (honest, may_leave)));
 }
 
 -- Clean files.

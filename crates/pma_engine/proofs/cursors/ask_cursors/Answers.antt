@@ -10,7 +10,7 @@ returns-in-Open g c =
     let m = c.args.store.now in
     let a = g.S.Station.view c.args.station.now in
     subst (λ (q : Command). Executes q (Ok (Some c.open_cursor.result)) (with_cursors m c.args.cursors.now) (with_cursors m c.open_cursor.new.cursors) a a) (sym c.in-Open.is)
-    (opened m c.args.cursors.now c.open_cursor.new.cursors c.in-Open.name c.open_cursor.result a c.requires.open c.in-Open.low c.in-Open.high c.open_cursor.ensures.line c.open_cursor.ensures.after)
+    (opened m c.args.cursors.now c.open_cursor.new.cursors c.in-Open.name c.open_cursor.result a (g.met.S.Station.lawful c.args.station.now) c.requires.open c.in-Open.low c.in-Open.high c.open_cursor.ensures.line c.open_cursor.ensures.after)
 
 pub returns-in-Next : goal.returns-in-Next
 returns-in-Next g c =
@@ -21,4 +21,4 @@ returns-in-Close g c =
     let m = c.args.store.now in
     let a = g.S.Station.view c.args.station.now in
     subst (λ (q : Command). Executes q (Ok (Some c.close_cursor.result)) (with_cursors m c.args.cursors.now) (with_cursors m c.close_cursor.new.cursors) a a) (sym c.in-Close.is)
-    (closed m c.args.cursors.now c.close_cursor.new.cursors c.in-Close.name c.close_cursor.result a c.requires.open c.close_cursor.ensures.line c.close_cursor.ensures.after)
+    (closed m c.args.cursors.now c.close_cursor.new.cursors c.in-Close.name c.close_cursor.result a (g.met.S.Station.lawful c.args.station.now) c.requires.open c.close_cursor.ensures.line c.close_cursor.ensures.after)
