@@ -9,10 +9,12 @@ use Rattle.density_rule.specs.Marks.{no_marks}
 use Rattle.header_gate.specs.declared.layout.Layout.{Layout}
 use Rattle.header_gate.specs.declared.layout.TheConstants.{INTENT_VERSION}
 use Rattle.header_gate.specs.declared.reason.Reason.TheVariants.{Length}
+use Rattle.header_gate.specs.InPlace.{IsBare}
 use Rattle.header_gate.specs.Header.{number, gate, intent_gate, live_copy, layout_in, height_in, format_in, segment_in}
 use Rattle.header_gate.specs.Places.{page_size, table_place, image_place, region_place, segment_place, segment_size, copy_place, height_limit, pages_at}
 use Rattle.header_gate.specs.Reasons.{copy_reason, header_reason, identity_reason, or_else}
 use Rattle.header_gate.specs.Recovered.{is_journal, journal_reason, laid_byte, recovered, recovered_byte, table_numbers, table_reason}
+use Rattle.header_gate.proofs.Journals.{bare_still}
 use Rattle.header_gate.proofs.NumberLaws.{number_same}
 use Rattle.header_gate.proofs.Recoveries.{table_same}
 use Rattle.header_gate.proofs.RecoveredBytes.{byte-recovered, length-recovered}
@@ -176,10 +178,14 @@ module _ (old new : List ℕ) (touched : Touched IsCleanPlace old new) where
   pub cost_same : opening_cost (layout_in new) + pending_cost new ≡ opening_cost (layout_in old) + pending_cost old
   cost_same t = opening_cost (layout_same t) + cond (has_same t) (updates_cost (layout_same t) (first_same t) (pending_same t) + 1 + most_of_one (layout_same t) (Batch (pending_same t))) 0
 
+  -- no page is to be laid over the live region
+  pub bare_same : IsBare (layout_in old) old → IsBare (layout_in new) new
+  bare_same bare = subst (λ (l : Layout). IsBare l new) (sym layout_same) (bare_still (layout_in old) old new (same 512 (λ at. omega (arith, at))) (λ k low high. same k (λ at. omega (arith, at, low))) bare)
+
   pub rests : IsAllAtRest old → IsAllAtRest new
   rests rest = record {
     rest = record {
-      gate_even = gate_same ∙ rest.rest.gate_even;
+      bare = bare_same rest.rest.bare;
       balanced = λ is. subst (λ (x : ℕ × Array). IsBalancedArray x.0 x.1) (λ t. (sym height_same t, sym array_same t)) (rest.rest.balanced (height_of old, represents_of_none old (sym reason_same ∙ none_of_represents new (map_of new) is.0 is.1)));
     };
     no_intent = has_same ∙ rest.no_intent;

@@ -5,7 +5,7 @@ use Rattle.std.proofs.lemmas.Bool.Decides.{nat_tests}
 use Rattle.station.specs.Bytes.{byte, Same, Touched}
 use Rattle.station.specs.View.{View, Fixed, Told, Honest, EachHeld, NothingPending, Lawful}
 use Rattle.station.specs.Steps.{Steps, Says}
-use Rattle.station.proofs.Composition.{same_on, on_same, told_on, weaken}
+use Rattle.station.proofs.Composition.{same_on, on_same, told_of, told_on, weaken}
 use Rattle.station.proofs.Sayings.{each_says, leaves_in, leaves_on}
 use Rattle.header_gate.specs.declared.layout.Layout.{Layout}
 use Rattle.header_gate.specs.declared.layout.TheConstants.{INDEXED}
@@ -16,7 +16,10 @@ use Rattle.map_model.specs.Regions.{IsSparePlace}
 use Rattle.map_model.specs.Store.{Update}
 use Rattle.pma_store.specs.Batching.{IsBatchPlace}
 use Rattle.pma_store.specs.Items.{IsItemPlace}
+use Rattle.pma_store.specs.Store.{StoreView, IsOpenOn}
 use Rattle.pma_store.specs.Touching.{IsUpdatePlace, Updates}
+use Rattle.pma_store.proofs.Resting.{covered_held}
+use Rattle.pma_store.proofs.Touching.{moves_touch}
 use Rattle.recovery.specs.Restores.{LeavesFile}
 use Rattle.index_file.specs.Clean.{IsClean, IsOpenIndex, IsShut, KeepsClean, version_of}
 use Rattle.index_file.proofs.CleanLaws.{clean_shut}
@@ -131,6 +134,14 @@ item_gate l old new touched = keeps_gate old new apart touched
     apart k at (inl is) = not_updated l k at is
     apart k (inl at) (inr is) = omega (arith, is, at)
     apart k (inr at) (inr is) = omega (arith, is, at.0)
+
+-- So the index means nothing in each image that an open store's station may hold, if it means nothing in the held bytes.
+pub shut_held : {b : View} (s : StoreView) → Lawful b → IsOpenOn s b → (Told b → IsShut b.held) → EachHeld IsShut b
+shut_held {b} s law here shut d left =
+    let told = told_of law d left in
+    let stands = here.on.stands b.held (inl (told, refl)) in
+    let same = keeps_gate b.held d (not_updated (layout_in b.held)) (moves_touch s b.held d stands (covered_held s law here.on d left)) in
+    shut_stays b.held d (shut told) same.0 same.1
 
 -- of batches
 pub batch_gate : (l : Layout) (old new : List ℕ) → Touched (IsBatchPlace l) old new → KeepsGate old new

@@ -180,7 +180,7 @@ module _ (a b : View) (law : Lawful a) (ab : Steps Reopens (attached_by false a)
     comes_unopened opening.Failed unopened silent says line = subst (Comes DISK_FAULT a) (sym (silent refl)) (quiet_file opening.Failed unopened DISK_FAULT (inl refl) (λ e. refl) (λ e. absurd (omega (arith, e))))
     comes_unopened (opening.NotStore reason) unopened silent says line =
         refused_file (opening.NotStore reason) unopened (not_store_refused a b ab d reason unopened says (line (reply.NotStore reason) refl)) says
-        (λ told rest. unopened.even reason refl told rest.rest.gate_even) (no_map a b ab d reason unopened)
+        (λ told rest. unopened.bare reason refl told rest.rest.bare) (no_map a b ab d reason unopened)
     comes_unopened (opening.Damaged segment why) unopened silent says line =
         refused_file (opening.Damaged segment why) unopened (damaged_refused a b ab d segment why unopened (line (reply.Damaged segment why) refl)) says
         (λ told. absurd (unopened.undamaged told)) (λ told. absurd (unopened.undamaged told))
@@ -244,7 +244,7 @@ module _ (a b : View) (law : Lawful a) (ab : Steps Reopens (attached_by false a)
           line = λ told. last_since (dumps.line e (on_said told));
           reason = λ told. absurd (dumps.undamaged e (on told));
           recovers = λ told. absurd (dumps.undamaged e (on told));
-          even = λ told. absurd (dumps.undamaged e (on told));
+          bare = λ told. absurd (dumps.undamaged e (on told));
         };
         memory = λ e. absurd (elim dumps.status_is [ inl x ↦ omega (arith, e, x) | inr (inl x) ↦ omega (arith, e, x) | inr (inr (inl x)) ↦ omega (arith, e, x) | inr (inr (inr x)) ↦ omega (arith, e, x) ]);
         settled = dumps.settled;

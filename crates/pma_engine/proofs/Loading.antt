@@ -400,8 +400,8 @@ module _ (most : ℕ) (s : SourceView) (a b : View) (law : Lawful a) (ab : Steps
         line = λ told. (reply.NotStore reason, tt, from told);
         why = λ told. (reply.NotStore reason, inl (reason, unopened.refused reason refl told, refl), from);
         recovers = λ told r is. subst (λ (x : List ℕ). IsButClosed a.held (recovered (layout_in a.held) a.held) (recovered (layout_in a.held) x)) (sym says.held) (unopened.recovers reason refl told);
-        even = λ told r is even. subst (IsButClosed a.held a.held) (sym says.held) (unopened.even reason refl told even);
-        kept = λ told rest some. (subst (IsButClosed a.held a.held) (sym says.held) (unopened.even reason refl told rest.rest.gate_even), subst (WritesGate a.held a.travel.written) (sym (ap (λ (t : Travel). t.written) says.travel)) (unopened.unwritten told rest));
+        bare = λ told r is bare. subst (IsButClosed a.held a.held) (sym says.held) (unopened.bare reason refl told bare);
+        kept = λ told rest some. (subst (IsButClosed a.held a.held) (sym says.held) (unopened.bare reason refl told rest.rest.bare), subst (WritesGate a.held a.travel.written) (sym (ap (λ (t : Travel). t.written) says.travel)) (unopened.unwritten told rest));
       }) says (no_map a b ab d reason unopened)
     where
       from : SaidTold a → SaysLine (reply.NotStore reason) a.said a d
@@ -411,7 +411,7 @@ module _ (most : ℕ) (s : SourceView) (a b : View) (law : Lawful a) (ab : Steps
         line = λ told. (reply.Damaged segment why, tt, from told);
         why = λ told. absurd (unopened.undamaged told);
         recovers = λ told. absurd (unopened.undamaged told);
-        even = λ told. absurd (unopened.undamaged told);
+        bare = λ told. absurd (unopened.undamaged told);
         kept = λ told. absurd (unopened.undamaged told);
       }) says (λ told. absurd (unopened.undamaged told))
     where
@@ -474,7 +474,7 @@ module _ (most : ℕ) (s0 s1 : SourceView) (a b : View) (law : Lawful a) (ab : S
           let last = loads.why e (on told) in
           (last.0, inr (opened.sound told, subst (λ (x : Type 0). x) (same_answer told last.0) last.1), (λ said. since last.0 (last.2 (on_said said))));
       recovers = λ told r is. absurd (none_some (sym (opened.sound told) ∙ is));
-      even = λ told r is. absurd (none_some (sym (opened.sound told) ∙ is));
+      bare = λ told r is. absurd (none_some (sym (opened.sound told) ∙ is));
       kept = λ told rest some.
           let same = loads.left (omega (arith, some, same_records told)) in
           (subst (IsButClosed a.held a.held) (sym same.0) (opened.kept told rest), subst (WritesGate a.held a.travel.written) (sym same.1) (opened.unwritten told rest));

@@ -2,11 +2,12 @@
 use Rattle.std.proofs.Common.{◌≡◌, ◌∷◌, [], ◌∙◌, true, false, Bool, is_some, Option, Some, None, Result, Ok, Err, refl, sym, ap, subst, arith}
 use Rattle.std.specs.FinMap.{contains_key, get, remove}
 use Rattle.station.specs.Bytes.{Same}
-use Rattle.station.specs.View.{View, Told, EachHeld, NothingPending, Rose}
+use Rattle.station.specs.View.{View, Lawful, Told, EachHeld, Rose}
 use Rattle.station.specs.Steps.{Steps}
 use Rattle.station.specs.declared.travel.Travel.{Travel}
 use Rattle.key_slot.specs.Record.{Bytes, Record}
 use Rattle.key_slot.specs.Row.{record_of}
+use Rattle.redo_journal.specs.Rest.{RestsAt}
 use Rattle.map_model.specs.Cursors.{Cursor, Cursors, after_next, after_open, next_in}
 use Rattle.map_model.specs.Image.{map_of}
 use Rattle.segment.specs.declared.fault.StoreFault.{StoreFault}
@@ -50,7 +51,7 @@ asks_one_line (command.Bad why) asks = absurd asks
 
 -- Openings and closings ask the station for nothing.
 
-module _ (m : MeteredView) (k q : Cursors) (name : Bytes) (r : Reply) (a : View) (here : IsOpenOn m.store a) where
+module _ (m : MeteredView) (k q : Cursors) (name : Bytes) (r : Reply) (a : View) (law : Lawful a) (here : IsOpenOn m.store a) where
   pub opened : (low high : Option Bytes) → r ≡ open_line k name → q ≡ after_open k name low high → Executes (command.Open name low high) (Ok (Some r)) (with_cursors m k) (with_cursors m q) a a
   opened low high line after =
       nothing_asked (command.Open name low high) (Some r) (with_cursors m k) (with_cursors m q) a law here (idle_open name low high) refl refl (λ told. ap (λ (x : Reply). x ∷ []) line) refl tt (λ told. after) after refl

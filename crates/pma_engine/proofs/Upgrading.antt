@@ -328,9 +328,9 @@ module _ (a b : View) (law : Lawful a) (ab : Steps Reopens (attached_by false a)
           line = λ told. (reply.NotStore reason, tt, from told);
           why = λ told. (reply.NotStore reason, inl (reason, unopened.refused reason refl told, refl), from);
           recovers = λ told r is. subst (λ (x : List ℕ). IsButClosed a.held (recovered (layout_in a.held) a.held) (recovered (layout_in a.held) x)) (sym says.held) (unopened.recovers reason refl told);
-          even = λ told r is even. subst (IsButClosed a.held a.held) (sym says.held) (unopened.even reason refl told even);
+          bare = λ told r is bare. subst (IsButClosed a.held a.held) (sym says.held) (unopened.bare reason refl told bare);
           copy = λ told none. ap live_copy says.held ∙ (ab.held told).copy none;
-          kept = λ told rest. (subst (IsButClosed a.held a.held) (sym says.held) (unopened.even reason refl told rest.rest.gate_even), subst (WritesGate a.held a.travel.written) (sym (ap (λ (t : Travel). t.written) says.travel)) (unopened.unwritten told rest));
+          kept = λ told rest. (subst (IsButClosed a.held a.held) (sym says.held) (unopened.bare reason refl told rest.rest.bare), subst (WritesGate a.held a.travel.written) (sym (ap (λ (t : Travel). t.written) says.travel)) (unopened.unwritten told rest));
         }) says unopened.cost (λ told m here. none_some (sym (none_of_means a.held m here.0 here.1) ∙ unopened.refused reason refl told))
       where
         none_some : {r : Reason} → None ≡ Some r → ⊥
@@ -343,7 +343,7 @@ module _ (a b : View) (law : Lawful a) (ab : Steps Reopens (attached_by false a)
           line = λ told. (reply.Damaged segment why, tt, from told);
           why = λ told. absurd (unopened.undamaged told);
           recovers = λ told. absurd (unopened.undamaged told);
-          even = λ told. absurd (unopened.undamaged told);
+          bare = λ told. absurd (unopened.undamaged told);
           copy = λ told. absurd (unopened.undamaged told);
           kept = λ told. absurd (unopened.undamaged told);
         }) says unopened.cost (λ told. absurd (unopened.undamaged told))
@@ -401,7 +401,7 @@ module _ (a b : View) (law : Lawful a) (ab : Steps Reopens (attached_by false a)
             let last = upgrades.why e (on told) in
             (last.0, inr (opened.sound told, answer_before told (live_copy d.held) last.0 last.1), (λ said. said_since a b d last.0 ab.frame.said (sym ab.frame.say_faults) (last.2 (ap (λ f. f.tells_said) ab.frame.fixed ∙ said))));
         recovers = λ told r is. absurd (none_some (sym (opened.sound told) ∙ is));
-        even = λ told r is. absurd (none_some (sym (opened.sound told) ∙ is));
+        bare = λ told r is. absurd (none_some (sym (opened.sound told) ∙ is));
         copy = λ told none. ap live_copy (upgrades.kept e (on told)).0 ∙ (ab.held told).copy none;
         kept = λ told rest. let kept = upgrades.kept e (on told) in (subst (IsButClosed a.held a.held) (sym kept.0) (opened.kept told rest), subst (WritesGate a.held a.travel.written) (sym kept.1) (opened.unwritten told rest));
       }

@@ -5,6 +5,7 @@ use Rattle.station.specs.View.{View, Told, SaidTold, EachHeld, NothingPending, R
 use Rattle.station.specs.Steps.{Run}
 use Rattle.line_source.specs.Lines.{raw_lines}
 use Rattle.line_source.specs.SourceView.{SourceView, SourceTold, SourceRose}
+use Rattle.header_gate.specs.InPlace.{IsBare}
 use Rattle.header_gate.specs.Header.{gate, layout_in}
 use Rattle.header_gate.specs.Places.{segment_size}
 use Rattle.header_gate.specs.Recovered.{recovered}
@@ -117,13 +118,13 @@ IsLoadRefusal old s0 s1 line = ((r : Reason) × (opening_reason old ≡ Some r) 
     ⊎ ((opening_reason old ≡ None) × IsLoadAnswer old s0 s1 line)
 
 -- A load was refused, and one line says so. Over a station that tells its bytes it tells the reason or the answer; a file that is
--- no store recovers to what it recovered to, and where its gate is even, it is as before; and where a store has records, and an
+-- no store recovers to what it recovered to, and where no page is to be laid over its live region, it is as before; and where a store has records, and an
 -- opening had nothing to do, every byte is as it was, but that the index may be closed.
 pub record IsLoadRefused (s0 s1 : SourceView) (a b : View) : Type 0 where
   pub line : SaidTold a → (line : Reply) × IsRefusal line × SaysLine line a.said a b
   pub why : Told a → (line : Reply) × IsLoadRefusal a.held s0 s1 line × (SaidTold a → SaysLine line a.said a b)
   pub recovers : Told a → (r : Reason) → opening_reason a.held ≡ Some r → IsButClosed a.held (recovered (layout_in a.held) a.held) (recovered (layout_in a.held) b.held)
-  pub even : Told a → (r : Reason) → opening_reason a.held ≡ Some r → gate a.held ≡ 0 → IsButClosed a.held a.held b.held
+  pub bare : Told a → (r : Reason) → opening_reason a.held ≡ Some r → IsBare (layout_in a.held) a.held → IsButClosed a.held a.held b.held
   pub kept : Told a → IsAllAtRest a.held → 0 < len (meant_map a.held) → IsButClosed a.held a.held b.held × WritesGate a.held a.travel.written b.travel.written
 
 -- at most so many bytes are written by a load behind the opening, into a file of this layout that then has this height

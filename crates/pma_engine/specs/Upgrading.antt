@@ -4,6 +4,7 @@ use Rattle.std.specs.FinMap.{len}
 use Rattle.station.specs.View.{View, Told, SaidTold, NothingPending, Rose, attached_by}
 use Rattle.station.specs.Steps.{Run}
 use Rattle.density_rule.specs.Bounds.{upper_of}
+use Rattle.header_gate.specs.InPlace.{IsBare}
 use Rattle.header_gate.specs.Header.{gate, live_copy, layout_in}
 use Rattle.header_gate.specs.Places.{segment_size}
 use Rattle.header_gate.specs.Recovered.{recovered}
@@ -89,13 +90,13 @@ pub record IsUpgraded (old new : List ℕ) : Type 0 where
   pub array : array_of new ≡ resized (opened_items_state old).array (next_height old)
 
 -- An upgrade was refused, and one line says so. Over a station that tells its bytes it tells the reason or the answer; a file
--- that is no store recovers to what it recovered to, and where its gate is even, it is as before; and where an opening had
+-- that is no store recovers to what it recovered to, and where no page is to be laid over its live region, it is as before; and where an opening had
 -- nothing to do, every byte is as it was, but that the index may be closed. The copy that is live is the one that was, where no items are to be applied.
 pub record IsUpgradeRefused (a b : View) : Type 0 where
   pub line : SaidTold a → (line : Reply) × IsRefusal line × SaysLine line a.said a b
   pub why : Told a → (line : Reply) × IsUpgradeRefusal a.held b.held line × (SaidTold a → SaysLine line a.said a b)
   pub recovers : Told a → (r : Reason) → opening_reason a.held ≡ Some r → IsButClosed a.held (recovered (layout_in a.held) a.held) (recovered (layout_in a.held) b.held)
-  pub even : Told a → (r : Reason) → opening_reason a.held ≡ Some r → gate a.held ≡ 0 → IsButClosed a.held a.held b.held
+  pub bare : Told a → (r : Reason) → opening_reason a.held ≡ Some r → IsBare (layout_in a.held) a.held → IsButClosed a.held a.held b.held
   pub copy : Told a → has_pending a.held ≡ false → live_copy b.held ≡ live_copy a.held
   pub kept : Told a → IsAllAtRest a.held → IsButClosed a.held a.held b.held × WritesGate a.held a.travel.written b.travel.written
 

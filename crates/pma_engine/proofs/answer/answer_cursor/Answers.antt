@@ -20,11 +20,11 @@ returns-in-Ok-say_line g c =
     let m = with_cursors c.args.store.now c.args.cursors.now in
     let n = with_cursors c.ask_cursors.new.store c.ask_cursors.new.cursors in
     answers_said c.args.command.now (asks_one_line c.args.command.now c.requires.asks) m n (g.S.Station.view c.args.station.now) (g.S.Station.view c.ask_cursors.new.station) (g.met.S.Station.lawful c.args.station.now) (g.met.S.Station.lawful c.ask_cursors.new.station)
-    c.in-Ok.reply (g.S.Station.view c.say_line.new.station) c.in-Ok.ensures c.say_line.ensures.says c.say_line.ensures.calls c.say_line.ensures.short tt c.in-Ok-say_line.ensures.all
+    c.in-Ok.reply (g.S.Station.view c.say_line.new.station) (g.met.S.Station.lawful c.say_line.new.station) c.in-Ok.ensures c.say_line.ensures.says c.say_line.ensures.calls c.say_line.ensures.short tt c.in-Ok-say_line.ensures.all
 
 pub returns-in-Err-say_line : goal.returns-in-Err-say_line
 returns-in-Err-say_line g c =
     let m = with_cursors c.args.store.now c.args.cursors.now in
     let n = with_cursors c.ask_cursors.new.store c.ask_cursors.new.cursors in
     answers_cut c.args.command.now (asks_one_line c.args.command.now c.requires.asks) m n (g.S.Station.view c.args.station.now) (g.S.Station.view c.ask_cursors.new.station) (g.met.S.Station.lawful c.args.station.now) (g.met.S.Station.lawful c.ask_cursors.new.station)
-    c.in-Ok.reply (g.S.Station.view c.say_line.new.station) c.in-Ok.ensures c.say_line.ensures.says c.say_line.ensures.calls c.say_line.ensures.short (Unit {0}) c.in-Err-say_line.ensures.cause
+    c.in-Ok.reply (g.S.Station.view c.say_line.new.station) (g.met.S.Station.lawful c.say_line.new.station) c.in-Ok.ensures c.say_line.ensures.says c.say_line.ensures.calls c.say_line.ensures.short (Unit {0}) c.in-Err-say_line.ensures.cause
