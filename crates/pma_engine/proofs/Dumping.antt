@@ -39,7 +39,8 @@ use Rattle.pma_engine.proofs.Closing.{but_of}
 use Rattle.pma_engine.proofs.Ending.{run_damaged, last_line, on_done, of_disk, of_reply, no_line}
 use Rattle.pma_engine.proofs.Meant.{opened_map}
 use Rattle.pma_engine.proofs.OutcomeLaws.{damaged_refused, no_map, not_store_refused}
-use Rattle.pma_engine.proofs.RangeAnswers.{nothing_front}
+use Rattle.pma_engine.proofs.RangeAnswers.{left_front}
+use Rattle.pma_engine.proofs.StoreLaws.{left_says}
 use Rattle.pma_engine.proofs.Upgrading.{keeps_opened, unopened_run}
 
 -- The dump of an open store.
@@ -51,14 +52,15 @@ module _ (s t : SweepView) (a b : View) (law : Lawful a) (law_b : Lawful b) (not
   module _ (r : Result (Unit {0}) ServeFault) (says : SaysSweep r s t a b) where
     looks : Looks a b
     looks = record {
-      run = run_in (λ image said. image ≡ a.held) says.front.run (λ honest image said is. is.image_is);
+      run = run_in (λ image said. a.may_leave image) says.front.run (λ honest image said is. is.is_left);
       held = says.front.held;
+      left = left_front law law_b says.front;
       unwritten = ap (λ (x : Travel). x.written) says.walks ∙ walk_written s.reader.layout s.reader.region s.reader.next t.reader.next a.travel;
     }
 
     settled : NothingPending b
     settled honest image left =
-        nothing_front law law_b nothing says.front honest image left ∙ sym (says.front.held (law.tells (ap (λ f. f.honest) (sym says.front.run.fixed) ∙ honest)).0)
+        nothing (ap (λ f. f.honest) (sym says.front.run.fixed) ∙ honest) image (left_front law law_b says.front honest image left) ∙ sym (says.front.held (law.tells (ap (λ f. f.honest) (sym says.front.run.fixed) ∙ honest)).0)
 
     front_said : Told a → SaidTold a → SaidFront (dump_text (map_of a.held)) a.said b.said
     front_said told said_told =
@@ -92,8 +94,9 @@ module _ (s t : SweepView) (a b : View) (law : Lawful a) (law_b : Lawful b) (not
       record {
         status_is = inr (inl refl);
         looks = record {
-          run = run_damaged (λ image said. image ≡ a.held) law here.run last says.told;
+          run = run_damaged (λ image said. a.may_leave image) law here.run last says.told;
           held = λ told. absurd (says.told told);
+          left = λ honest image left. here.left (ap (λ f. f.honest) (sym last.fixed) ∙ honest) image (left_says last honest image left);
           unwritten = ap (λ (x : Travel). x.written) last.travel ∙ here.unwritten;
         };
         done = λ e. absurd (omega (arith, e));

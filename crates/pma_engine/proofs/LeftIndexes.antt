@@ -12,7 +12,8 @@ use Rattle.line_source.specs.Lines.{raw_lines}
 use Rattle.line_source.specs.SourceView.{SourceView, SourceTold}
 use Rattle.header_gate.specs.declared.layout.Layout.{Layout}
 use Rattle.header_gate.specs.declared.layout.TheConstants.{INDEXED, INTENT_VERSION}
-use Rattle.header_gate.specs.Header.{gate, layout_in}
+use Rattle.header_gate.specs.Header.{layout_in}
+use Rattle.header_gate.specs.InPlace.{IsBare}
 use Rattle.map_model.specs.ArrayState.{ArrayState}
 use Rattle.map_model.specs.Image.{Represents, array_in}
 use Rattle.map_model.specs.Store.{Map}
@@ -36,6 +37,7 @@ use Rattle.pma_engine.specs.Session.{Headline, replies_after}
 use Rattle.pma_engine.specs.declared.status.TheConstants.{DONE, REFUSED, DISK_FAULT, SCRIPT_FAULT, REPLY_FAULT, OUT_OF_MEMORY, TOO_LONG}
 use Rattle.index_file.specs.Reading.{area_calls}
 use Rattle.pma_engine.proofs.Closing.{keeps_staying, leaving_called, leaving_some}
+use Rattle.pma_engine.proofs.StoreLaws.{bare_yet, nothing_yet}
 use Rattle.pma_engine.proofs.Upgrading.{unpending}
 
 -- The leaving itself.
@@ -46,7 +48,7 @@ leaves_none s a open_yet shut other = record {
   status_is = inl refl;
   steps = weaken (no_steps a) (λ d i may same. subst (Leaves s.place.layout d) (sym same) (record { touched = record { size = refl; rest = λ k out. refl }; clean = clean_shut d (shut d may) }));
   left = λ e told is. absurd (other is);
-  settled = λ e. open_yet.on.settled;
+  settled = λ e. nothing_yet s open_yet.on;
   cost = omega arith;
   unread = refl;
   calls = omega arith;
@@ -85,17 +87,17 @@ module _ (s : StoreView) (old new : List ℕ) (stands : Stands s old) (idle : ha
     layout_is : layout_in old ≡ s.place.layout
     layout_is = stands.balanced.stands.settled.layout_is
 
-    even : gate old ≡ 0
-    even = stands.balanced.stands.settled.gate_even
+    bare : IsBare (layout_in old) old
+    bare = subst (λ (l : Layout). IsBare l old) (sym layout_is) (bare_yet s old stands)
 
     represents : Represents new m height
-    represents = kept.still_represents s.place.layout old new m height is even layout_is leaves.touched
+    represents = kept.still_represents s.place.layout old new m height is bare layout_is leaves.touched
 
     array_same : array_in new height ≡ array_in old height
-    array_same = kept.array_same s.place.layout old new m height is even layout_is leaves.touched
+    array_same = kept.array_same s.place.layout old new m height is bare layout_is leaves.touched
 
     still_idle : has_pending new ≡ false
-    still_idle = (λ t. nat_le INTENT_VERSION ((kept.layout_same s.place.layout old new m height is even layout_is leaves.touched t).version) && (kept.intent_same s.place.layout old new m height is even layout_is leaves.touched t == 1)) ∙ idle
+    still_idle = (λ t. nat_le INTENT_VERSION ((kept.layout_same s.place.layout old new m height is bare layout_is leaves.touched t).version) && (kept.intent_same s.place.layout old new m height is bare layout_is leaves.touched t == 1)) ∙ idle
 
   -- the map that it means
   map_left : (m : Map) → MeansMap old m → MeansMap new m
@@ -138,7 +140,7 @@ module _ (most : ℕ) (l : Layout) (x now : Session) (t : StoreView) (s0 s1 : So
   run_left : Run (ScriptPair l x a (fresh_reader most) s0) a c
   run_left = run_on (ScriptPair l x a (fresh_reader most) s0) serves.run (run_of_steps (ScriptPair l x a (fresh_reader most) s0) leaves.steps (λ honest start image may step.
       let tells = law.tells (ap (λ (f : Fixed). f.honest) (sym serves.run.fixed) ∙ honest) in
-      pair_left image tells.0 tells.1 (subst (λ (d : List ℕ). Leaves t.place.layout d image) (open_yet.on.settled honest start may) step)))
+      pair_left image tells.0 tells.1 (subst (λ (d : List ℕ). Leaves t.place.layout d image) (nothing_yet t open_yet.on honest start may) step)))
       (λ honest image said pair. pair) (λ honest image said pair. pair)
 
   after : SourceTold s0 → Told a → leaving_cost t.place.layout t.tally.height ≡ leaving_cost l (session_after l x (commands_of l.format s0.left)).store.height
@@ -215,7 +217,7 @@ pub runs_left : (most : ℕ) (s t : StoreView) (now : Session) (s0 s1 : SourceVi
     → StaysShut a b → (AsksNothing (layout_on s).format s0 → b.travel ≡ a.travel) → (status : ℕ) → LeavesIndex status t b c → RunsOpened status most s s0 s1 a c
 runs_left most s t now s0 s1 a b c law law_b shut serves served at_height open_yet layout stays unread status leaves = record {
   serves = serves_left most (layout_on s) (session_in (fresh_session s) a.held) now t s0 s1 a b c law serves served at_height open_yet layout status leaves;
-  clean = keeps_on law_b serves.run.fixed serves.run.calls (λ nothing. open_yet.on.settled) (keeps_staying on shut stays) (keeps_leaving t.place.layout leaves.steps);
+  clean = keeps_on law_b serves.run.fixed serves.run.calls (λ nothing. nothing_yet t open_yet.on) (keeps_staying on shut stays) (keeps_leaving t.place.layout leaves.steps);
   left = λ e told version. leaves.left e (on told) (ap (λ (l : Layout). l.version) layout ∙ version);
   unleft = λ cut. absurd (elim leaves.status_is [
     | inl i ↦ elim cut [ inl k ↦ omega (arith, i, k) | inr (inl k) ↦ omega (arith, i, k) | inr (inr k) ↦ omega (arith, i, k) ]

@@ -54,6 +54,7 @@ use Rattle.pma_engine.specs.declared.status.TheConstants.{DONE, REFUSED, DISK_FA
 use Rattle.pma_engine.proofs.Meant.{opened_map}
 use Rattle.pma_engine.proofs.OutcomeLaws.{no_map}
 use Rattle.pma_engine.proofs.Upgrading.{keeps_opened, keeps_on, none_told, said_since, spared_none, stands_told, unopened_run, unpending}
+use Rattle.pma_engine.proofs.StoreLaws.{nothing_yet}
 
 zero_or : (n : ℕ) → (n ≡ 0) ⊎ (0 < n)
 zero_or zero = inl refl
@@ -140,11 +141,11 @@ module _ (laws : Laws) (most : ℕ) (s : StoreView) (s0 s1 : SourceView) (layout
     each_moved : EachHeld (λ image. Told a × Loads s.place (TextFor s.place.layout (fresh_reader most) s0) a.held image) b
     each_moved =
         each_on (λ d. Told a × (d ≡ a.held)) (λ i. Told a × Loads s.place (TextFor s.place.layout (fresh_reader most) s0) a.held i) facts.steps
-        (λ image left. (told_of law image left, only_held a opened.on.settled image left))
+        (λ image left. (told_of law image left, only_held a (nothing_yet s opened.on) image left))
         (λ d i p step. (p.0, subst (λ (x : List ℕ). Loads s.place (TextFor s.place.layout (fresh_reader most) s0) x i) p.1 step))
 
     each_same : 0 < sum s.tally.counts → EachHeld (λ image. image ≡ a.held) b
-    each_same some = each_on (λ d. d ≡ a.held) (λ i. i ≡ a.held) (facts.untouched some).0 (only_held a opened.on.settled) (λ d i p same. same ∙ p)
+    each_same some = each_on (λ d. d ≡ a.held) (λ i. i ≡ a.held) (facts.untouched some).0 (only_held a (nothing_yet s opened.on)) (λ d i p same. same ∙ p)
 
     each : EachHeld (MayLoad s0 a.held) b
     each = elim (zero_or (sum s.tally.counts)) [
@@ -161,9 +162,9 @@ module _ (laws : Laws) (most : ℕ) (s : StoreView) (s0 s1 : SourceView) (layout
     runs : Run (λ image said. MayLoad s0 a.held image) a b
     runs = elim (zero_or (sum s.tally.counts)) [
       | inl none ↦ run_of_steps (λ image said. MayLoad s0 a.held image) facts.steps
-          (λ honest start image left step. may_load image (law.tells honest).0 none (subst (λ (x : List ℕ). Loads s.place (TextFor s.place.layout (fresh_reader most) s0) x image) (opened.on.settled honest start left) step))
+          (λ honest start image left step. may_load image (law.tells honest).0 none (subst (λ (x : List ℕ). Loads s.place (TextFor s.place.layout (fresh_reader most) s0) x image) ((nothing_yet s opened.on) honest start left) step))
       | inr some ↦ run_of_steps (λ image said. MayLoad s0 a.held image) (facts.untouched some).0
-          (λ honest start image left same. stays image (same ∙ opened.on.settled honest start left))
+          (λ honest start image left same. stays image (same ∙ (nothing_yet s opened.on) honest start left))
     ]
 
     left_alone : 0 < sum s.tally.counts → (b.held ≡ a.held) × (b.travel.written ≡ a.travel.written)

@@ -46,6 +46,7 @@ use Rattle.pma_engine.specs.Refusing.{IsRefusal, SaysLine, line_text, line_of_op
 use Rattle.pma_engine.specs.Upgrading.{IsUpgradeStatus, AnswersUpgrade, IsUpgradeRefused, IsUpgraded, KeepsMeaning, next_height, opened_height, UpgradesFile, UpgradesOpened, line_of_upgrade, status_of_upgrade, upgrade_cost}
 use Rattle.pma_engine.specs.declared.status.TheConstants.{DONE, REFUSED, DISK_FAULT, OUT_OF_MEMORY}
 use Rattle.pma_engine.proofs.Meant.{opened_map}
+use Rattle.pma_engine.proofs.StoreLaws.{nothing_yet}
 
 -- what opens a file keeps its meaning
 pub keeps_opened : {old new : List ℕ} → Reopens old new → KeepsMeaning old new
@@ -157,7 +158,7 @@ module _ (a : View) (s : StoreView) (opened : IsOpenOn s a) where
         → (Told a → (b.held ≡ a.held) × (b.travel ≡ a.travel)) → (Told a → AnswersUpgrade s.place.layout s.place.region (sum s.tally.counts) line) → UpgradesOpened REFUSED s.place.layout s.tally.height a d
     refused_by r facts line refuses is says whole same due = record {
       status_is = inr (inl refl);
-      run = run_said opened.on.settled facts.steps (λ old new honest left step. keeps_upgraded (none_left old honest left) step) says;
+      run = run_said (nothing_yet s opened.on) facts.steps (λ old new honest left step. keeps_upgraded (none_left old honest left) step) says;
       held = λ told. subst (KeepsMeaning a.held) (sym says.held) (keeps_upgraded (none_told told) (facts.steps.held told));
       due = λ e. absurd (omega (arith, e));
       means = λ e. absurd (omega (arith, e));
@@ -180,7 +181,7 @@ module _ (a : View) (s : StoreView) (opened : IsOpenOn s a) where
     failed_by : Facts (Err Failed) s place a b → UpgradesOpened DISK_FAULT s.place.layout s.tally.height a b
     failed_by facts = record {
       status_is = inr (inr refl);
-      run = run_of_steps (λ image said. KeepsMeaning a.held image) facts.steps (λ honest start image left step. subst (λ (x : List ℕ). KeepsMeaning x image) (opened.on.settled honest start left) (keeps_upgraded (none_left start honest left) step));
+      run = run_of_steps (λ image said. KeepsMeaning a.held image) facts.steps (λ honest start image left step. subst (λ (x : List ℕ). KeepsMeaning x image) ((nothing_yet s opened.on) honest start left) (keeps_upgraded (none_left start honest left) step));
       held = λ told. keeps_upgraded (none_told told) (facts.steps.held told);
       due = λ e. absurd (omega (arith, e));
       means = λ e. absurd (omega (arith, e));
@@ -200,7 +201,7 @@ module _ (a : View) (s : StoreView) (opened : IsOpenOn s a) where
     done_by : Facts (Ok Done) s place a b → UpgradesOpened DONE s.place.layout s.tally.height a b
     done_by facts = record {
       status_is = inl refl;
-      run = run_of_steps (λ image said. KeepsMeaning a.held image) facts.steps (λ honest start image left step. subst (λ (x : List ℕ). KeepsMeaning x image) (opened.on.settled honest start left) (keeps_upgraded (none_left start honest left) step));
+      run = run_of_steps (λ image said. KeepsMeaning a.held image) facts.steps (λ honest start image left step. subst (λ (x : List ℕ). KeepsMeaning x image) ((nothing_yet s opened.on) honest start left) (keeps_upgraded (none_left start honest left) step));
       held = λ told. keeps_upgraded (none_told told) (facts.steps.held told);
       due = λ e told copy line answers. not_due copy line (subst (λ (x : Type 0). x) (answer_is told copy line) answers);
       means = λ e told m here.
