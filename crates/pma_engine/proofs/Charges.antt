@@ -24,8 +24,10 @@ use Rattle.command_text.specs.declared.command.Command.{Command}
 use Rattle.command_text.proofs.SessionLaws.{paid_first, paid_next}
 use Rattle.pma_store.specs.Changing.{most_written, effect_outcome}
 use Rattle.pma_store.specs.Costing.{report_cost, update_cost_in, updates_cost}
+use Rattle.pma_store.specs.Readying.{clear_cost}
 use Rattle.pma_store.specs.Rewrites.{commit_cost}
 use Rattle.pma_store.specs.Charging.{changes}
+use Rattle.pma_store.proofs.ClearCosts.{clear_most}
 use Rattle.pma_engine.specs.Costs.{charged_cost, images_cost, session_cost}
 use Rattle.pma_engine.specs.Jobs.{ArePaid}
 use Rattle.pma_engine.specs.Outcome.{session_of, state_of}
@@ -48,8 +50,8 @@ module _ (l : Layout) (some : 1 ≤ l.format) where
   hmax = height_limit l
 
   -- what a resize costs, and the spread of a window, by their charges
-  resize_paid : (next : ℕ) → segment_size l * 2 ^ next + 9 + commit_cost l ≤ images_cost l (2 ^ next + 3)
-  resize_paid next = omega (arith, some)
+  resize_paid : (next : ℕ) → clear_cost l + (segment_size l * 2 ^ next + 9) + commit_cost l ≤ images_cost l (2 ^ next + 3)
+  resize_paid next = omega (arith, some, clear_most l)
 
   spread_paid : (j : ℕ) → most_written l j ≤ images_cost l (16 * 2 ^ j)
   spread_paid j = omega (arith, times_up (2 ^ j) 1 l.format some)
