@@ -1,7 +1,11 @@
 -- What was said of all records, by the parts of the store, and how it was ended.
-use Rattle.std.proofs.Common.{inl, ap, refl, subst, sym}
+use Rattle.std.proofs.Common.{◌≡◌, inl, ap, refl, subst, sym, ◌∙◌}
 use Rattle.station.specs.View.{Told}
+use Rattle.header_gate.specs.declared.layout.Layout.{Layout}
+use Rattle.header_gate.specs.InPlace.{IsRecovered}
 use Rattle.map_model.specs.Standing.{StandsBalanced}
+use Rattle.redo_journal.specs.declared.place.Place.{Place}
+use Rattle.pma_store.proofs.Resting.{readable_held}
 use Rattle.pma_engine.specs.Dumping.{DumpsOpened}
 use Rattle.pma_engine.proofs.Dumping.{dumped_of}
 use Rattle.pma_engine.proofs.StoreLaws.{nothing_yet}
@@ -20,6 +24,11 @@ pub say_sweep-said-requires-clause-sweeping : goal.say_sweep-said-requires-claus
 say_sweep-said-requires-clause-sweeping g c told =
     let here = (goal.at.say_sweep-said-requires-clause-sweeping g c).After-sweep_all-sweep in
     c.sweep_all-sweep.ensures.sweeping (g.S.Station.view c.args.station.now).held (stands_by g here told)
+
+pub say_sweep-said-requires-clause-readable : goal.say_sweep-said-requires-clause-readable
+say_sweep-said-requires-clause-readable g c told =
+    let layout : c.sweep_all-sweep.result.reader.layout ≡ c.args.store.place.layout = c.sweep_all-sweep.ensures.layout ∙ ap (λ (p : Place). p.layout) c.into_parts-parts.ensures.place in
+    subst (λ (l : Layout). IsRecovered l (g.S.Station.view c.args.station.now).held) (sym layout) (readable_held c.args.store c.requires.open.on told)
 
 pub returns : goal.returns
 returns g c =
