@@ -206,7 +206,7 @@ module _ {a : View} (items : List Update) (s : StoreView) (numbers : List ℕ) (
           stands = record {
             settled = record {
               represents = represents_own c.held next.map next.height has.represents;
-              gate_even = λ single. rests_settled s.place.layout turn c single commits.frames.rests c.held (inl (told_on commits.frames.steps.frame told, refl));
+              gate_even = λ single. (rests_settled s.place.layout turn c single commits.frames.rests).1 c.held (inl (told_on commits.frames.steps.frame told, refl));
               layout_is = header.layout_is ∙ same_layout items s numbers b look judged changes ready told;
               region_is = header.live_is ∙ (stands items s numbers b look judged changes ready told).balanced.stands.settled.region_is;
             };
