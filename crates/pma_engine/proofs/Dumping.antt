@@ -239,7 +239,7 @@ module _ (a b : View) (law : Lawful a) (ab : Steps Reopens (attached_by false a)
         steps = λ nothing.
             run_on (λ image said. KeepsMeaning a.held image) (run_of_steps (λ image said. KeepsMeaning a.held image) ab (λ honest start image left step. subst (λ (x : List ℕ). KeepsMeaning x image) (nothing honest start left) (keeps_opened step))) dumps.looks.run
             (λ honest image said keeps. keeps)
-            (λ honest image said is. subst (KeepsMeaning a.held) (sym is) (keeps_opened (ab.held (law.tells honest).0)));
+            (λ honest image said left. let from = ab.images honest image left in subst (λ (x : List ℕ). KeepsMeaning x image) (nothing honest from.0 from.1) (keeps_opened from.2));
         held = λ told. subst (KeepsMeaning a.held) (sym (dumps.looks.held (on told))) (keeps_opened (ab.held told));
         done = λ e told. (opened.sound told, all_said e told);
         front = λ other told said. front_since told said;
