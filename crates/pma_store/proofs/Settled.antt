@@ -60,3 +60,20 @@ module _ {T : Type 0} (r : Result T StoreFault) (s : StoreView) (turn : ℕ) (a 
   -- and where it was done, the store is open
   pub settled_open : StandsOn (record s { turn = turn }) b → IsOpenOn (record s { turn = turn }) b
   settled_open on = record { on = on; opened = is.opened; no_intent = keeps_none kept.steps is.no_intent }
+
+-- What it comes to for a store that differs behind it in what it notes of the gate alone.
+
+module _ {T : Type 0} (r : Result T StoreFault) (s n : StoreView) (a b : View) (turned : n ≡ record s { turn = n.turn }) (law : Lawful a) (is : IsOpenOn s a)
+    (kept : KeepsStore r (clear_cost s.place.layout) (clear_calls s.place.layout) s n a b) (array : OnOk r (Told a → array_of b.held ≡ array_of a.held)) where
+  kept_turned : KeepsStore r (clear_cost s.place.layout) (clear_calls s.place.layout) s (record s { turn = n.turn }) a b
+  kept_turned = subst (λ (x : StoreView). KeepsStore r (clear_cost s.place.layout) (clear_calls s.place.layout) s x a b) turned kept
+
+  pub settled_by : OnOk r (NothingPending b) → OnOk r (Told b → IsBare s.place.layout b.held) → Steps (Touched (IsClearPlace s.place.layout)) a b → b.travel.read ≡ a.travel.read → IfErr r (λ fault. fault ≡ Failed)
+      → SettlesStore r s (record n { closed = is_err r }) a b
+  settled_by nothing bare touched unread disk =
+      subst (λ (x : StoreView). SettlesStore r s (record x { closed = is_err r }) a b) (sym turned) (settles_store r s n.turn a b law is kept_turned array nothing bare touched unread disk)
+
+  -- where it was done, the store is as open as before
+  pub open_by : StandsOn n b → IsOpenOn n b
+  open_by on =
+      subst (λ (x : StoreView). IsOpenOn x b) (sym turned) (settled_open r s n.turn a b law is kept_turned array (subst (λ (x : StoreView). StandsOn x b) turned on))
