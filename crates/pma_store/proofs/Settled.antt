@@ -1,13 +1,12 @@
 -- Nothing is pending behind a store, and no page is to be laid over its live region.
-use Rattle.std.proofs.Common.{◌≡◌, ◌+◌, ◌≤◌, inl, ℕ, ap, Result, Ok, Err, OnOk, IfErr, refl, sym, subst, ◌∙◌}
-use Rattle.std.specs.Prelude.{is_err}
+use Rattle.std.proofs.Common.{◌≡◌, inl, ℕ, ap, Result, Ok, Err, refl, sym, subst, ◌∙◌}
+use Rattle.std.specs.Prelude.{OnOk, IfErr, is_err}
 use Rattle.station.specs.Bytes.{Touched}
 use Rattle.station.specs.View.{View, Told, NothingPending, Lawful}
 use Rattle.station.specs.Steps.{Steps}
 use Rattle.station.proofs.Composition.{told_on}
 use Rattle.header_gate.specs.InPlace.{IsBare}
 use Rattle.map_model.specs.Array.{Array}
-use Rattle.map_model.specs.ArrayState.{ArrayState}
 use Rattle.map_model.specs.Image.{map_of, height_of, array_of}
 use Rattle.map_model.specs.Store.{Map}
 use Rattle.map_model.proofs.Recovering.{determined}
