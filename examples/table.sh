@@ -2,9 +2,7 @@
 # A sorted table scanned by ranges: readings by place and time, put in any order.
 # Usage: examples/table.sh [PROGRAM]; ends with 1 where the store and `sort` and `awk` disagree.
 #
-# A reading has two records, since a range goes upward alone:
-#   at/PLACE/TIME      its value, for windows of time
-#   last/PLACE/LEFT    its value, for the newest: LEFT is 9999999999 - TIME
+# A reading is a record with the key at/PLACE/TIME.
 set -eu
 export LC_ALL=C
 program=${1:-./pma}
@@ -16,12 +14,9 @@ differ() {
     [ "$(cat "$1")" = "$(cat "$2")" ] || { echo "table: not as expected: $3"; exit 1; }
 }
 
-# Both records of each reading `PLACE TIME VALUE`, as lines of a script, each behind this word.
+# The record of each reading `PLACE TIME VALUE`, as a line of a script behind this word.
 records() {
-    awk -v word="$1" '{
-        value = word == "put" ? " " $3 : ""
-        printf "%s at/%s/%010.0f%s\n%s last/%s/%010.0f%s\n", word, $1, $2, value, word, $1, 9999999999 - $2, value
-    }'
+    awk -v word="$1" '{ printf "%s at/%s/%010.0f%s\n", word, $1, $2, word == "put" ? " " $3 : "" }'
 }
 
 # The whole store is the records of these readings, and no others.
@@ -51,9 +46,13 @@ echo 'range at/oslo/1700060000 at/oslo/1700090000' | "$program" run "$store" |
 awk '$1 == "oslo" && $2 >= 1700060000 && $2 < 1700090000' "$folder/readings" | sort -k2,2n >"$folder/expected"
 differ "$folder/window" "$folder/expected" 'a window'
 
-# The newest ten of a place, newest first. `0` is the byte behind `/`: below it are all keys that begin with `last/oslo/`.
-echo 'range last/oslo/ last/oslo0 10' | "$program" run "$store" |
-    awk '$1 == "record" { split($2, key, "/"); printf "%s %.0f %s\n", key[2], 9999999999 - key[3], $3 }' >"$folder/newest"
+# The newest ten of a place, newest first. `0` is the byte behind `/`: below it are all keys that begin with `at/oslo/`.
+{
+    echo 'open newest at/oslo/ at/oslo0'
+    for step in 1 2 3 4 5 6 7 8 9 10; do
+        echo 'prev newest'
+    done
+} | "$program" run "$store" | awk '$1 == "record" { split($2, key, "/"); print key[2], key[3], $3 }' >"$folder/newest"
 awk '$1 == "oslo"' "$folder/readings" | sort -k2,2nr | awk 'NR <= 10' >"$folder/expected"
 differ "$folder/newest" "$folder/expected" 'the newest'
 

@@ -159,6 +159,7 @@ fn a_batch_is_charged_by_its_items(rt: HostRuntime) -> Result<(), Fail> {
         for (puts, items, updates, charge, bound) in BATCHES {
             let (mut store, mut station) = metered_store(&rt, rt.alloc(), layout_of(format, 0, 4))?;
             put_rows(&rt, &mut store, &mut station, puts)?;
+            assert!(rt; 1 <= format && format <= 2);
             let intent = intent_of(&rt, rt.alloc(), format, items)?;
             assert!(rt; store.format() == format && store.cost().updates < 1000000);
             let answer = store.batch(&mut station, &intent)?;

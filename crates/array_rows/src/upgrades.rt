@@ -3,7 +3,7 @@
 use crate::files::{Counts, file_of, noting, see_records, see_stops};
 use header_gate::Layout;
 use recovery::{Parts, open_store};
-use resize_region::{Upgrade, upgrade};
+use resize_region::{Upgrade, clear_store, upgrade};
 use station::CrashStation;
 use std::alloc::Global;
 use std::test::Fail;
@@ -25,6 +25,7 @@ fn upgrade_once(
     else {
         return Err("no store".into());
     };
+    clear_store(station, &place, &mut frames)?;
     let before = station.noted();
     let answer = upgrade(station, &mut place, &mut frames, &tally)?;
     let calls = station.noted().saturating_sub(before);

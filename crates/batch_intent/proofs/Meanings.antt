@@ -154,22 +154,22 @@ batch_next_at layout base items start image k j is keeps represents = record {
 
 module _ (layout : Layout) (base : Map) (items : List Update) (admitted : AreAdmitted (height_limit layout) base items) where
   -- however many of the items were made, the image means the map after all of them
-  pub batch_means : (k : ℕ) (image : List ℕ) → InBatch layout base items k image → MeansMap image (map_after_all layout base items)
+  pub batch_means : (k : ℕ) (image : List ℕ) → InBatch layout base items k image → MeansMap layout image (map_after_all layout base items)
   batch_means k image is =
       let limit = height_limit layout in
       let part = map_after_items limit base (take k items) in
       let same : height_limit (layout_in image) ≡ limit = ap height_limit is.layout_is in
       let again : AreAdmitted (height_limit (layout_in image)) part items = subst (λ (n : ℕ). AreAdmitted n part items) (sym same) (resumed_admitted limit base items k is.spells.intent.distinct admitted) in
       let all : map_after_items (height_limit (layout_in image)) part items ≡ map_after_items limit base items = ap (λ (n : ℕ). map_after_items n part items) same ∙ resumed_same limit base items k is.spells.intent.distinct admitted in
-      (is.represents.0, subst (λ (n : Map). Means image n is.represents.0) all (means_pending image part is.represents.0 items is.represents.1 is.some is.spells again))
+      (is.layout_is, (is.represents.0, subst (λ (n : Map). Means image n is.represents.0) all (means_pending image part is.represents.0 items is.represents.1 is.some is.spells again)))
 
   -- the gate is closed behind all of them
-  pub batch_closed : (start image : List ℕ) (k : ℕ) → InBatch layout base items k start → map_after_items (height_limit layout) base (take k items) ≡ map_after_all layout base items → Touched IsIntentGatePlace start image → MeansMap image (map_after_all layout base items)
+  pub batch_closed : (start image : List ℕ) (k : ℕ) → InBatch layout base items k start → map_after_items (height_limit layout) base (take k items) ≡ map_after_all layout base items → Touched IsIntentGatePlace start image → MeansMap layout image (map_after_all layout base items)
   batch_closed start image k is all touched =
       let wider : Touched IsUnnamed start image = record { size = touched.size; rest = λ n out. touched.rest n (λ e. out (intent_unnamed n (inr e))) } in
       let represents = unnamed_represents start image (map_after_items (height_limit layout) base (take k items)) is.represents.0 is.represents.1 wider in
       elim (cases_two (intent_gate image) (omega arith)) [
-        | inl idle ↦ (is.represents.0, subst (λ (n : Map). Means image n is.represents.0) all (means_idle image (map_after_items (height_limit layout) base (take k items)) is.represents.0 represents (gate_idle image idle)))
+        | inl idle ↦ (layout_same start image is.represents.1.header wider ∙ is.layout_is, (is.represents.0, subst (λ (n : Map). Means image n is.represents.0) all (means_idle image (map_after_items (height_limit layout) base (take k items)) is.represents.0 represents (gate_idle image idle))))
         | inr odd ↦
             let keeps : KeepsIntent start image = record {
               layout_is = layout_same start image is.represents.1.header wider;
@@ -216,15 +216,15 @@ module _ (old new : List ℕ) (base : Map) (height : ℕ) (items : List Update) 
       le_true m n le = grind (arith, nat_tests)
 
   -- it means the map of before, or is at the beginning of the batch
-  intent_begun : INTENT_VERSION ≤ (layout_in old).version → 1 ≤ length items → IsIntent items → T (list_all (fits_item (slot_format old)) items) → Means new base height ⊎ InBatch (layout_in old) base items 0 new
+  intent_begun : INTENT_VERSION ≤ (layout_in old).version → 1 ≤ length items → IsIntent items → T (list_all (fits_item (slot_format old)) items) → ((layout_in new ≡ layout_in old) × Means new base height) ⊎ InBatch (layout_in old) base items 0 new
   intent_begun version some intent fit = elim (cases_two (intent_gate new) (omega arith)) [
-    | inl idle ↦ inl (means_idle new base height still (gate_idle new idle))
+    | inl idle ↦ inl (layout, means_idle new base height still (gate_idle new idle))
     | inr odd ↦ inr (intent_open version some intent fit odd)
   ]
 
 pub intent_whole : (old new : List ℕ) (base : Map) (height : ℕ) (items : List Update) → Represents old base height → intent_gate old ≡ 0 → INTENT_VERSION ≤ (layout_in old).version
     → 1 ≤ length items → IsIntent items → T (list_all (fits_item (slot_format old)) items) → Intends items old new
-    → Means new base height ⊎ InBatch (layout_in old) base items 0 new
+    → ((layout_in new ≡ layout_in old) × Means new base height) ⊎ InBatch (layout_in old) base items 0 new
 intent_whole old new base height items is even version some intent fit intends = intent_begun old new base height items is even intends version some intent fit
 
 -- an image with an intent that is to be applied is at the beginning of its batch

@@ -40,9 +40,9 @@ pub record Means (image : List ℕ) (m : Map) (height : ℕ) : Type 0 where
 abbrev pub meant_state : {image : List ℕ} {m : Map} {height : ℕ} → Means image m height → State
 meant_state {image} {m} {height} means = record { map = m; height = (state_after_items (height_limit (layout_in image)) (record { map = means.base; height = height }) means.items).height }
 
--- the image means this map, at the height that it names
-abbrev pub MeansMap : List ℕ → Map → Type 0
-MeansMap image m = (height : ℕ) × Means image m height
+-- the image has this layout, and means this map, at the height that it names
+abbrev pub MeansMap : Layout → List ℕ → Map → Type 0
+MeansMap layout image m = (layout_in image ≡ layout) × ((height : ℕ) × Means image m height)
 
 -- the map that an image means, where it means one
 abbrev pub meant_map : List ℕ → Map

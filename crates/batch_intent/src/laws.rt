@@ -19,23 +19,23 @@ pub fn files_mean_one_map()
     ensures { (image : List ℕ) (m : Map) (height : ℕ) → Means image m height → (m ≡ meant_map image) × (height ≡ height_of image) }
 {}
 
-/// A law: what the writing of an intent leaves of a file without one that is to be applied means the map of before, or is at
-/// the beginning of the batch.
+/// A law: what the writing of an intent leaves of a file without one that is to be applied has the layout of before and means the
+/// map of before, or is at the beginning of the batch.
 pub fn batches_begin_at_once()
     ensures { (old new : List ℕ) (base : Map) (height : ℕ) (items : List Update) → Represents old base height → intent_gate old ≡ 0 → INTENT_VERSION ≤ (layout_in old).version →
         1 ≤ length items → IsIntent items → T (list_all (fits_item (slot_format old)) items) → Intends items old new →
-        Means new base height ⊎ InBatch (layout_in old) base items 0 new }
+        ((layout_in new ≡ layout_in old) × Means new base height) ⊎ InBatch (layout_in old) base items 0 new }
 {}
 
 /// A law: in the middle of a batch of items that meet no full store a file means the map after all of them. It stays in the
 /// middle through each update, and means that map behind the last one, while the gate is closed too. A file with an intent
 /// that is to be applied is at the beginning of its batch.
 pub fn batches_go_on()
-    ensures means { (layout : Layout) (base : Map) (items : List Update) → AreAdmitted (height_limit layout) base items → (k : ℕ) (image : List ℕ) → InBatch layout base items k image → MeansMap image (map_after_all layout base items) }
+    ensures means { (layout : Layout) (base : Map) (items : List Update) → AreAdmitted (height_limit layout) base items → (k : ℕ) (image : List ℕ) → InBatch layout base items k image → MeansMap layout image (map_after_all layout base items) }
     ensures next { (layout : Layout) (base : Map) (items : List Update) (start image : List ℕ) (k j : ℕ) → InBatch layout base items k start → KeepsIntent start image →
         RepresentsMap image (map_after_items (height_limit layout) base (take j items)) → InBatch layout base items j image }
     ensures closed { (layout : Layout) (base : Map) (items : List Update) → AreAdmitted (height_limit layout) base items → (start image : List ℕ) (k : ℕ) → InBatch layout base items k start →
-        map_after_items (height_limit layout) base (take k items) ≡ map_after_all layout base items → Touched IsIntentGatePlace start image → MeansMap image (map_after_all layout base items) }
+        map_after_items (height_limit layout) base (take k items) ≡ map_after_all layout base items → Touched IsIntentGatePlace start image → MeansMap layout image (map_after_all layout base items) }
     ensures begun { (image : List ℕ) (m : Map) (height : ℕ) (means : Means image m height) → has_pending image ≡ true → InBatch (layout_in image) means.base (pending image) 0 image }
 {}
 

@@ -9,6 +9,7 @@ use Rattle.density_rule.proofs.Bounding.{least_of-some, lower_of-next-le}
 use Rattle.key_slot.specs.Record.{Record, key_cmp}
 use Rattle.key_slot.specs.declared.sizes.TheConstants.{SEGMENT_SLOTS}
 use Rattle.header_gate.specs.Header.{live_copy, gate, layout_in}
+use Rattle.header_gate.specs.InPlace.{IsBare}
 use Rattle.header_gate.specs.declared.layout.Layout.{Layout}
 use Rattle.header_gate.specs.Places.{IsLayout, height_limit}
 use Rattle.header_gate.specs.Flip.{Flips, Flipped, Unflipped, FlipPlaces}
@@ -23,8 +24,8 @@ use Rattle.window_tally.specs.View.{TallyView}
 use Rattle.segment_frames.specs.Standing.{IsSettledAt, StandsFor}
 use Rattle.map_model.specs.Regions.{Spares, IsSparePlace, HoldsArray}
 use Rattle.resize_region.specs.Aside.{HasWritten}
-use Rattle.map_model.proofs.OtherRegion.{still_represents, still_even, layout_same, flipped_represents, flipped_array, flipped_even, layout_new, tall}
-use Rattle.resize_region.proofs.SettledLaws.{settled_kept}
+use Rattle.map_model.proofs.OtherRegion.{still_represents, layout_same, flipped_represents, flipped_array, flipped_bare, layout_new, tall}
+use Rattle.resize_region.proofs.SettledLaws.{settled_kept, bare_kept, gate_kept}
 use Rattle.line_source.specs.SourceView.{SourceView}
 use Rattle.line_source.specs.ReaderView.{ReaderView}
 use Rattle.segment.specs.declared.fault.StoreFault.{StoreFault}
@@ -40,13 +41,13 @@ use Rattle.bulk_load.specs.Loads.{Loads, IsLeastHeight}
 
 -- What is beside the live parts.
 
-pub spare_loads : (place : Place) (Text : List Record → Type 0) (old new : List ℕ) → IsSettledAt place old → Spares place.layout place.region old new → Loads place Text old new
-spare_loads place Text old new is spares =
+pub spare_loads : (place : Place) (Text : List Record → Type 0) (old new : List ℕ) → IsSettledAt place old → IsBare place.layout old → Spares place.layout place.region old new → Loads place Text old new
+spare_loads place Text old new is bare spares =
     let copy : Spares place.layout (live_copy old) old new = subst (λ (r : ℕ). Spares place.layout r old new) (sym is.region_is) spares in
     record {
-      map_is = λ m before rep. inl (still_represents place.layout old new m before rep is.gate_even is.layout_is copy);
-      gate_is = still_even place.layout old new (map_of old) (height_of old) is.represents is.gate_even is.layout_is copy ∙ sym is.gate_even;
-      layout_is = layout_same place.layout old new (map_of old) (height_of old) is.represents is.gate_even is.layout_is copy;
+      map_is = λ m before rep. inl (still_represents place.layout old new m before rep bare is.layout_is copy);
+      gate_is = gate_kept place.layout (1 - place.region) old new (omega arith) spares.touched;
+      layout_is = layout_same place.layout old new (map_of old) (height_of old) is.represents bare is.layout_is copy;
       touched = spares.touched;
     }
 
@@ -88,10 +89,10 @@ few_records height n most =
 pub tall_limit : (l : Layout) → IsLayout l → height_limit l ≤ 16
 tall_limit l known = omega (arith, known.hmax, known.format.least)
 
-module _ (place : Place) (height : ℕ) (rs : List Record) (old mid : List ℕ) (small : place.region < 2) (is : IsSettledAt place old) (spares : Spares place.layout place.region old mid) (known : IsLayout place.layout) (low : height ≤ height_limit place.layout)
+module _ (place : Place) (height : ℕ) (rs : List Record) (old mid : List ℕ) (small : place.region < 2) (is : IsSettledAt place old) (bare : IsBare place.layout old) (spares : Spares place.layout place.region old mid) (known : IsLayout place.layout) (low : height ≤ height_limit place.layout)
     (are : AreRows place.layout.format rs) (least : IsLeastHeight (length rs) height) (written : HasWritten place (spread_over (2 ^ height) rs) (2 ^ height) mid) where
   middle : IsSettledAt place mid
-  middle = settled_kept place old mid is spares
+  middle = settled_kept place old mid is bare spares
 
   abbrev m : Map
   m = from_sorted rs
@@ -108,7 +109,7 @@ module _ (place : Place) (height : ℕ) (rs : List Record) (old mid : List ℕ) 
     sound = middle.represents.header;
     layout_is = ap (λ (l : Layout). record l { format = place.layout.format }) middle.layout_is;
     format = known.format;
-    gate_even = middle.gate_even;
+    bare = bare_kept place old mid is bare spares;
     holds = record {
       rows_are = rows-spread_over (2 ^ height) rs (pow_pos height) ∙ sym entries_are;
       size = length-spread_over (2 ^ height) rs;
@@ -124,8 +125,11 @@ module _ (place : Place) (height : ℕ) (rs : List Record) (old mid : List ℕ) 
     pub represents : Represents new m height
     represents = flipped_represents place.layout (1 - place.region) height m (spread_over (2 ^ height) rs) mid new copy_small holds flip
 
-    even_new : gate new ≡ 0
-    even_new = flipped_even place.layout (1 - place.region) height m (spread_over (2 ^ height) rs) mid new copy_small holds flip
+    gate_new : gate new ≡ gate old
+    gate_new = gate_kept place.layout (1 - place.region) old new (omega arith) (touched_on place old mid new spares.touched flip.touched)
+
+    pub bare_new : IsBare place.layout new
+    bare_new = flipped_bare place.layout (1 - place.region) height m (spread_over (2 ^ height) rs) mid new copy_small holds flip
 
     layout_after : layout_in new ≡ place.layout
     layout_after = layout_new place.layout (1 - place.region) height m (spread_over (2 ^ height) rs) mid new copy_small holds flip
@@ -139,7 +143,7 @@ module _ (place : Place) (height : ℕ) (rs : List Record) (old mid : List ℕ) 
     pub settled_new : IsSettledAt (record place { region = 1 - place.region }) new
     settled_new = record {
       represents = represents_own new m height represents;
-      gate_even = even_new;
+      gate_even = λ single. gate_new ∙ is.gate_even single;
       layout_is = layout_after;
       region_is = flip.names;
     }
@@ -147,19 +151,19 @@ module _ (place : Place) (height : ℕ) (rs : List Record) (old mid : List ℕ) 
     pub flipped_loads : (Text : List Record → Type 0) → Text rs → Loads place Text old new
     flipped_loads Text text = record {
       map_is = λ n before rep. inr (record { rows = rs; height = height; text = text; least = least; represents = represents });
-      gate_is = even_new ∙ sym is.gate_even;
+      gate_is = gate_new;
       layout_is = layout_after ∙ sym is.layout_is;
       touched = touched_on place old mid new spares.touched flip.touched;
     }
 
   -- whatever a flip leaves
   pub flips_load : (Text : List Record → Type 0) → Text rs → (new start : List ℕ) → Spares place.layout place.region old start → Flips (1 - place.region) height place.layout.format mid start new → Loads place Text old new
-  flips_load Text text new start before (inl un) = spare_loads place Text old new is (unflipped_spare place old start new small before un)
+  flips_load Text text new start before (inl un) = spare_loads place Text old new is bare (unflipped_spare place old start new small before un)
   flips_load Text text new start before (inr flip) = flipped_loads new flip Text text
 
 -- nothing was written
-pub loads_same : (place : Place) (Text : List Record → Type 0) (image : List ℕ) → IsSettledAt place image → Loads place Text image image
-loads_same place Text image is = spare_loads place Text image image is (subst (λ (r : ℕ). Spares place.layout r image image) is.region_is (free_same place.layout image))
+pub loads_same : (place : Place) (Text : List Record → Type 0) (image : List ℕ) → IsSettledAt place image → IsBare place.layout image → Loads place Text image image
+loads_same place Text image is bare = spare_loads place Text image image is bare (subst (λ (r : ℕ). Spares place.layout r image image) is.region_is (free_same place.layout image))
 
 -- an image with a tally stands at its place
 pub at_of : (place : Place) (t : TallyView) (image : List ℕ) → StandsFor place t image → IsAt place image

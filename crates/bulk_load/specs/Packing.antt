@@ -65,6 +65,7 @@ pub record WritesPacked {X : Type 0} (place : Place) (result : Result X StoreFau
   pub packed : OnOk result (Told a → (rows : List Record) → IsTaken place.layout old f rows → HasPacked place rows old.written a.held → HasPacked place rows new.written b.held)
   pub same : new ≡ record old { written = new.written }
   pub journal : g.journal ≡ f.journal
+  pub turn : g.turn ≡ f.turn
   pub steps : Steps (Spares place.layout place.region) a b
   pub fault : IfErr result (λ fault. fault ≡ Failed)
   pub failed : IsErrOf result Failed → Rose a.disk_faults b.disk_faults

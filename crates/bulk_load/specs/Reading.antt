@@ -72,6 +72,7 @@ pub record TakesOn {X : Type 0} (place : Place) (k : ℕ) (line : LoadLine) (res
       IsLineFault (most_records place.layout) (after_line (most_records place.layout) k rows old.ended line) fault)
   pub onward : OnOk result (old.written ≤ new.written)
   pub journal : g.journal ≡ f.journal
+  pub turn : g.turn ≡ f.turn
   pub steps : Steps (Spares place.layout place.region) a b
   pub cost : OnOk result (b.travel.written ≤ a.travel.written + segment_size place.layout * (new.written - old.written))
   pub calls : OnOk result (WritesRuns (room_in place.layout) old.written new.written a.calls b.calls)

@@ -3,11 +3,13 @@
 ghost use Rattle.std.specs.Prelude.{◌≡◌, ℕ, ◌+◌, ◌-◌, ◌*◌, ◌^◌, ◌<◌, ◌≤◌, List, [], length, sum, OnOk, OnErr, IfOk, IfErr, IsErrOf};
 ghost use Rattle.station.specs.View.{Told, EachHeld, NothingPending, Rose};
 ghost use Rattle.station.specs.Steps.{Steps};
+ghost use Rattle.header_gate.specs.InPlace.{IsBare};
 ghost use Rattle.header_gate.specs.Places.{IsLayout, file_length, height_limit, segment_size};
 ghost use Rattle.density_rule.specs.Bounds.{upper_of};
 ghost use Rattle.key_slot.specs.Record.{Record};
 ghost use Rattle.line_source.specs.SourceView.{SourceTold, Went};
 ghost use Rattle.map_model.specs.Regions.{Spares};
+ghost use Rattle.redo_journal.specs.Rest.{RestsAt};
 ghost use Rattle.segment_frames.specs.Standing.{StandsFor};
 ghost use Rattle.bulk_load.specs.Faults.{IsLoadFault, IsWritingFault, IsNoDamage, IsNoDisk, IsShownBy};
 ghost use Rattle.bulk_load.specs.Loading.{IsUnread, TakesAtMost};
@@ -51,6 +53,8 @@ pub fn load_rows<I: Source, S: Station>(
     requires hmax { tally.now.hmax ≡ height_limit place.old.layout }
     requires stands { EachHeld (StandsFor place.old tally.now) (S.view station.old) }
     requires nothing { NothingPending (S.view station.old) }
+    requires bare { Told (S.view station.old) → IsBare place.old.layout (S.view station.old).held }
+    requires rests { RestsAt place.old.layout frames.old.turn (S.view station.old) }
     requires unread { IsUnread reader.old }
 
     // On Ok the file has the records of the text.
@@ -58,9 +62,11 @@ pub fn load_rows<I: Source, S: Station>(
     ensures empty { OnOk result (sum tally.now.counts ≡ 0) }
     ensures whole { OnOk result (SourceTold (I.view source.old) → ((I.view source.new).left ≡ []) × (length (I.view source.old).left < reader.old.room)) }
     ensures settled { OnOk result (NothingPending (S.view station.new)) }
+    ensures rests { OnOk result (RestsAt place.new.layout frames.new.turn (S.view station.new)) }
     ensures place { OnOk result (place.new ≡ record place.old { region = 1 - place.old.region }) }
     ensures place_kept { OnErr result (place.new ≡ place.old) }
     ensures journal { frames.new.journal ≡ frames.old.journal }
+    ensures turn { frames.new.turn ≡ frames.old.turn }
 
     // At every moment the map is the empty one, or that of the whole text; and a store that has records is left alone.
     ensures steps { Steps (Loads place.old (TextFor place.old.layout reader.old (I.view source.old))) (S.view station.old) (S.view station.new) }
@@ -118,6 +124,7 @@ fn write_text<I: Source, S: Station>(
     ensures damaged { IfErr result (λ fault. Told (S.view station.old) → IsNoDamage fault) }
     ensures shown { IfErr result (IsShownBy place.now.layout.format frames.new) }
     ensures journal { frames.new.journal ≡ frames.old.journal }
+    ensures turn { frames.new.turn ≡ frames.old.turn }
     ensures failed { IsErrOf result LoadFault.Disk → Rose (S.view station.old).disk_faults (S.view station.new).disk_faults }
     ensures went { Went (I.view source.old) (I.view source.new) }
 {

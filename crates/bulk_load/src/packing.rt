@@ -57,6 +57,7 @@ pub(crate) fn pack<S: Station>(
     ensures ended { taken.new.ended ≡ taken.old.ended }
     ensures onward { OnOk result (taken.old.written ≤ taken.new.written) }
     ensures journal { frames.new.journal ≡ frames.old.journal }
+    ensures turn { frames.new.turn ≡ frames.old.turn }
     ensures steps { Steps (Spares place.now.layout place.now.region) (S.view station.old) (S.view station.new) }
     ensures cost { OnOk result ((S.view station.new).travel.written ≤ (S.view station.old).travel.written + segment_size place.now.layout * (taken.new.written - taken.old.written)) }
     ensures calls { OnOk result (WritesRuns (room_in place.now.layout) taken.old.written taken.new.written (S.view station.old).calls (S.view station.new).calls) }

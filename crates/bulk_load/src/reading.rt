@@ -46,6 +46,7 @@ pub(crate) fn read_text<I: Source, S: Station>(
     ensures faulty { IfErr result (IsReadingFault place.now.layout.format (most_records place.now.layout) reader.old (I.view source.old) (I.view source.new)) }
     ensures takes { SourceTold (I.view source.old) → TakesAtMost reader.old.room (I.view source.old) (I.view source.new) }
     ensures journal { frames.new.journal ≡ frames.old.journal }
+    ensures turn { frames.new.turn ≡ frames.old.turn }
     ensures steps { Steps (Spares place.now.layout place.now.region) (S.view station.old) (S.view station.new) }
     ensures cost { IfOk result (λ taken. (S.view station.new).travel.written ≤ (S.view station.old).travel.written + segment_size place.now.layout * taken.written) }
     ensures calls { IfOk result (λ taken. WritesRuns (room_in place.now.layout) 0 taken.written (S.view station.old).calls (S.view station.new).calls) }

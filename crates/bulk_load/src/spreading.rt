@@ -49,6 +49,7 @@ pub(crate) fn spread_aside<S: Station>(
     ensures spread { OnOk result (Told (S.view station.old) → (rows : List Record) → AreRows place.now.layout.format rows → length rows ≡ records →
         HasPacked place.now rows (used_by records) (S.view station.old).held → HasWritten place.now (spread_over segments rows) segments (S.view station.new).held) }
     ensures journal { frames.new.journal ≡ frames.old.journal }
+    ensures turn { frames.new.turn ≡ frames.old.turn }
     ensures steps { Steps (Spares place.now.layout place.now.region) (S.view station.old) (S.view station.new) }
     ensures cost { (S.view station.new).travel.written ≤ (S.view station.old).travel.written + segment_size place.now.layout * segments }
     ensures calls { OnOk result ((S.view station.new).calls ≤ (S.view station.old).calls + copy_calls (room_in place.now.layout) (used_by records) segments) }

@@ -22,7 +22,7 @@ use Rattle.command_text.specs.Number.{number_of, if_positive}
 use Rattle.command_text.specs.Command.{IsKey, IsBound, with_key, with_value, with_bound, with_number, put_read, keyed, range_of, alone, probe_of, open_of, cursor_named, command_of_words, command_of}
 use Rattle.command_text.specs.Reading.{bounded, opened_between}
 use Rattle.command_text.specs.declared.command.Command.{Command}
-use Rattle.command_text.specs.declared.command.Command.TheVariants.{Nothing, Put, Remove, Batch, Get, Range, Check, Probe, Cost, Open, Next, Close, OversizedKey, OversizedValue, RepeatedKey, Bad}
+use Rattle.command_text.specs.declared.command.Command.TheVariants.{Nothing, Put, Remove, Batch, Get, Range, Check, Probe, Cost, Open, Next, Prev, Close, OversizedKey, OversizedValue, RepeatedKey, Bad}
 use Rattle.command_text.specs.declared.command.Why.TheVariants as why
 use Rattle.command_text.proofs.WordLaws.{AreWords, words_are}
 use Rattle.command_text.proofs.Spans.{span, words_span, batch_span}
@@ -40,6 +40,7 @@ pub record OfEachKind (f n : ℕ) (P : Command → Type 0) : Type 0 where
   pub costs : P Cost
   pub opens : (name : List ℕ) (low high : Option (List ℕ)) → IsKey f name → IsBound f low → IsBound f high → P (Open name low high)
   pub nexts : (name : List ℕ) → IsKey f name → P (Next name)
+  pub prevs : (name : List ℕ) → IsKey f name → P (Prev name)
   pub closes : (name : List ℕ) → IsKey f name → P (Close name)
   pub probes : (key : List ℕ) (block : ℕ) → IsKey f key → 1 ≤ block → P (Probe key block)
   pub oversized_key : P OversizedKey
@@ -141,7 +142,8 @@ module _ (f n : ℕ) (P : Command → Type 0) (each : OfEachKind f n P) where
   cursor_holds name rest are =
       either (bytes_eq name (codes "open")) _ _ (λ e. open_holds rest are) (λ e.
       either (bytes_eq name (codes "next")) _ _ (λ e. key_holds Next each.nexts rest are) (λ e.
-      either (bytes_eq name (codes "close")) _ _ (λ e. key_holds Close each.closes rest are) (λ e. each.bad_command)))
+      either (bytes_eq name (codes "prev")) _ _ (λ e. key_holds Prev each.prevs rest are) (λ e.
+      either (bytes_eq name (codes "close")) _ _ (λ e. key_holds Close each.closes rest are) (λ e. each.bad_command))))
 
   -- the refusal of a size
   abbrev HoldsOf : Option Command → Type 0
@@ -200,6 +202,7 @@ few_asked f line = line_holds f (λ c. 2 * length (updates_asked c) ≤ length l
   costs = omega arith;
   opens = λ name low high is low_is high_is. omega arith;
   nexts = λ name is. omega arith;
+  prevs = λ name is. omega arith;
   closes = λ name is. omega arith;
   probes = λ key block is some. omega arith;
   oversized_key = omega arith;
@@ -227,6 +230,7 @@ made_as_asked l m (Probe key block) = omega arith
 made_as_asked l m Cost = omega arith
 made_as_asked l m (Open name low high) = omega arith
 made_as_asked l m (Next name) = omega arith
+made_as_asked l m (Prev name) = omega arith
 made_as_asked l m (Close name) = omega arith
 made_as_asked l m OversizedKey = omega arith
 made_as_asked l m OversizedValue = omega arith

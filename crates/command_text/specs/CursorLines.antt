@@ -2,7 +2,7 @@
 use Rattle.std.specs.Prelude.{nat_lt, if◌then◌else◌, Option, Some, None}
 use Rattle.std.specs.FinMap.{contains_key, remove, len}
 use Rattle.key_slot.specs.Record.{Bytes, Record}
-use Rattle.map_model.specs.Cursors.{Cursors, most_cursors, after_open, after_next}
+use Rattle.map_model.specs.Cursors.{Cursors, most_cursors, after_open, after_next, after_prev}
 use Rattle.map_model.specs.Store.{Map}
 use Rattle.command_text.specs.Answers.{row_line}
 use Rattle.command_text.specs.declared.command.Command.{Command}
@@ -14,7 +14,7 @@ use Rattle.command_text.specs.declared.reply.Reply.TheVariants as reply
 abbrev pub open_line : Cursors → Bytes → Reply
 open_line c name = if contains_key c name then reply.CursorOpen else (if nat_lt (len c) most_cursors then reply.Opened else reply.NoRoom)
 
--- the line that answers what a cursor gives next
+-- the line that answers what a cursor gives, going on or going back
 abbrev pub next_line : Option (Option Record) → Reply
 next_line None = reply.NoCursor
 next_line (Some None) = reply.CursorEnd
@@ -28,5 +28,6 @@ close_line c name = if contains_key c name then reply.Closed else reply.NoCursor
 abbrev pub cursors_after : Map → Cursors → Command → Cursors
 cursors_after m c (command.Open name low high) = after_open c name low high
 cursors_after m c (command.Next name) = after_next m c name
+cursors_after m c (command.Prev name) = after_prev m c name
 cursors_after m c (command.Close name) = remove c name
 cursors_after m c _ = c

@@ -12,6 +12,7 @@ abbrev pub of_key : Keyed → Bytes → Command
 of_key keyed.Remove key = command.Remove key
 of_key keyed.Get key = command.Get key
 of_key keyed.Next key = command.Next key
+of_key keyed.Prev key = command.Prev key
 of_key keyed.Close key = command.Close key
 
 -- what follows where a bound was read, or the refusal

@@ -22,6 +22,9 @@ pub(super) fn read_cursor(name: &[u8], rest: &[u8], format: u32, command: &mut C
     if name == b"next".as_slice() {
         return read_keyed(Keyed::Next, rest, format, command);
     }
+    if name == b"prev".as_slice() {
+        return read_keyed(Keyed::Prev, rest, format, command);
+    }
     if name == b"close".as_slice() {
         return read_keyed(Keyed::Close, rest, format, command);
     }

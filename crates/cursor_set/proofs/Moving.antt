@@ -11,13 +11,14 @@ use Rattle.std.specs.Cmp.Lexicographic.{nat_list_cmp_total}
 use Rattle.std.specs.FinMap.{get, insert, remove, contains_key, len, get-insert, get-remove, slice_cmp-IsAntisymmetric, nat_cmp-IsAntisymmetric}
 use Rattle.key_slot.specs.Record.{Bytes, Record, key_cmp}
 use Rattle.map_model.specs.Store.{Map}
-use Rattle.map_model.specs.Cursors.{Cursor, Cursors, behind, next_of, next_in, has_room, after_open, moved, moved_if, after_next, most_cursors}
+use Rattle.map_model.specs.Cursors.{Cursor, Cursors, behind, has_room, after_open, moved, moved_if, most_cursors}
 use Rattle.header_gate.specs.declared.layout.Layout.{Layout}
 use Rattle.command_text.specs.CursorLines.{next_line}
 use Rattle.command_text.specs.Session.{Session, session_step}
 use Rattle.command_text.specs.declared.command.Command.{Command}
 use Rattle.command_text.specs.declared.command.Command.TheVariants as command
-use Rattle.cursor_set.specs.Lives.{gifts_by, gift_line, IsOpen}
+use Rattle.cursor_set.specs.Lives.{way_by, gift_line, gifts_if, gifts_by, IsOpen}
+use Rattle.cursor_set.specs.Ways.{Way, onward, back, step_of}
 use Rattle.cursor_set.proofs.Lives.{Moves, stays, gives}
 
 order : IsTotalOrder key_cmp
@@ -67,16 +68,16 @@ module _ (name : Bytes) (m : Map) (c : Cursors) (k : Cursor) (is : get c name �
       by_room true room = get-insert order c other fresh name ∙ by_tie (eq_by_cmp key_cmp name other) refl room
 
   -- a step of another leaves it
-  next_leaves : (other : Bytes) → eq_by_cmp key_cmp name other ≡ false → get (after_next m c other) name ≡ Some k
-  next_leaves other ne = by_cursor (get c other)
+  step_leaves : (gives_of : Cursor → Option Record) (other : Bytes) → eq_by_cmp key_cmp name other ≡ false → get (moved_if gives_of c other (get c other)) name ≡ Some k
+  step_leaves gives_of other ne = by_cursor (get c other)
     where
-      by_next : (j : Cursor) (o : Option Record) → get (moved c other j o) name ≡ Some k
-      by_next j (Some r) = get-insert order c other (behind r j) name ∙ ap (λ (b : Bool). cond b (Some (behind r j)) (get c name)) ne ∙ is
-      by_next j None = get-remove order c other name ∙ ap (λ (b : Bool). cond b None (get c name)) ne ∙ is
+      by_step : (j : Cursor) (o : Option Record) → get (moved c other j o) name ≡ Some k
+      by_step j (Some r) = get-insert order c other (behind r j) name ∙ ap (λ (b : Bool). cond b (Some (behind r j)) (get c name)) ne ∙ is
+      by_step j None = get-remove order c other name ∙ ap (λ (b : Bool). cond b None (get c name)) ne ∙ is
 
-      by_cursor : (o : Option Cursor) → get (moved_if m c other o) name ≡ Some k
+      by_cursor : (o : Option Cursor) → get (moved_if gives_of c other o) name ≡ Some k
       by_cursor None = is
-      by_cursor (Some j) = by_next j (next_of m j)
+      by_cursor (Some j) = by_step j (gives_of j)
 
   -- so does a closing of another
   close_leaves : (other : Bytes) → contains_key (remove c other) name ≡ true → get (remove c other) name ≡ Some k
@@ -87,29 +88,33 @@ module _ (name : Bytes) (m : Map) (c : Cursors) (k : Cursor) (is : get c name �
       by_tie true tie = absurd (true≢false (sym still ∙ ap is_some (get-remove order c other name ∙ ap (λ (b : Bool). cond b None (get c name)) tie)))
 
   -- its own step gives a record, where it stays open
-  own_step : contains_key (after_next m c name) name ≡ true → Moves m k (cond (eq_by_cmp key_cmp name name) (flat_map (gift_line m) (next_line (next_in m c name) ∷ [])) []) (get (after_next m c name) name)
-  own_step still = by_next (next_of m k) refl
+  own_step : (way : Way) → contains_key (moved_if (step_of way m) c name (get c name)) name ≡ true
+      → Moves (Some way) m k (flat_map (gift_line way m) (next_line (option_map (step_of way m) (get c name)) ∷ [])) (get (moved_if (step_of way m) c name (get c name)) name)
+  own_step way still = by_step (step_of way m k) refl
     where
-      by_next : (o : Option Record) → next_of m k ≡ o → Moves m k (cond (eq_by_cmp key_cmp name name) (flat_map (gift_line m) (next_line (next_in m c name) ∷ [])) []) (get (after_next m c name) name)
-      by_next None next = absurd (true≢false (sym still ∙ ap is_some (ap (λ (d : Cursors). get d name) (ap (moved_if m c name) is ∙ ap (moved c name k) next) ∙ removed c name)))
-      by_next (Some r) next =
-          let told : next_in m c name ≡ Some (Some r) = ap (option_map (next_of m)) is ∙ ap (λ (o : Option Record). Some o) next in
-          gives r next
-          (λ i. cond (tied name i) (flat_map (gift_line m) (next_line (told i) ∷ [])) [])
-          (ap (λ (d : Cursors). get d name) (ap (moved_if m c name) is ∙ ap (moved c name k) next) ∙ inserted c name (behind r k))
+      after : (o : Option Record) → step_of way m k ≡ o → get (moved_if (step_of way m) c name (get c name)) name ≡ get (moved c name k o) name
+      after o step = ap (λ (d : Cursors). get d name) (ap (moved_if (step_of way m) c name) is ∙ ap (moved c name k) step)
 
-  step_moves : (other : Bytes) → contains_key (after_next m c other) name ≡ true → Moves m k (cond (eq_by_cmp key_cmp other name) (flat_map (gift_line m) (next_line (next_in m c other) ∷ [])) []) (get (after_next m c other) name)
-  step_moves other still = by_tie (eq_by_cmp key_cmp other name) refl
+      by_step : (o : Option Record) → step_of way m k ≡ o → Moves (Some way) m k (flat_map (gift_line way m) (next_line (option_map (step_of way m) (get c name)) ∷ [])) (get (moved_if (step_of way m) c name (get c name)) name)
+      by_step None step = absurd (true≢false (sym still ∙ ap is_some (after None step ∙ removed c name)))
+      by_step (Some r) step =
+          let told : option_map (step_of way m) (get c name) ≡ Some (Some r) = ap (option_map (step_of way m)) is ∙ ap (λ (o : Option Record). Some o) step in
+          gives way r refl step (ap (λ (o : Option (Option Record)). flat_map (gift_line way m) (next_line o ∷ [])) told) (after (Some r) step ∙ inserted c name (behind r k))
+
+  step_moves : (way : Way) (other : Bytes) → contains_key (moved_if (step_of way m) c other (get c other)) name ≡ true
+      → Moves (cond (eq_by_cmp key_cmp other name) (Some way) None) m k (gifts_if (cond (eq_by_cmp key_cmp other name) (Some way) None) m (next_line (option_map (step_of way m) (get c other)) ∷ [])) (get (moved_if (step_of way m) c other (get c other)) name)
+  step_moves way other still = by_tie (eq_by_cmp key_cmp other name) refl
     where
-      by_tie : (b : Bool) → eq_by_cmp key_cmp other name ≡ b → Moves m k (cond (eq_by_cmp key_cmp other name) (flat_map (gift_line m) (next_line (next_in m c other) ∷ [])) []) (get (after_next m c other) name)
-      by_tie false ne = stays (ap (λ (b : Bool). cond b (flat_map (gift_line m) (next_line (next_in m c other) ∷ [])) []) ne) (next_leaves other (not_turned other name ne))
+      by_tie : (b : Bool) → eq_by_cmp key_cmp other name ≡ b → Moves (cond b (Some way) None) m k (gifts_if (cond b (Some way) None) m (next_line (option_map (step_of way m) (get c other)) ∷ [])) (get (moved_if (step_of way m) c other (get c other)) name)
+      by_tie false ne = stays refl (step_leaves (step_of way m) other (not_turned other name ne))
       by_tie true tie =
-          subst (λ (o : Bytes). contains_key (after_next m c o) name ≡ true → Moves m k (cond (eq_by_cmp key_cmp o name) (flat_map (gift_line m) (next_line (next_in m c o) ∷ [])) []) (get (after_next m c o) name))
-          (sym (same_key other name tie)) own_step still
+          subst (λ (o : Bytes). contains_key (moved_if (step_of way m) c o (get c o)) name ≡ true → Moves (Some way) m k (flat_map (gift_line way m) (next_line (option_map (step_of way m) (get c o)) ∷ [])) (get (moved_if (step_of way m) c o (get c o)) name))
+          (sym (same_key other name tie)) (own_step way) still
 
--- a command leaves an open cursor, or has it give the next record
-pub moves_of : (name : Bytes) (l : Layout) (s : Session) (c : Command) (k : Cursor) → get s.cursors name ≡ Some k → IsOpen name (session_step l s c) → Moves s.store.map k (gifts_by name l s c) (get (session_step l s c).cursors name)
+-- a command leaves an open cursor, or has it step
+pub moves_of : (name : Bytes) (l : Layout) (s : Session) (c : Command) (k : Cursor) → get s.cursors name ≡ Some k → IsOpen name (session_step l s c) → Moves (way_by name c) s.store.map k (gifts_by name l s c) (get (session_step l s c).cursors name)
 moves_of name l s (command.Open other low high) k is still = stays refl (open_leaves name s.store.map s.cursors k is other low high)
-moves_of name l s (command.Next other) k is still = step_moves name s.store.map s.cursors k is other still
+moves_of name l s (command.Next other) k is still = step_moves name s.store.map s.cursors k is onward other still
+moves_of name l s (command.Prev other) k is still = step_moves name s.store.map s.cursors k is back other still
 moves_of name l s (command.Close other) k is still = stays refl (close_leaves name s.store.map s.cursors k is other still)
 moves_of name l s c k is still = stays refl is

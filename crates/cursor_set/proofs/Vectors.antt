@@ -5,7 +5,7 @@ use Rattle.std.specs.List.{range_with_len}
 use Rattle.std.specs.FinMap.{put, contains_key, get, len}
 use Rattle.key_slot.specs.Record.{Bytes, Record, key_cmp}
 use Rattle.key_slot.specs.Ordered.{without}
-use Rattle.map_model.specs.Cursors.{Cursor, Cursors, first_ahead, next_of, next_in, most_cursors}
+use Rattle.map_model.specs.Cursors.{Cursor, Cursors, first_ahead, last_behind, next_of, next_in, prev_of, prev_in, most_cursors}
 use Rattle.map_model.specs.Store.{Map}
 use Rattle.command_text.specs.CursorLines.{open_line, next_line}
 use Rattle.command_text.specs.declared.reply.Reply.TheVariants as reply
@@ -65,6 +65,36 @@ gives_from_b = refl
 pub gives_below_d : first_ahead (Some b) (Some c) (Some d) at_first ≡ None
 gives_below_d = refl
 
+-- Going back, a cursor without bounds begins behind d, and gives d and c. On it goes to d, and back to c; b is removed, and it
+-- gives a, and its end.
+pub back_gives_d : last_behind None None None at_first ≡ Some (bare d)
+back_gives_d = refl
+
+pub back_gives_c : last_behind None (Some d) None at_first ≡ Some (bare c)
+back_gives_c = refl
+
+pub then_gives_d : first_ahead None (Some c) None at_first ≡ Some (bare d)
+then_gives_d = refl
+
+pub back_gives_a : last_behind None (Some c) None (without key_cmp b at_first) ≡ Some (bare a)
+back_gives_a = refl
+
+pub back_gives_end : last_behind None (Some a) None (without key_cmp b at_first) ≡ None
+back_gives_end = refl
+
+-- bounds: the upper one isn't included, the lower one is; the last key may lie beyond a bound
+pub back_gives_below_d : last_behind (Some b) None (Some d) at_first ≡ Some (bare c)
+back_gives_below_d = refl
+
+pub back_gives_from_b : last_behind (Some b) (Some c) (Some d) at_first ≡ Some (bare b)
+back_gives_from_b = refl
+
+pub back_gives_none_below_b : last_behind (Some b) (Some b) (Some d) at_first ≡ None
+back_gives_none_below_b = refl
+
+pub back_gives_below_high : last_behind None (Some (codes "e")) (Some d) at_first ≡ Some (bare c)
+back_gives_below_high = refl
+
 -- A cursor over a to e gives a; a batch removes b, puts cc and removes e, and it gives c, cc, d, and its end.
 abbrev to_e : List Record
 to_e = map bare (a ∷ b ∷ c ∷ d ∷ codes "e" ∷ [])
@@ -98,6 +128,17 @@ walk (n ∷ ns) past records =
 pub gives_62 : walk (range_with_len 66 62) None (map keyed (range_with_len 1 65)) ≡ map keyed (range_with_len 1 62)
 gives_62 = refl
 
+-- A cursor over keys 10 to 14, which goes back once behind each of the puts of 1 to 5, gives 14 to 10.
+abbrev walk_back : List ℕ → Option Bytes → List Record → List Record
+walk_back [] past records = []
+walk_back (n ∷ ns) past records =
+    let more = put key_cmp (n ∷ []) [] records in
+    let prev = last_behind None past None more in
+    option_to_list prev ++ walk_back ns (option_map (λ (r : Record). r.0) prev) more
+
+pub gives_back : walk_back (range_with_len 1 5) None (map keyed (range_with_len 10 5)) ≡ map keyed (14 ∷ 13 ∷ 12 ∷ 11 ∷ 10 ∷ [])
+gives_back = refl
+
 -- What is answered.
 module _ (cs : Cursors) (name : Bytes) where
   -- a seventeenth cursor
@@ -111,3 +152,6 @@ module _ (cs : Cursors) (name : Bytes) where
   -- behind its end there is no cursor
   pub no_cursor : (m : Map) → get cs name ≡ None → next_line (next_in m cs name) ≡ reply.NoCursor
   no_cursor m none = ap (λ (k : Option Cursor). next_line (option_map (next_of m) k)) none
+
+  pub no_cursor_back : (m : Map) → get cs name ≡ None → next_line (prev_in m cs name) ≡ reply.NoCursor
+  no_cursor_back m none = ap (λ (k : Option Cursor). next_line (option_map (prev_of m) k)) none

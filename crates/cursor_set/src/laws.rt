@@ -1,25 +1,38 @@
 //! What cursors give, in every session.
 
-ghost use Rattle.std.specs.Prelude.{◌≡◌, List, Option, Some, true};
+ghost use Rattle.std.specs.Prelude.{◌≡◌, List, Option, Some, None, true};
 ghost use Rattle.std.specs.FinMap.{get};
 ghost use Rattle.key_slot.specs.Record.{Bytes, IsAscending};
 ghost use Rattle.header_gate.specs.declared.layout.Layout.{Layout};
 ghost use Rattle.map_model.specs.Scan.{is_within};
 ghost use Rattle.command_text.specs.Session.{Session};
 ghost use Rattle.command_text.specs.declared.command.Command.{Command};
-ghost use Rattle.cursor_set.specs.Lives.{InEach, StaysOpen, Ends, HasKey, Each, opened, given, records_of, times};
+ghost use Rattle.cursor_set.specs.Lives.{InEach, StaysOpen, StepsOnly, Ends, HasKey, Each, AreNearest, opened, at_end, given, last_given, records_of, times};
+ghost use Rattle.cursor_set.specs.Ways.{Way, onward, back, IsDescending, NoneBeyond};
 
-/// A law of sessions: whatever commands come between, a cursor that is opened and stays open gives records in strictly
-/// ascending order, within its bounds, each of which is in the map at that moment; and where it comes to its end, each key within
-/// its bounds that was in the map in every state since its opening was given exactly once.
+/// A law of sessions: whatever commands come between, a cursor that is opened and stays open gives records within its bounds, each of
+/// which is in the map at that moment. Where it steps in one way alone, their keys strictly rise, or strictly fall; and where
+/// it comes to its end then, each key within its bounds that was in the map in every state since its opening was given exactly once.
 pub fn cursors_give_each_record_once()
-    ensures ascending { (name : Bytes) (low high : Option Bytes) (l : Layout) (s : Session) (cs : List Command) → StaysOpen name low high l s cs →
+    ensures ascending { (name : Bytes) (low high : Option Bytes) (l : Layout) (s : Session) (cs : List Command) → StaysOpen name low high l s cs → StepsOnly onward name cs →
         IsAscending (records_of (given name low high l s cs)) }
+    ensures descending { (name : Bytes) (low high : Option Bytes) (l : Layout) (s : Session) (cs : List Command) → StaysOpen name low high l s cs → StepsOnly back name cs →
+        IsDescending (records_of (given name low high l s cs)) }
     ensures within { (name : Bytes) (low high : Option Bytes) (l : Layout) (s : Session) (cs : List Command) → StaysOpen name low high l s cs →
-        Each (λ g. is_within low high g.1.0 ≡ true) (given name low high l s cs) }
+        Each (λ g. is_within low high g.row.0 ≡ true) (given name low high l s cs) }
     ensures found { (name : Bytes) (low high : Option Bytes) (l : Layout) (s : Session) (cs : List Command) → StaysOpen name low high l s cs →
-        Each (λ g. get g.0 g.1.0 ≡ Some g.1.1) (given name low high l s cs) }
-    ensures once { (name : Bytes) (low high : Option Bytes) (l : Layout) (s : Session) (cs : List Command) → StaysOpen name low high l s cs → Ends name low high l s cs →
+        Each (λ g. get g.map g.row.0 ≡ Some g.row.1) (given name low high l s cs) }
+    ensures once { (way : Way) (name : Bytes) (low high : Option Bytes) (l : Layout) (s : Session) (cs : List Command) → StaysOpen name low high l s cs → StepsOnly way name cs → Ends way name low high l s cs →
         (key : Bytes) → is_within low high key ≡ true → InEach (HasKey key) l (opened name low high l s) cs →
         times key (records_of (given name low high l s cs)) ≡ 1 }
+{}
+
+/// A law of sessions: whatever commands come between, and in whatever order a cursor that stays open is told to step on and back,
+/// each step gives the record whose key is nearest to the last that it gave: the least above it, or the greatest below. A cursor
+/// that gave none steps on from its lower bound, and back from its upper one. It comes to its end where there is no such record.
+pub fn cursors_step_to_the_nearest()
+    ensures nearest { (name : Bytes) (low high : Option Bytes) (l : Layout) (s : Session) (cs : List Command) → StaysOpen name low high l s cs →
+        AreNearest low high None (given name low high l s cs) }
+    ensures ends { (way : Way) (name : Bytes) (low high : Option Bytes) (l : Layout) (s : Session) (cs : List Command) → StaysOpen name low high l s cs → Ends way name low high l s cs →
+        NoneBeyond way low high (last_given None (given name low high l s cs)) (at_end name low high l s cs).store.map }
 {}

@@ -1,7 +1,7 @@
 //! Cursors that live through updates.
 //!
-//! A cursor walks over the records of an ordered map in ascending order, one a call, while the map changes. It keeps its
-//! bounds and the key of the last record that it gave, and no place in a file: the next record is looked for from there, in the
+//! A cursor steps over the records of an ordered map, one a call, on or back, while the map changes. It keeps its bounds and the key
+//! of the last record that it gave, and no place in a file: the next record, and the previous one, is looked for from there, in the
 //! map as it is then. So no update moves a cursor, whatever is rebalanced or resized.
 #![tactic(auto)]
 
@@ -11,5 +11,5 @@ mod set;
 mod slots;
 
 pub use answers::{Opened, Step};
-pub use laws::cursors_give_each_record_once;
+pub use laws::{cursors_give_each_record_once, cursors_step_to_the_nearest};
 pub use set::CursorSet;

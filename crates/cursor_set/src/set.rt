@@ -3,12 +3,12 @@
 ghost use Rattle.std.specs.Prelude.{◌≡◌, ◌≤◌, false, is_err, is_some, Some, None, IsOk, IfOk, IfErr, OnOk, OnErr, IsErrOf};
 ghost use Rattle.std.specs.FinMap.{get, contains_key, empty, remove};
 ghost use Rattle.station.specs.Bytes.{Same};
-ghost use Rattle.station.specs.View.{Told, EachHeld, NothingPending, Rose};
+ghost use Rattle.station.specs.View.{Told, EachHeld, Rose};
 ghost use Rattle.station.specs.Steps.{Steps};
 ghost use Rattle.header_gate.specs.Places.{file_length};
 ghost use Rattle.map_model.specs.Image.{map_of};
-ghost use Rattle.map_model.specs.Cursors.{Cursor, after_open, next_in, after_next};
-ghost use Rattle.range_scan.specs.Seeking.{ReadsNear, later};
+ghost use Rattle.map_model.specs.Cursors.{Cursor, after_open, next_in, prev_in, after_next, after_prev};
+ghost use Rattle.range_scan.specs.Seeking.{ReadsNear, ReadsBehind, later, earlier};
 ghost use Rattle.cursor_set.specs.Answers.{opening, told_by, after_step};
 
 use super::answers::{Opened, Step};
@@ -103,7 +103,7 @@ impl CursorSet {
     ) -> Result<Step, StoreFault>
         requires open { R.closed store.old ≡ false }
         requires store { EachHeld (R.stands store.old) (S.view station.old) }
-        requires nothing { NothingPending (S.view station.old) }
+        requires rests { R.rests store.old (S.view station.old) }
         requires reach { file_length (R.kept store.old).layout ≤ (S.view station.old).fixed.reach }
         ensures answer { IfOk result (λ step. Told (S.view station.old) → told_by step ≡ next_in (map_of (S.view station.old).held) self.old name.now) }
         ensures known { IfOk result (λ step. is_some (told_by step) ≡ contains_key self.old name.now) }
@@ -117,7 +117,7 @@ impl CursorSet {
         ensures state { R.state store.new ≡ R.state store.old }
         ensures kept { R.kept store.new ≡ R.kept store.old }
         ensures store { OnOk result (EachHeld (R.stands store.new) (S.view station.new)) }
-        ensures settled { OnOk result (NothingPending (S.view station.new)) }
+        ensures rests { OnOk result (R.rests store.new (S.view station.new)) }
         ensures steps { Steps Same (S.view station.old) (S.view station.new) }
         ensures reads { (k : Cursor) → get self.old name.now ≡ Some k → ReadsNear (later k.low k.past) (R.kept store.old) result (S.view station.old) (S.view station.new) }
         ensures idle { get self.old name.now ≡ None → (S.view station.new).travel ≡ (S.view station.old).travel }
@@ -140,5 +140,49 @@ impl CursorSet {
             }
             Err(fault) => Err(fault),
         }
+    }
+
+    /// The previous record of a cursor: that with the greatest key within its bounds which is below the key of the last record
+    /// that it gave. A cursor that gave none steps back from its upper bound.
+    ///
+    /// Where there is none the cursor is closed. It reads at most two segments, and without a cursor none. A fault of the store leaves the set as it was.
+    pub fn step_back<S: Station, R: Seek>(
+        &mut self,
+        store: &mut R,
+        station: &mut S,
+        name: &Key,
+    ) -> Result<Step, StoreFault>
+        requires open { R.closed store.old ≡ false }
+        requires store { EachHeld (R.stands store.old) (S.view station.old) }
+        requires rests { R.rests store.old (S.view station.old) }
+        requires reach { file_length (R.kept store.old).layout ≤ (S.view station.old).fixed.reach }
+        ensures answer { IfOk result (λ step. Told (S.view station.old) → told_by step ≡ prev_in (map_of (S.view station.old).held) self.old name.now) }
+        ensures known { IfOk result (λ step. is_some (told_by step) ≡ contains_key self.old name.now) }
+        ensures after { IfOk result (λ step. self.new ≡ after_step self.old name.now step) }
+        ensures prev { OnOk result (Told (S.view station.old) → self.new ≡ after_prev (map_of (S.view station.old).held) self.old name.now) }
+        ensures unchanged { OnErr result (self.new ≡ self.old) }
+        ensures complete { Told (S.view station.old) → ¬ Rose (S.view station.old).disk_faults (S.view station.new).disk_faults → IsOk result }
+        ensures damaged { IfErr result (λ fault. Told (S.view station.old) → fault ≡ StoreFault.Failed) }
+        ensures failed { IsErrOf result StoreFault.Failed → Rose (S.view station.old).disk_faults (S.view station.new).disk_faults }
+        ensures closed { R.closed store.new ≡ is_err result }
+        ensures state { R.state store.new ≡ R.state store.old }
+        ensures kept { R.kept store.new ≡ R.kept store.old }
+        ensures store { OnOk result (EachHeld (R.stands store.new) (S.view station.new)) }
+        ensures rests { OnOk result (R.rests store.new (S.view station.new)) }
+        ensures steps { Steps Same (S.view station.old) (S.view station.new) }
+        ensures reads { (k : Cursor) → get self.old name.now ≡ Some k → ReadsBehind (earlier k.past k.high) (R.kept store.old) result (S.view station.old) (S.view station.new) }
+        ensures idle { get self.old name.now ≡ None → (S.view station.new).travel ≡ (S.view station.old).travel }
+        ensures uncalled { get self.old name.now ≡ None → (S.view station.new).calls ≡ (S.view station.old).calls }
+    {
+        let Some((place, entry)) = find_entry(&self.slots, name) else {
+            return Ok(Step::NoCursor);
+        };
+        let Some(row) = store.last_row(station, entry.low, entry.past, entry.high)? else {
+            self.slots[place] = None;
+            return Ok(Step::End);
+        };
+        let past = Some(row.key);
+        self.slots[place] = Some(Entry { past, ..entry });
+        Ok(Step::Row(row))
     }
 }

@@ -5,9 +5,10 @@ use Rattle.std.proofs.lemmas.Bool.Decides.{nat_tests}
 use Rattle.std.proofs.lemmas.Bool.{cases_lt}
 use Rattle.station.specs.Bytes.{byte}
 use Rattle.header_gate.specs.declared.layout.Layout.{Layout}
-use Rattle.header_gate.specs.Header.{gate, live_copy}
+use Rattle.header_gate.specs.Header.{live_copy}
 use Rattle.header_gate.specs.Places.{table_place, image_place, journal_end, region_place, page_place, area_place, file_length, page_size}
-use Rattle.header_gate.specs.Recovered.{is_in_page, laid_byte, is_journal, recovered, laid_over, table_numbers, Ascends}
+use Rattle.header_gate.specs.Recovered.{is_in_page, laid_byte, is_journal, recovered, laid_over, live_shift, live_table, is_laid, Ascends}
+use Rattle.header_gate.specs.InPlace.{IsRecovered}
 use Rattle.header_gate.proofs.RecoveredBytes.{byte-recovered, byte-laid_over}
 
 -- Places.
@@ -93,11 +94,11 @@ before_all region p ns lt j below = outside region (get_or ns j 0) p (inl (omega
 pub recovered_page : (l : Layout) (file : List ℕ) (p : ℕ) → p < length file → p < page_size → (p ≡ 512 → ⊥) → byte (recovered l file) p ≡ byte file p
 recovered_page l file p lt low other =
     let region = region_place l (live_copy file) in
-    let laid = laid_byte region (λ k o. byte file (image_place l k + o)) (byte file p) p 0 (table_numbers file) in
+    let laid = laid_byte region (λ k o. byte file (image_place l k + live_shift l file + o)) (byte file p) p 0 (live_table l file) in
     let before : p < region = omega (arith, low, page_before l (live_copy file)) in
     byte-recovered l file p lt
-    ∙ ap (λ (b : Bool). cond b 0 (cond (gate file == 1) laid (byte file p))) (not_journal l p other (inl low))
-    ∙ either (gate file == 1) laid (byte file p) (laid_beside region (λ k o. byte file (image_place l k + o)) (byte file p) p 0 (table_numbers file) (before_all region p (table_numbers file) before))
+    ∙ ap (λ (b : Bool). cond b 0 (cond (is_laid l file) laid (byte file p))) (not_journal l p other (inl low))
+    ∙ either (is_laid l file) laid (byte file p) (laid_beside region (λ k o. byte file (image_place l k + live_shift l file + o)) (byte file p) p 0 (live_table l file) (before_all region p (live_table l file) before))
 
 -- images laid over a region leave the header page
 pub laid_over_page : (l : Layout) (live : ℕ) (numbers : List ℕ) (image : ℕ → ℕ → ℕ) (file : List ℕ) (p : ℕ) → p < length file → p < page_size → byte (laid_over l live numbers image file) p ≡ byte file p
@@ -107,14 +108,11 @@ laid_over_page l live numbers image file p lt low =
 
 -- The pages.
 
--- with an even gate, what lies behind the journal stays
-pub recovered_behind : (l : Layout) (file : List ℕ) (p : ℕ) → gate file ≡ 0 → p < length file → journal_end l ≤ p → byte (recovered l file) p ≡ byte file p
-recovered_behind l file p even lt behind =
-    let laid = laid_byte (region_place l (live_copy file)) (λ k o. byte file (image_place l k + o)) (byte file p) p 0 (table_numbers file) in
+-- where the journal lies in place, what lies behind the journals stays
+pub recovered_behind : (l : Layout) (file : List ℕ) (p : ℕ) → IsRecovered l file → p < length file → journal_end l ≤ p → byte (recovered l file) p ≡ byte file p
+recovered_behind l file p is lt behind =
     let other : p ≡ 512 → ⊥ = λ e. omega (arith, e, behind, page_before l 0) in
-    byte-recovered l file p lt
-    ∙ ap (λ (b : Bool). cond b 0 (cond (gate file == 1) laid (byte file p))) (not_journal l p other (inr behind))
-    ∙ ap (λ (n : ℕ). cond (n == 1) laid (byte file p)) even
+    byte-recovered l file p lt ∙ is p (not_journal l p other (inr behind))
 
 -- a byte of a laid page is its image's
 pub laid_over_named : (l : Layout) (live : ℕ) (numbers : List ℕ) (image : ℕ → ℕ → ℕ) (file : List ℕ) (k o : ℕ) → Ascends numbers → k < length numbers → o < page_size

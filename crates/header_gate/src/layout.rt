@@ -1,6 +1,6 @@
 //! Where the parts of a store's file lie.
 
-ghost use Rattle.std.specs.Prelude.{◌≡◌, ◌^◌, ◌<◌, ◌≤◌};
+ghost use Rattle.std.specs.Prelude.{◌≡◌, ◌+◌, ◌^◌, ◌<◌, ◌≤◌, ◌↔◌, IsTrue};
 
 /// The greatest height limit that a file may have.
 pub const GREATEST_HEIGHT: u32 = 16;
@@ -14,8 +14,11 @@ pub const LATEST_VERSION: u32 = 3;
 /// The first version of a file whose header page has an intent.
 pub const INTENT_VERSION: u32 = 2;
 
-/// The version of a file whose index stands behind its regions, the greatest that a layout may have.
+/// The first version of a file whose index stands behind its regions.
 pub const INDEXED: u32 = 3;
+
+/// The version of a file that has two journals, by turns, the greatest that a layout may have.
+pub const PAIRED: u32 = 4;
 
 /// The fewest pages that a journal may hold.
 pub const LEAST_JOURNAL: u32 = 4;
@@ -45,21 +48,21 @@ pub const TABLE: u64 = PAGE as u64;
 const AREA_SHARE: u64 = 68;
 
 /// What a file was made with: its height limit, 0 to 16, its journal size in pages, 4 to max(4, 2^hmax), and its version,
-/// 1 to 3; and the slot format of its live region, 1, or 2 where the height limit is at least 1.
+/// 1 to 4; and the slot format of its live region, 1, or 2 where the height limit is at least 1.
 #[derive(Clone, Copy)]
 pub struct Layout {
     /// The greatest height that the store may have.
     pub hmax: u32,
     /// How many pages the journal holds.
     pub journal: u32,
-    /// What else the file has: an intent from 2 on, and an index at 3.
+    /// What else the file has: an intent from 2 on, an index from 3 on, and a second journal at 4.
     pub version: u32,
     /// The slot format: how many pages a segment has.
     pub format: u32,
 }
 
 impl Layout {
-    ghost use Rattle.header_gate.specs.Places.{IsLayout, height_limit, pages_at, table_size, image_place, region_place, page_place, segment_place, area_place, area_size, file_length, segment_size};
+    ghost use Rattle.header_gate.specs.Places.{IsLayout, height_limit, pages_at, table_place, table_size, journal_shift, image_place, journal_end, region_place, page_place, segment_place, area_place, area_size, file_length, segment_size};
 
     /// The length of the file in bytes.
     pub fn length(&self) -> u64
@@ -84,7 +87,7 @@ impl Layout {
         ensures size { result ≡ area_size self.now }
         ensures most { result < 2 ^ 24 }
     {
-        if self.version == INDEXED {
+        if self.version >= INDEXED {
             (AREA_SHARE * self.pages() + (PAGE as u64 - 1)) / PAGE as u64 * PAGE as u64
         } else {
             0
@@ -110,12 +113,49 @@ impl Layout {
         self.format << height
     }
 
-    /// The place of image `k` of the journal.
+    /// Whether the file has two journals.
+    pub fn is_paired(&self) -> bool
+        ensures { IsTrue result ↔ (self.now.version ≡ PAIRED) }
+    {
+        self.version == PAIRED
+    }
+
+    /// The place of the table of journal 0 or 1. Before version 4 there is one journal, and either number is its.
+    pub fn table_at(&self, turn: u32) -> u64
+        requires { IsLayout self.now }
+        ensures place { result ≡ table_place + journal_shift self.now turn }
+        ensures most { result < 2 ^ 31 }
+    {
+        TABLE + self.shift(turn)
+    }
+
+    /// The place of image `k` of the first journal.
     pub fn image_at(&self, k: u32) -> u64
         requires { IsLayout self.now }
         ensures { result ≡ image_place self.now k }
     {
         TABLE + self.table_size() + PAGE as u64 * k as u64
+    }
+
+    /// The place of image `k` of journal 0 or 1.
+    pub fn image_in(&self, turn: u32, k: u32) -> u64
+        requires { IsLayout self.now }
+        ensures { result ≡ image_place self.now k + journal_shift self.now turn }
+    {
+        TABLE + self.table_size() + PAGE as u64 * k as u64 + self.shift(turn)
+    }
+
+    // How far behind the first journal a journal stands.
+    fn shift(&self, turn: u32) -> u64
+        requires { IsLayout self.now }
+        ensures shift { result ≡ journal_shift self.now turn }
+        ensures most { result < 2 ^ 30 }
+    {
+        if self.version == PAIRED && turn == 1 {
+            self.table_size() + PAGE as u64 * self.journal as u64
+        } else {
+            0
+        }
     }
 
     /// The place of a page of region 0 or 1. Region 2 would begin at the end of the regions.
@@ -150,7 +190,7 @@ impl Layout {
         ensures place { result ≡ region_place self.now region }
         ensures small { result < 2 ^ 40 }
     {
-        self.image_at(self.journal) + PAGE as u64 * self.pages() * region as u64
+        self.image_in(1, self.journal) + PAGE as u64 * self.pages() * region as u64
     }
 
     // The journal's table is a count and so many numbers, in whole pages.

@@ -10,6 +10,7 @@ use Rattle.std.proofs.Math.Pow.{pow_mono}
 use Rattle.station.specs.Bytes.{byte, InRange, Touched, Written}
 use Rattle.key_slot.specs.Format.{wide, key_room}
 use Rattle.key_slot.specs.Record.{Bytes}
+use Rattle.header_gate.proofs.Shifts.{shift_size}
 use Rattle.header_gate.specs.declared.layout.Layout.{Layout}
 use Rattle.header_gate.specs.Header.{number}
 use Rattle.header_gate.specs.Places.{IsLayout, area_place, area_size, file_length}
@@ -47,7 +48,7 @@ pub place_small : (l : Layout) (n : ℕ) → IsLayout l → n < 2 ^ 31 → area_
 place_small l n is small =
     let pages : 2 ^ l.hmax ≤ 2 ^ 16 = pow_mono is.hmax in
     let most : l.journal ≤ 65536 = omega (arith, is.most, pages) in
-    omega (arith, pages, most, small)
+    omega (arith, pages, most, small, shift_size l 1)
 
 pub node_before_counts : (l : Layout) (h x : ℕ) → h ≤ l.hmax → x < 2 ^ h - 1 → node_place l x + 64 ≤ count_place l 0
 node_before_counts l h x low lt = let more : 2 ^ h ≤ 2 ^ l.hmax = pow_mono low in omega (arith, more, lt)

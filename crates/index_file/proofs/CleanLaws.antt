@@ -2,8 +2,9 @@
 use Rattle.std.proofs.Common.{◌≡◌, ◌⊎◌, inl, inr, ℕ, zero, suc, ◌%◌, ◌≤◌, List, Some, None, refl, sym, ap, subst, ◌∙◌, arith}
 use Rattle.std.specs.Prelude.{Option}
 use Rattle.station.specs.Bytes.{byte, Touched}
+use Rattle.header_gate.specs.InPlace.{IsBare}
 use Rattle.header_gate.specs.declared.layout.Layout.{Layout}
-use Rattle.header_gate.specs.Header.{gate, intent_gate, clean_gate, layout_in}
+use Rattle.header_gate.specs.Header.{intent_gate, clean_gate, layout_in}
 use Rattle.header_gate.specs.declared.reason.Reason.{Reason}
 use Rattle.header_gate.specs.Places.{area_place}
 use Rattle.header_gate.specs.Reasons.{header_reason}
@@ -29,21 +30,21 @@ area_same l low h fence counts old new same is = record {
 }
 
 -- an image with the index of its array, which differs from a settled one in the clean gate and in the index alone
-pub left_new : (l : Layout) (old new : List ℕ) (m : Map) (height : ℕ) (is : Represents old m height) (even : gate old ≡ 0) (layout_is : layout_in old ≡ l) (touched : Touched (λ k. IsCleanPlace k ⊎ IsAreaPlace l k) old new)
+pub left_new : (l : Layout) (old new : List ℕ) (m : Map) (height : ℕ) (is : Represents old m height) (bare : IsBare (layout_in old) old) (layout_is : layout_in old ≡ l) (touched : Touched (λ k. IsCleanPlace k ⊎ IsAreaPlace l k) old new)
     → intent_gate old ≡ 0 → IsBalancedArray height (array_in old height) → HasArea l height (fence_of_segment (array_in old height)) (counts_of (array_in old height)) new → IsLeft new
-left_new l old new m height is even layout_is touched intent balanced area =
-    let tall : height_of new ≡ height = kept.height_same l old new m height is even layout_is touched ∙ is.height_is in
-    let array : array_in new height ≡ array_in old height = kept.array_same l old new m height is even layout_is touched in
-    let layout : layout_in new ≡ l = kept.layout_same l old new m height is even layout_is touched ∙ layout_is in
+left_new l old new m height is bare layout_is touched intent balanced area =
+    let tall : height_of new ≡ height = kept.height_same l old new m height is bare layout_is touched ∙ is.height_is in
+    let array : array_in new height ≡ array_in old height = kept.array_same l old new m height is bare layout_is touched in
+    let layout : layout_in new ≡ l = kept.layout_same l old new m height is bare layout_is touched ∙ layout_is in
     let P : ℕ → Type 0 = λ h. IsBalancedArray h (array_in new h) in
     let Q : ℕ → Type 0 = λ h. HasArea (layout_in new) h (fence_of_segment (array_in new h)) (counts_of (array_in new h)) new in
     let A : Array → Type 0 = λ a. IsBalancedArray height a in
     let B : Array → Type 0 = λ a. HasArea l height (fence_of_segment a) (counts_of a) new in
     let C : Layout → Type 0 = λ x. HasArea x height (fence_of_segment (array_in new height)) (counts_of (array_in new height)) new in
     record {
-      represents = kept.own l old new m height is even layout_is touched;
-      gate_even = kept.still_even l old new m height is even layout_is touched;
-      intent_even = kept.intent_same l old new m height is even layout_is touched ∙ intent;
+      represents = kept.own l old new m height is bare layout_is touched;
+      bare = kept.still_bare l old new m height is bare layout_is touched;
+      intent_even = kept.intent_same l old new m height is bare layout_is touched ∙ intent;
       balanced = subst P (sym tall) (subst A (sym array) balanced);
       area = subst Q (sym tall) (subst C (sym layout) (subst B (sym array) area));
     }
@@ -54,7 +55,7 @@ left_kept old new left touched =
     let l = layout_in old in
     let wide : Touched (λ k. IsCleanPlace k ⊎ IsAreaPlace l k) old new = record { size = touched.size; rest = λ k out. touched.rest k (λ here. out (inl here)) } in
     let behind : (k : ℕ) → area_place l ≤ k → byte new k ≡ byte old k = λ k past. touched.rest k (λ e. omega (arith, e, past, page_before l 2)) in
-    left_new l old new (map_of old) (height_of old) left.represents left.gate_even refl wide left.intent_even left.balanced (area_same l left.represents.header.layout.format.most (height_of old) _ _ old new behind left.area)
+    left_new l old new (map_of old) (height_of old) left.represents left.bare refl wide left.intent_even left.balanced (area_same l left.represents.header.layout.format.most (height_of old) _ _ old new behind left.area)
 
 -- the version stays where the clean gate alone changes
 pub version_kept : (old new : List ℕ) → Touched IsCleanPlace old new → version_of new ≡ version_of old
@@ -105,7 +106,7 @@ leaves_last l old mid new first left second = record {
 }
 
 -- written behind the regions, with the index of its array
-pub left_written : (l : Layout) (old new : List ℕ) (m : Map) (height : ℕ) → Represents old m height → gate old ≡ 0 → intent_gate old ≡ 0 → layout_in old ≡ l → IsBalancedArray height (array_in old height)
+pub left_written : (l : Layout) (old new : List ℕ) (m : Map) (height : ℕ) → Represents old m height → IsBare (layout_in old) old → intent_gate old ≡ 0 → layout_in old ≡ l → IsBalancedArray height (array_in old height)
     → Touched (IsAreaPlace l) old new → HasArea l height (fence_of_segment (array_in old height)) (counts_of (array_in old height)) new → IsLeft new
-left_written l old new m height is even intent layout balanced touched area =
-    left_new l old new m height is even layout (record { size = touched.size; rest = λ k out. touched.rest k (λ here. out (inr here)) }) intent balanced area
+left_written l old new m height is bare intent layout balanced touched area =
+    left_new l old new m height is bare layout (record { size = touched.size; rest = λ k out. touched.rest k (λ here. out (inr here)) }) intent balanced area

@@ -6,8 +6,13 @@ use Rattle.station.specs.Bytes.{byte, Touched}
 use Rattle.station.proofs.Ranges.{range_same}
 use Rattle.key_slot.specs.Segment.{IsSegment, segment_of}
 use Rattle.header_gate.specs.declared.layout.Layout.{Layout}
+use Rattle.header_gate.specs.declared.layout.TheConstants.{PAIRED}
+use Rattle.header_gate.specs.InPlace.{IsBare}
+use Rattle.header_gate.proofs.Journals.{bare_recovered, bare_sound, bare_still}
+use Rattle.header_gate.proofs.Recoveries.{laid_odd}
+use Rattle.std.proofs.lemmas.Bool.{cases_eq}
 use Rattle.header_gate.specs.Header.{gate, intent_gate, live_copy, layout_in, format_in, number}
-use Rattle.header_gate.specs.Places.{IsFormat, segment_size, segment_place, copy_place, area_place, height_limit, page_size}
+use Rattle.header_gate.specs.Places.{IsFormat, segment_size, segment_place, copy_place, journal_end, area_place, height_limit, page_size}
 use Rattle.header_gate.specs.Reasons.{IsSoundHeader}
 use Rattle.header_gate.proofs.NumberLaws.{number_same}
 use Rattle.header_gate.proofs.RecoveredPages.{page_before}
@@ -21,7 +26,14 @@ use Rattle.map_model.proofs.Reasonings.{length-array_in, segment_at-array_in}
 use Rattle.map_model.proofs.Recovering.{represents_own}
 use Rattle.index_file.specs.Clean.{IsCleanPlace, IsAreaPlace}
 
-module _ (l : Layout) (old new : List ℕ) (m : Map) (height : ℕ) (is : Represents old m height) (even : gate old ≡ 0) (layout_is : layout_in old ≡ l) (touched : Touched (λ k. IsCleanPlace k ⊎ IsAreaPlace l k) old new) where
+-- with one journal the gate is even then
+pub even_of_bare : (l : Layout) (file : List ℕ) → (l.version ≡ PAIRED → ⊥) → IsBare l file → gate file ≡ 0
+even_of_bare l file single bare = elim (cases_eq (gate file) 1) [
+  | inl odd ↦ absurd (single (bare (laid_odd l file odd)).0)
+  | inr isnt ↦ omega (arith, isnt)
+]
+
+module _ (l : Layout) (old new : List ℕ) (m : Map) (height : ℕ) (is : Represents old m height) (bare : IsBare (layout_in old) old) (layout_is : layout_in old ≡ l) (touched : Touched (λ k. IsCleanPlace k ⊎ IsAreaPlace l k) old new) where
   -- the header page lies before the index
   before : page_size ≤ area_place l
   before = omega (arith, page_before l 2)
@@ -54,8 +66,11 @@ module _ (l : Layout) (old new : List ℕ) (m : Map) (height : ℕ) (is : Repres
   sound : IsSoundHeader new
   sound = sound_same old new is.header touched.size (λ k low high. page k (omega (arith, high)) (λ at. omega (arith, at, low))) (subst (IsFormat (number old 3084)) (sym format_same) is.header.layout.format) (omega (arith, height_same, format_same, is.header.height, is.header.layout.format.room))
 
-  pub still_even : gate new ≡ 0
-  still_even = ap (λ (b : ℕ). b % 2) (page 512 (omega arith) (λ at. omega (arith, at))) ∙ even
+  pub still_bare : IsBare (layout_in new) new
+  still_bare =
+      let first : journal_end (layout_in old) ≤ area_place l = subst (λ (x : Layout). journal_end (layout_in old) ≤ area_place x) layout_is (omega arith) in
+      subst (λ (x : Layout). IsBare x new) (sym layout_same)
+      (bare_still (layout_in old) old new (page 512 (omega arith) (λ at. omega (arith, at))) (λ k low high. same k (λ at. omega (arith, at, low)) (omega (arith, high, first))) bare)
 
   pub intent_same : intent_gate new ≡ intent_gate old
   intent_same = ap (λ (b : ℕ). b % 2) (page 640 (omega arith) (λ at. omega (arith, at)))
@@ -70,10 +85,10 @@ module _ (l : Layout) (old new : List ℕ) (m : Map) (height : ℕ) (is : Repres
       let own = segment_size (layout_in old) in
       let end : at + own ≤ length old = omega (arith, is.header.size, segment_within (layout_in old) (live_copy old) i is.header.layout.format (omega arith) low) in
       let area : at + own ≤ area_place l = subst (λ (x : Layout). at + own ≤ area_place x) layout_is (segment_before_area (layout_in old) (live_copy old) i is.header.layout.format (omega arith) low) in
-      even_segment new sound still_even i here
+      even_segment new sound (bare_recovered (layout_in new) new still_bare) i here
       ∙ (λ t. slice_range new (segment_place (layout_same t) (live_same t) i) (segment_place (layout_same t) (live_same t) i + segment_size (layout_same t)))
       ∙ range_same old new at (at + own) (omega arith) end (omega (arith, end, touched.size)) (λ k from to. same k (λ e. omega (arith, e, from, page_before (layout_in old) (live_copy old))) (omega (arith, to, area)))
-      ∙ sym (even_segment old is.header even i low)
+      ∙ sym (even_segment old is.header (bare_recovered (layout_in old) old bare) i low)
 
   slots_same : slot_format new ≡ slot_format old
   slots_same = ap (λ (x : Layout). x.format) layout_same
@@ -88,7 +103,7 @@ module _ (l : Layout) (old new : List ℕ) (m : Map) (height : ℕ) (is : Repres
   still_represents = record {
     header = sound;
     height_is = height_same ∙ is.height_is;
-    journal = λ odd. absurd (omega (arith, odd, still_even));
+    journal = bare_sound (layout_in new) height new still_bare;
     array = is.array;
     size = is.size;
     segments = λ i lt. subst (λ (f : ℕ). IsSegment f (segment_at is.array i) (live_segment new i)) (sym slots_same) (subst (IsSegment (slot_format old) (segment_at is.array i)) (sym (segment_same i lt)) (is.segments i lt));

@@ -3,6 +3,7 @@ use Rattle.std.proofs.Common.{◌≡◌, ℕ, zero, suc, Bool, true, false, None
 use Rattle.std.proofs.lemmas.Bool.{lt-ltb, le-leb}
 use Rattle.density_rule.specs.Marks.{no_marks}
 use Rattle.density_rule.specs.Windows.{IsBalanced}
+use Rattle.header_gate.specs.InPlace.{IsBare}
 use Rattle.header_gate.specs.declared.layout.Layout.{Layout}
 use Rattle.header_gate.specs.declared.header.Header.{Header}
 use Rattle.header_gate.specs.declared.layout.TheConstants.{INDEXED}
@@ -12,6 +13,7 @@ use Rattle.std.specs.Prelude.{IsTrue, ◌↔◌, ◌%◌}
 use Rattle.std.proofs.lemmas.Bool.{false≢true}
 use Rattle.std.proofs.lemmas.Bool.Decides.{nat_tests}
 use Rattle.station.specs.Bytes.{byte}
+use Rattle.index_file.proofs.Kept.{even_of_bare}
 use Rattle.index_file.specs.Opening.{IsQuick, is_quick}
 use Rattle.map_model.specs.Array.{counts_of}
 use Rattle.map_model.specs.Image.{array_in, array_of, height_of}
@@ -74,7 +76,7 @@ quick_agrees place tally index held left layout region tall index_h nodes counts
     record {
       stands = record {
         stands = record {
-          settled = record { represents = left.represents; gate_even = left.gate_even; layout_is = layout; region_is = region };
+          settled = record { represents = left.represents; gate_even = λ single. even_of_bare place.layout held single (subst (λ (l : Layout). IsBare l held) layout left.bare); layout_is = layout; region_is = region };
           height_is = tall;
           counts_are = own;
         };

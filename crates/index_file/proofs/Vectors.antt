@@ -1,6 +1,7 @@
 -- The index in the file at worked values: a store of 65 records in two segments, of at most four.
 use Rattle.std.proofs.Common.{◌≡◌, ℕ, List, [], ◌∷◌, ◌++◌, replicate, true, false, Some, None, map, refl}
 use Rattle.std.specs.List.{range_with_len}
+use Rattle.header_gate.specs.Places.{journal_shift}
 use Rattle.header_gate.specs.declared.layout.Layout.{Layout}
 use Rattle.header_gate.specs.declared.reason.Reason.TheVariants.{Index}
 use Rattle.map_model.specs.Reasons.{first_reason}
@@ -16,9 +17,11 @@ layout = record { hmax = 2; journal = 4; version = 3; format = 1 }
 
 -- the index stands behind region 1
 node_0 : node_place layout 0 ≡ 57344
+unfolding journal_shift
 node_0 = refl
 
 count_0 : count_place layout 0 ≡ 57600
+unfolding journal_shift
 count_0 = refl
 
 -- node 0 with the fence k033 between segments 0 and 1, and some bytes before and behind it
@@ -68,11 +71,11 @@ root = refl
 
 -- the second segment has too few records, or the root too many
 few : row_reason layout 1 (32 ∷ 3 ∷ []) 0 ≡ Some (Index 57604)
-unfolding first_reason
+unfolding first_reason journal_shift
 few = refl
 
 many : row_reason layout 1 (63 ∷ 64 ∷ []) 1 ≡ Some (Index 57600)
-unfolding first_reason
+unfolding first_reason journal_shift
 many = refl
 
 -- the nodes of three levels by their positions, and the links of the root and of a lowest node

@@ -5,10 +5,11 @@ use Rattle.std.specs.Option.{unwrap_or}
 use Rattle.station.specs.Bytes.{Touched}
 use Rattle.station.specs.View.{View, Told, Honest, NothingPending}
 use Rattle.station.specs.Steps.{LeavesOnly}
+use Rattle.header_gate.specs.InPlace.{IsBare}
 use Rattle.header_gate.specs.declared.gate.Gate.TheVariants.{Clean}
 use Rattle.header_gate.specs.declared.layout.Layout.{Layout}
 use Rattle.header_gate.specs.declared.layout.TheConstants.{INDEXED}
-use Rattle.header_gate.specs.Header.{gate, intent_gate, clean_gate, layout_in, IsPlaceOf}
+use Rattle.header_gate.specs.Header.{intent_gate, clean_gate, layout_in, IsPlaceOf}
 use Rattle.header_gate.specs.Places.{area_place}
 use Rattle.header_gate.specs.Reasons.{header_reason}
 use Rattle.key_slot.specs.Record.{Bytes}
@@ -26,11 +27,11 @@ version_of image = (layout_in image).version
 abbrev pub fence_of_segment : Array → ℕ → Bytes
 fence_of_segment segments i = unwrap_or (first_key segments i) []
 
--- the image has an index, and may be opened by it: it is a valid file with its journal's and its intent's gate even and
--- every window within its bounds, and the index is that of its array
+-- the image has an index, and may be opened by it: it is a valid file over which no page is to be laid, with its intent's gate
+-- even and every window within its bounds, and the index is that of its array
 pub record IsLeft (image : List ℕ) : Type 0 where
   pub represents : Represents image (map_of image) (height_of image)
-  pub gate_even : gate image ≡ 0
+  pub bare : IsBare (layout_in image) image
   pub intent_even : intent_gate image ≡ 0
   pub balanced : IsBalancedArray (height_of image) (array_of image)
   pub area : HasArea (layout_in image) (height_of image) (fence_of_segment (array_of image)) (counts_of (array_of image)) image

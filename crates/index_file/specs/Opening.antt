@@ -73,5 +73,6 @@ pub record IsOpenedQuickly (parts : Parts) (a b : View) : Type 0 where
   pub indexed : parts.place.layout.version ≡ INDEXED
   pub unrested : parts.tally.marks ≡ no_marks parts.tally.height
   pub no_intent : parts.intent ≡ None
+  pub turn : parts.frames.turn ≡ 0
   pub travel : b.travel ≡ after_area parts.place.layout parts.tally.height a.travel
   pub calls : b.calls ≤ a.calls + area_calls parts.tally.height

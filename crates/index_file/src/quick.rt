@@ -35,6 +35,7 @@ pub fn open_quick<S: Station>(alloc: Global, station: &mut S) -> Result<Option<P
     ensures indexed { IfOk result (λ given. IfSome given (λ parts. parts.place.layout.version ≡ INDEXED)) }
     ensures unrested { IfOk result (λ given. IfSome given (λ parts. parts.tally.marks ≡ no_marks parts.tally.height)) }
     ensures no_intent { IfOk result (λ given. IfSome given (λ parts. parts.intent ≡ None)) }
+    ensures turn { IfOk result (λ given. IfSome given (λ parts. parts.frames.turn ≡ 0)) }
     ensures settled { OnOk result (NothingPending (S.view station.new)) }
 
     // Which files are opened so, and which aren't.

@@ -1,5 +1,5 @@
 -- Images that differ beside the live parts, and images that name the other region.
-use Rattle.std.proofs.Common.{◌≡◌, ◌⊎◌, inl, inr, ℕ, zero, suc, ◌+◌, ◌-◌, ◌*◌, ◌%◌, ◌^◌, ◌<◌, ◌≤◌, List, [], length, slice_range, refl, sym, ap, subst, ◌∙◌, arith}
+use Rattle.std.proofs.Common.{◌≡◌, ◌⊎◌, inl, inr, ℕ, zero, suc, ◌+◌, ◌-◌, ◌*◌, ◌^◌, ◌<◌, ◌≤◌, List, [], length, slice_range, refl, sym, ap, subst, ◌∙◌, arith}
 use Rattle.std.proofs.lemmas.List.{ext_get_or}
 use Rattle.std.proofs.Math.Pow.{pow_mono}
 use Rattle.station.specs.Bytes.{byte, InRange}
@@ -7,8 +7,11 @@ use Rattle.station.proofs.Ranges.{range_same}
 use Rattle.key_slot.specs.Segment.{IsSegment, segment_of}
 use Rattle.header_gate.specs.declared.layout.Layout.{Layout}
 use Rattle.header_gate.specs.Flip.{Flipped, FlipPlaces}
-use Rattle.header_gate.specs.Header.{gate, live_copy, layout_in, height_in, format_in, number}
-use Rattle.header_gate.specs.Places.{IsFormat, segment_size, segment_place, copy_place, journal_end, file_length, height_limit, page_size}
+use Rattle.header_gate.specs.Header.{live_copy, layout_in, height_in, format_in, number}
+use Rattle.header_gate.specs.InPlace.{IsRecovered, IsBare}
+use Rattle.header_gate.specs.Recovered.{IsJournalSound}
+use Rattle.header_gate.proofs.Journals.{bare_recovered, bare_sound, bare_still}
+use Rattle.header_gate.specs.Places.{IsFormat, segment_size, segment_place, copy_place, table_place, journal_end, file_length, height_limit, page_size}
 use Rattle.header_gate.specs.Reasons.{IsSoundHeader}
 use Rattle.header_gate.proofs.NumberLaws.{number_same}
 use Rattle.header_gate.proofs.RecoveredPages.{page_before}
@@ -47,7 +50,7 @@ on_page l spare k small low high (inl below) (inr (inl copy)) = omega (arith, co
 on_page l spare k small low high (inr above) (inr (inl copy)) = omega (arith, copy.1, above, small)
 on_page l spare k small low high out (inr (inr region)) = omega (arith, region.0, high, page_before l spare)
 
-module _ (l : Layout) (old new : List ℕ) (m : Map) (height : ℕ) (is : Represents old m height) (even : gate old ≡ 0) (layout_is : layout_in old ≡ l) (spares : Spares l (live_copy old) old new) where
+module _ (l : Layout) (old new : List ℕ) (m : Map) (height : ℕ) (is : Represents old m height) (bare : IsBare l old) (layout_is : layout_in old ≡ l) (spares : Spares l (live_copy old) old new) where
   small : live_copy old < 2
   small = omega arith
 
@@ -88,8 +91,14 @@ module _ (l : Layout) (old new : List ℕ) (m : Map) (height : ℕ) (is : Repres
   sound : IsSoundHeader new
   sound = sound_same old new is.header spares.touched.size (λ k low high. behind k low (omega (arith, high))) (subst (IsFormat (number old 3084)) (sym format_same) is.header.layout.format) (omega (arith, height_same, format_same, is.header.height, is.header.layout.format.room))
 
-  pub still_even : gate new ≡ 0
-  still_even = ap (λ (b : ℕ). b % 2) (same 512 (on_page l (1 - live_copy old) 512 spare_small (omega arith) (omega arith) (inl (omega arith)))) ∙ even
+  -- the journals stay
+  in_journal : (k : ℕ) → table_place ≤ k → k < journal_end l → IsSparePlace l (1 - live_copy old) k → ⊥
+  in_journal k low high (inl first) = omega (arith, first, low)
+  in_journal k low high (inr (inl copy)) = omega (arith, copy.1, low, spare_small)
+  in_journal k low high (inr (inr region)) = omega (arith, region.0, high, page_before l (1 - live_copy old))
+
+  pub still_bare : IsBare l new
+  still_bare = bare_still l old new (same 512 (on_page l (1 - live_copy old) 512 spare_small (omega arith) (omega arith) (inl (omega arith)))) (λ k low high. same k (in_journal k low high)) bare
 
   -- a place of a live segment isn't spare
   not_spare : (i k : ℕ) → i < 2 ^ height_limit l → IsFormat l.hmax l.format → segment_place l (live_copy old) i ≤ k → k < segment_place l (live_copy old) i + segment_size l → IsSparePlace l (1 - live_copy old) k → ⊥
@@ -107,10 +116,10 @@ module _ (l : Layout) (old new : List ℕ) (m : Map) (height : ℕ) (is : Repres
       let at = segment_place (layout_in old) (live_copy old) i in
       let size = segment_size (layout_in old) in
       let end = within_file old is.header i low in
-      even_segment new sound still_even i here
+      even_segment new sound (subst (λ (x : Layout). IsRecovered x new) (sym (layout_same ∙ layout_is)) (bare_recovered l new still_bare)) i here
       ∙ (λ t. slice_range new (segment_place (layout_same t) (spares.live_is t) i) (segment_place (layout_same t) (spares.live_is t) i + segment_size (layout_same t)))
       ∙ range_same old new at (at + size) (omega arith) end (omega (arith, end, spares.touched.size)) (λ k from to. same k (λ spare. not_spare i k there format (subst (λ (x : Layout). segment_place x (live_copy old) i ≤ k) layout_is from) (subst (λ (x : Layout). k < segment_place x (live_copy old) i + segment_size x) layout_is to) spare))
-      ∙ sym (even_segment old is.header even i low)
+      ∙ sym (even_segment old is.header (subst (λ (x : Layout). IsRecovered x old) (sym layout_is) (bare_recovered l old bare)) i low)
 
   same_format : slot_format new ≡ slot_format old
   same_format = format_same
@@ -125,7 +134,7 @@ module _ (l : Layout) (old new : List ℕ) (m : Map) (height : ℕ) (is : Repres
   still_represents = record {
     header = sound;
     height_is = height_same ∙ is.height_is;
-    journal = λ odd. absurd (omega (arith, odd, still_even));
+    journal = subst (λ (x : Layout). IsJournalSound x height new) (sym (layout_same ∙ layout_is)) (bare_sound l height new still_bare);
     array = is.array;
     size = is.size;
     segments = λ i lt. subst (λ (f : ℕ). IsSegment f (segment_at is.array i) (live_segment new i)) (sym same_format) (subst (IsSegment (slot_format old) (segment_at is.array i)) (sym (segment_same i lt)) (is.segments i lt));
@@ -164,8 +173,8 @@ module _ (l : Layout) (copy height : ℕ) (m : Map) (segments : Array) (held new
       (subst (λ (n : ℕ). IsFormat n (format_in (live_copy new) new)) (sym hmax_is) (subst (IsFormat l.hmax) (sym format_new) holds.format))
       (omega (arith, tall, format_new, hmax_is, holds.holds.within.height_is, holds.format.room))
 
-  pub flipped_even : gate new ≡ 0
-  flipped_even = ap (λ (b : ℕ). b % 2) (kept 512 (not_flipped 512 (omega arith) (inl (omega arith)))) ∙ holds.gate_even
+  pub flipped_bare : IsBare l new
+  flipped_bare = bare_still l held new (kept 512 (not_flipped 512 (omega arith) (inl (omega arith)))) (λ k low high. kept k (not_flipped k (omega (arith, low)) (inr (omega (arith, low))))) holds.bare
 
   segment_new : (i : ℕ) → i < 2 ^ height → IsSegment (slot_format new) (segment_at segments i) (live_segment new i)
   segment_new i lt =
@@ -174,7 +183,7 @@ module _ (l : Layout) (copy height : ℕ) (m : Map) (segments : Array) (held new
       let at = segment_place l copy i in
       let end : at + segment_size l ≤ length held = omega (arith, holds.sound.size, same_length (layout_in held) (record (layout_in held) { format = l.format }) refl refl refl, ap file_length holds.layout_is, segment_within l copy i holds.format copy_in there) in
       let same : live_segment new i ≡ region_bytes l copy i held =
-      even_segment new sound_new flipped_even i here
+      even_segment new sound_new (subst (λ (x : Layout). IsRecovered x new) (sym layout_new) (bare_recovered l new flipped_bare)) i here
       ∙ (λ t. region_bytes (layout_new t) (flipped.names t) i new)
       ∙ range_same held new at (at + segment_size l) (omega arith) end (omega (arith, end, flipped.touched.size)) (λ k from to. kept k (not_flipped k (omega (arith, from, page_before l copy)) (inr (omega (arith, from, page_before l copy))))) in
       subst (λ (f : ℕ). IsSegment f (segment_at segments i) (live_segment new i)) (sym format_new) (subst (IsSegment l.format (segment_at segments i)) (sym same) (holds.each i lt))
@@ -183,4 +192,4 @@ module _ (l : Layout) (copy height : ℕ) (m : Map) (segments : Array) (held new
   flipped_array = array_is new (height_limit l) m height segments segment_new holds.holds
 
   pub flipped_represents : Represents new m height
-  flipped_represents = represents_array new (height_limit l) m height segments segment_new holds.holds sound_new tall (λ odd. absurd (omega (arith, odd, flipped_even)))
+  flipped_represents = represents_array new (height_limit l) m height segments segment_new holds.holds sound_new tall (subst (λ (x : Layout). IsJournalSound x height new) (sym layout_new) (bare_sound l height new flipped_bare))

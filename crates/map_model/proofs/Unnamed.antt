@@ -1,15 +1,16 @@
 -- Bytes of the header page that the format doesn't name: what a file represents doesn't depend on them.
 use Rattle.std.proofs.Common.{◌≡◌, ℕ, ◌+◌, ◌*◌, ◌%◌, ◌^◌, ◌<◌, ◌≤◌, List, length, refl, sym, ◌∙◌, ap, subst, arith, cond}
-use Rattle.std.specs.Prelude.{◌==◌}
+use Rattle.std.specs.Prelude.{◌==◌, ◌&&◌, ◌||◌, not}
+use Rattle.header_gate.specs.declared.layout.TheConstants.{PAIRED}
 use Rattle.std.proofs.lemmas.List.{ext_get_or}
 use Rattle.std.proofs.Math.Pow.{pow_mono}
 use Rattle.key_slot.specs.Segment.{IsSegment}
 use Rattle.station.specs.Bytes.{byte, InRange, Touched}
 use Rattle.header_gate.specs.declared.layout.Layout.{Layout}
 use Rattle.header_gate.specs.Header.{number, gate, live_copy, height_in, format_in, layout_in}
-use Rattle.header_gate.specs.Places.{IsFormat, page_size, segment_size, table_place, image_place, region_place, segment_place, copy_place, height_limit, pages_at}
+use Rattle.header_gate.specs.Places.{IsFormat, page_size, segment_size, table_place, image_place, journal_shift, region_place, segment_place, copy_place, height_limit, pages_at}
 use Rattle.header_gate.specs.Reasons.{IsSoundHeader}
-use Rattle.header_gate.specs.Recovered.{IsBatch, laid_byte, is_journal, recovered, recovered_byte, table_numbers}
+use Rattle.header_gate.specs.Recovered.{IsBatch, laid_byte, is_journal, recovered, recovered_byte, numbers_at, live_shift, live_table, is_laid, names_some}
 use Rattle.header_gate.proofs.NumberLaws.{number_same}
 use Rattle.header_gate.proofs.Soundness.{sound_same}
 use Rattle.header_gate.proofs.Recoveries.{table_same}
@@ -60,22 +61,41 @@ module _ (old new : List ℕ) (was : IsSoundHeader old) (touched : Touched IsUnn
   pub page_kept : KeepsHeader old new
   page_kept = record { sound = sound_new; layout_is = layout_same; live_is = live_same; height_is = height_same }
 
-  pub numbers_same : table_numbers new ≡ table_numbers old
-  numbers_same = table_same new old (table_place + 4 + 4 * length (table_numbers old)) (λ k low high. behind k (omega arith)) (omega arith)
+  -- so is what the journals say
+  pub shift_same : live_shift (layout_in new) new ≡ live_shift (layout_in old) old
+  shift_same t = journal_shift (layout_same t) (gate_same t)
+
+  pub laid_same : is_laid (layout_in new) new ≡ is_laid (layout_in old) old
+  laid_same t = ((layout_same t).version == PAIRED) || (gate_same t == 1)
+
+  pub count_same : (s : ℕ) → table_place ≤ s → number new s ≡ number old s
+  count_same s low = number_same new old s s (λ n x y lt ex ey. let e : x ≡ y = omega arith in behind x (omega arith) ∙ ap (byte old) e)
+
+  pub numbers_same : live_table (layout_in new) new ≡ live_table (layout_in old) old
+  numbers_same =
+      let start = table_place + live_shift (layout_in old) old in
+      ap (λ (s : ℕ). numbers_at (table_place + s) new) shift_same
+      ∙ table_same new old start (start + 4 + 4 * length (live_table (layout_in old) old)) (λ k low high. behind k (omega (arith, low))) (omega arith)
+
+  pub named_same : names_some (layout_in new) new ≡ names_some (layout_in old) old
+  named_same =
+      let start = table_place + live_shift (layout_in old) old in
+      ap (λ (s : ℕ). is_laid (layout_in new) new && not (((layout_in new).version == PAIRED) && (number new (table_place + s) == 0))) shift_same
+      ∙ (λ t. laid_same t && not (((layout_same t).version == PAIRED) && (count_same start (omega arith) t == 0)))
 
   -- behind the page the recovered images are the same
   recovered_same : (p : ℕ) → page_size ≤ p → recovered_byte (layout_in new) new p ≡ recovered_byte (layout_in old) old p
   recovered_same p high t =
       cond (is_journal (layout_same t) p) 0
-      (cond (gate_same t == 1)
+      (cond (laid_same t)
       (laid_byte (region_place (layout_same t) (live_same t)) (λ k o. image_same k o t) (behind p high t) p 0 (numbers_same t))
       (behind p high t))
     where
-      image_same : (k o : ℕ) → byte new (image_place (layout_in new) k + o) ≡ byte old (image_place (layout_in old) k + o)
-      image_same k o = behind (image_place (layout_in new) k + o) (omega arith) ∙ ap (λ (l : Layout). byte old (image_place l k + o)) layout_same
+      image_same : (k o : ℕ) → byte new (image_place (layout_in new) k + live_shift (layout_in new) new + o) ≡ byte old (image_place (layout_in old) k + live_shift (layout_in old) old + o)
+      image_same k o = behind (image_place (layout_in new) k + live_shift (layout_in new) new + o) (omega arith) ∙ (λ t. byte old (image_place (layout_same t) k + shift_same t + o))
 
   -- so are the live segments
-  segment_same : (i : ℕ) → i < 2 ^ height_limit (layout_in old) → live_segment new i ≡ live_segment old i
+  pub segment_same : (i : ℕ) → i < 2 ^ height_limit (layout_in old) → live_segment new i ≡ live_segment old i
   segment_same i below =
       let low : i < 2 ^ height_limit (layout_in new) = subst (λ (l : Layout). i < 2 ^ height_limit l) (sym layout_same) below in
       let long = length-live_segment new sound_new i low in
@@ -102,10 +122,9 @@ unnamed_represents old new m height is touched =
     record {
       header = sound_new old new was touched;
       height_is = height_same old new was touched ∙ is.height_is;
-      journal = λ odd.
-          let was_odd : gate old ≡ 1 = sym (gate_same old new was touched) ∙ odd in
-          subst (λ (l : Layout). IsBatch l.journal (pages_at l height) (table_numbers new)) (sym (layout_same old new was touched))
-          (subst (IsBatch (layout_in old).journal (pages_at (layout_in old) height)) (sym (numbers_same old new was touched)) (is.journal was_odd));
+      journal = λ named.
+          let table = subst (IsBatch (layout_in old).journal (pages_at (layout_in old) height)) (sym (numbers_same old new was touched)) (is.journal (sym (named_same old new was touched) ∙ named)) in
+          subst (λ (l : Layout). IsBatch l.journal (pages_at l height) (live_table (layout_in new) new)) (sym (layout_same old new was touched)) table;
       array = is.array;
       size = is.size;
       segments = λ i lt. subst (λ (f : ℕ). IsSegment f (segment_at is.array i) (live_segment new i)) (sym format) (subst (IsSegment (slot_format old) (segment_at is.array i)) (sym (same i lt)) (is.segments i lt));

@@ -1,9 +1,9 @@
 -- Items that fit one commit reach a file by one batch of the journal.
 use Rattle.std.proofs.Common.{◌≡◌, ℕ, ◌<◌, true, List, [], ◌∷◌, length, get_or, sym, ap, subst, ◌∙◌, arith}
-use Rattle.header_gate.specs.Header.{gate, layout_in}
+use Rattle.header_gate.specs.Header.{layout_in}
 use Rattle.header_gate.specs.Paged.{segment_image}
-use Rattle.header_gate.specs.Places.{height_limit, pages_at}
-use Rattle.header_gate.specs.Recovered.{IsBatch, table_numbers}
+use Rattle.header_gate.specs.Places.{height_limit}
+use Rattle.header_gate.specs.Recovered.{IsJournalSound}
 use Rattle.key_slot.specs.Record.{Record}
 use Rattle.map_model.specs.Store.{Update}
 use Rattle.map_model.specs.Array.{Array, counts_of, segment_at}
@@ -29,7 +29,7 @@ module _ (s : ArrayState) (items : List Update) (old new numbers : List ℕ) (im
   holds = subst (HoldsMap (height_limit (layout_in old)) s.map s.height) has.array_is (holds_of old s.map s.height has.represents)
 
   pub states_reached : (next_states (height_limit (layout_in old)) s items).height ≡ s.height → LaysBatch numbers image old new → LaysArray numbers image s.height old (next_states (height_limit (layout_in old)) s items).array
-      → (gate new ≡ 1 → IsBatch (layout_in old).journal (pages_at (layout_in old) s.height) (table_numbers new)) → HasState new (next_states (height_limit (layout_in old)) s items)
+      → IsJournalSound (layout_in old) s.height new → HasState new (next_states (height_limit (layout_in old)) s items)
   states_reached stays lays all journal =
       let hmax = height_limit (layout_in old) in
       let next = next_states hmax s items in
@@ -40,7 +40,7 @@ module _ (s : ArrayState) (items : List Update) (old new numbers : List ℕ) (im
       }
 
   pub state_reached : are_distinct items ≡ true → fit_one_commit s.height (counts_of s.array) (changes_in s.array items) ≡ true
-      → LaysBatch numbers image old new → LaysEdits (slot_format old) s.array items numbers image → (gate new ≡ 1 → IsBatch (layout_in old).journal (pages_at (layout_in old) s.height) (table_numbers new)) → HasState new (next_states (height_limit (layout_in old)) s items)
+      → LaysBatch numbers image old new → LaysEdits (slot_format old) s.array items numbers image → IsJournalSound (layout_in old) s.height new → HasState new (next_states (height_limit (layout_in old)) s items)
   state_reached distinct fits lays edits journal =
       let hmax = height_limit (layout_in old) in
       let next = next_states hmax s items in

@@ -62,7 +62,8 @@ pub record AreEdits (hmax : ℕ) (s : ArrayState) (items : List Update) (next : 
   pub admitted : AreAdmitted hmax s.map items
   pub balanced : (k : ℕ) → IsBalancedArray s.height (next_states hmax s (take k items)).array
 
--- a batch's images are those of the edited segments, each of the pages of a segment of format f, and it names each segment that an item edits
+-- a batch's images are those of the edited segments, each of the pages of a segment of format f, and it names each segment that an
+-- item edits
 pub record LaysEdits (f : ℕ) (segments : Array) (items : List Update) (numbers : List ℕ) (image : ℕ → ℕ → ℕ) : Type 0 where
   pub inside : (k : ℕ) → k < length numbers → get_or numbers k 0 < length segments
   pub named : (k : ℕ) → k < length numbers → let i = get_or numbers k 0 in IsSegmentImage f (edited_by (items_for segments i items) (segment_at segments i)) (segment_image f image k)

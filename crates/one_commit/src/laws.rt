@@ -1,9 +1,9 @@
 //! A law of batches.
 
 ghost use Rattle.std.specs.Prelude.{◌≡◌, ◌^◌, ℕ, true, List};
-ghost use Rattle.header_gate.specs.Header.{gate, layout_in};
-ghost use Rattle.header_gate.specs.Places.{height_limit, pages_at};
-ghost use Rattle.header_gate.specs.Recovered.{IsBatch, table_numbers};
+ghost use Rattle.header_gate.specs.Header.{layout_in};
+ghost use Rattle.header_gate.specs.Places.{height_limit};
+ghost use Rattle.header_gate.specs.Recovered.{IsJournalSound};
 ghost use Rattle.map_model.specs.Store.{Update};
 ghost use Rattle.map_model.specs.Items.{are_distinct};
 ghost use Rattle.map_model.specs.Array.{counts_of};
@@ -22,10 +22,10 @@ pub fn fitting_items_are_edits()
 
 /// A law: so are they in a file, where a batch with these segments is laid over it.
 pub fn edits_reach_files()
-    ensures { (s : ArrayState) (items : List Update) (old new numbers : List ℕ) (image : ℕ → ℕ → ℕ) → HasState old s → IsBalancedArray s.height s.array → are_distinct items ≡ true → fit_one_commit s.height (counts_of s.array) (changes_in s.array items) ≡ true → LaysBatch numbers image old new → LaysEdits (slot_format old) s.array items numbers image → (gate new ≡ 1 → IsBatch (layout_in old).journal (pages_at (layout_in old) s.height) (table_numbers new)) → HasState new (next_states (height_limit (layout_in old)) s items) }
+    ensures { (s : ArrayState) (items : List Update) (old new numbers : List ℕ) (image : ℕ → ℕ → ℕ) → HasState old s → IsBalancedArray s.height s.array → are_distinct items ≡ true → fit_one_commit s.height (counts_of s.array) (changes_in s.array items) ≡ true → LaysBatch numbers image old new → LaysEdits (slot_format old) s.array items numbers image → IsJournalSound (layout_in old) s.height new → HasState new (next_states (height_limit (layout_in old)) s items) }
 {}
 
 /// A law: whatever items do at one height is one batch of the journal, if it holds each segment that they change.
 pub fn states_reach_files()
-    ensures { (s : ArrayState) (items : List Update) (old new numbers : List ℕ) (image : ℕ → ℕ → ℕ) → HasState old s → IsBalancedArray s.height s.array → let next = next_states (height_limit (layout_in old)) s items in next.height ≡ s.height → LaysBatch numbers image old new → LaysArray numbers image s.height old next.array → (gate new ≡ 1 → IsBatch (layout_in old).journal (pages_at (layout_in old) s.height) (table_numbers new)) → HasState new next }
+    ensures { (s : ArrayState) (items : List Update) (old new numbers : List ℕ) (image : ℕ → ℕ → ℕ) → HasState old s → IsBalancedArray s.height s.array → let next = next_states (height_limit (layout_in old)) s items in next.height ≡ s.height → LaysBatch numbers image old new → LaysArray numbers image s.height old next.array → IsJournalSound (layout_in old) s.height new → HasState new next }
 {}

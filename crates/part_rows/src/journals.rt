@@ -42,7 +42,7 @@ fn batch(alloc: Global, a: u32, b: u32, c: u32) -> Result<Frames, Fail>
     requires first { a < b }
     requires second { b < c }
     requires third { c < 8 }
-    ensures { IfOk result (λ f. (f.journal ≡ 8) × (f.numbers ≡ a ∷ b ∷ c ∷ [])) }
+    ensures { IfOk result (λ f. (f.journal ≡ 8) × (f.turn ≡ 0) × (f.numbers ≡ a ∷ b ∷ c ∷ [])) }
 {
     let mut frames = Frames::new(alloc, 8)?;
     frames.push(a);
@@ -55,7 +55,7 @@ fn batch(alloc: Global, a: u32, b: u32, c: u32) -> Result<Frames, Fail>
 }
 
 // An empty store, on a station whose calls fail from `stop` on.
-#[tactic(auto, unfolding(header_gate::specs::Places::area_size))]
+#[tactic(auto, unfolding(header_gate::specs::Places::area_size, header_gate::specs::Places::journal_shift))]
 fn store(alloc: Global, stop: Option<u32>) -> Result<MemStation, Fail>
     ensures reach { IfOk result (λ s. file_length LAYOUT ≤ (mem_view s).fixed.reach) }
     ensures at { IfOk result (λ s. EachHeld (IsAt PLACE) (mem_view s)) }
@@ -89,7 +89,7 @@ fn stopped(
 
 // Replays the journal of a file whose live region is region 0 and whose gate is odd, and gives the file; any other file
 // answers Failed. The station's calls fail from `stop` on.
-#[tactic(auto, unfolding(header_gate::specs::Places::area_size))]
+#[tactic(auto, unfolding(header_gate::specs::Places::area_size, header_gate::specs::Places::journal_shift))]
 fn replayed(
     alloc: Global,
     bytes: &[u8],

@@ -1,18 +1,20 @@
 -- Files that differ in the clean gate alone: an opening makes the same of them.
 use Rattle.std.proofs.Common.{◌≡◌, inl, inr, ℕ, ◌+◌, ◌-◌, ◌*◌, ◌^◌, ◌%◌, ◌≤◌, ◌&&◌, nat_le, nat_lt, cond, List, [], length, take, drop, length-drop, get_or-drop, sym, ap, subst, ◌∙◌, arith, Some, None}
-use Rattle.std.specs.Prelude.{◌==◌}
+use Rattle.std.specs.Prelude.{◌==◌, ◌||◌, not}
 use Rattle.std.specs.FinMap.{from_sorted}
 use Rattle.std.proofs.lemmas.Bool.{cases_lt}
 use Rattle.std.proofs.lemmas.List.{ext_get_or, get_or_past}
 use Rattle.station.specs.Bytes.{byte, Touched}
 use Rattle.density_rule.specs.Marks.{no_marks}
 use Rattle.header_gate.specs.declared.layout.Layout.{Layout}
-use Rattle.header_gate.specs.declared.layout.TheConstants.{INTENT_VERSION}
+use Rattle.header_gate.specs.declared.layout.TheConstants.{INTENT_VERSION, PAIRED}
 use Rattle.header_gate.specs.declared.reason.Reason.TheVariants.{Length}
+use Rattle.header_gate.specs.InPlace.{IsBare}
 use Rattle.header_gate.specs.Header.{number, gate, intent_gate, live_copy, layout_in, height_in, format_in, segment_in}
-use Rattle.header_gate.specs.Places.{page_size, table_place, image_place, region_place, segment_place, segment_size, copy_place, height_limit, pages_at}
+use Rattle.header_gate.specs.Places.{page_size, table_place, image_place, region_place, segment_place, segment_size, copy_place, height_limit, pages_at, journal_shift}
 use Rattle.header_gate.specs.Reasons.{copy_reason, header_reason, identity_reason, or_else}
-use Rattle.header_gate.specs.Recovered.{is_journal, journal_reason, laid_byte, recovered, recovered_byte, table_numbers, table_reason}
+use Rattle.header_gate.specs.Recovered.{is_journal, journal_reason, laid_byte, live_shift, live_table, names_some, numbers_at, recovered, recovered_byte, table_reason}
+use Rattle.header_gate.proofs.Journals.{bare_still}
 use Rattle.header_gate.proofs.NumberLaws.{number_same}
 use Rattle.header_gate.proofs.Recoveries.{table_same}
 use Rattle.header_gate.proofs.RecoveredBytes.{byte-recovered, length-recovered}
@@ -83,17 +85,23 @@ module _ (old new : List ℕ) (touched : Touched IsCleanPlace old new) where
 
   -- The recovered image.
 
-  pub numbers_same : table_numbers new ≡ table_numbers old
-  numbers_same = table_same new old (table_place + 4 + 4 * length (table_numbers old)) (λ k low high. same k (λ at. omega (arith, at, low))) (omega arith)
+  shift_same : (l : Layout) → live_shift l new ≡ live_shift l old
+  shift_same l = ap (journal_shift l) gate_same
 
-  image_same : (l : Layout) (k o : ℕ) → byte new (image_place l k + o) ≡ byte old (image_place l k + o)
-  image_same l k o = same (image_place l k + o) (λ at. omega (arith, at))
+  numbers_same : (l : Layout) → live_table l new ≡ live_table l old
+  numbers_same l =
+      let start = table_place + live_shift l old in
+      ap (λ (n : ℕ). numbers_at (table_place + n) new) (shift_same l)
+      ∙ table_same new old start (start + 4 + 4 * length (live_table l old)) (λ k low high. same k (λ at. omega (arith, at, low))) (omega arith)
+
+  image_same : (l : Layout) (k o : ℕ) → byte new (image_place l k + live_shift l new + o) ≡ byte old (image_place l k + live_shift l old + o)
+  image_same l k o = ap (λ (n : ℕ). byte new (image_place l k + n + o)) (shift_same l) ∙ same (image_place l k + live_shift l old + o) (λ at. omega (arith, at))
 
   byte_same : (l : Layout) (p : ℕ) → (p ≡ 704 → ⊥) → recovered_byte l new p ≡ recovered_byte l old p
   byte_same l p other t =
       cond (is_journal l p) 0
-      (cond (gate_same t == 1)
-      (laid_byte (region_place l (live_same t)) (λ k o. image_same l k o t) (same p other t) p 0 (numbers_same t))
+      (cond ((l.version == PAIRED) || (gate_same t == 1))
+      (laid_byte (region_place l (live_same t)) (λ k o. image_same l k o t) (same p other t) p 0 (numbers_same l t))
       (same p other t))
 
   pub recovered_touched : (l : Layout) → Touched IsCleanPlace (recovered l old) (recovered l new)
@@ -133,11 +141,26 @@ module _ (old new : List ℕ) (touched : Touched IsCleanPlace old new) where
   unfolding map_of
   map_same = ap (λ (a : Array). from_sorted (rows a)) array_same
 
+  -- The journal that its gate names.
+
+  start_same : live_shift (layout_in new) new ≡ live_shift (layout_in old) old
+  start_same t = journal_shift (layout_same t) (gate_same t)
+
+  count_same : number new (table_place + live_shift (layout_in new) new) ≡ number old (table_place + live_shift (layout_in old) old)
+  count_same = ap (λ (n : ℕ). number new (table_place + n)) start_same ∙ behind (table_place + live_shift (layout_in old) old) (omega arith)
+
+  pub live_table_same : live_table (layout_in new) new ≡ live_table (layout_in old) old
+  live_table_same = ap (λ (l : Layout). live_table l new) layout_same ∙ numbers_same (layout_in old)
+
+  pub names_same : names_some (layout_in new) new ≡ names_some (layout_in old) old
+  names_same t = (((layout_same t).version == PAIRED) || (gate_same t == 1)) && not (((layout_same t).version == PAIRED) && (count_same t == 0))
+
   -- The reasons against the file.
 
   journal_same : journal_reason (layout_in new) (height_of new) new ≡ journal_reason (layout_in old) (height_of old) old
   unfolding journal_reason
-  journal_same t = cond (gate_same t == 1) (table_reason ((layout_same t).journal) (pages_at (layout_same t) (height_same t)) (behind table_place (omega arith) t) (numbers_same t)) None
+  journal_same t =
+      cond (names_same t) (table_reason (table_place + start_same t) ((layout_same t).journal) (pages_at (layout_same t) (height_same t)) (count_same t) (live_table_same t)) None
 
   reason_same : reason_of new ≡ reason_of old
   unfolding reason_of
@@ -176,10 +199,14 @@ module _ (old new : List ℕ) (touched : Touched IsCleanPlace old new) where
   pub cost_same : opening_cost (layout_in new) + pending_cost new ≡ opening_cost (layout_in old) + pending_cost old
   cost_same t = opening_cost (layout_same t) + cond (has_same t) (updates_cost (layout_same t) (first_same t) (pending_same t) + 1 + most_of_one (layout_same t) (Batch (pending_same t))) 0
 
+  -- no page is to be laid over the live region
+  pub bare_same : IsBare (layout_in old) old → IsBare (layout_in new) new
+  bare_same bare = subst (λ (l : Layout). IsBare l new) (sym layout_same) (bare_still (layout_in old) old new (same 512 (λ at. omega (arith, at))) (λ k low high. same k (λ at. omega (arith, at, low))) bare)
+
   pub rests : IsAllAtRest old → IsAllAtRest new
   rests rest = record {
     rest = record {
-      gate_even = gate_same ∙ rest.rest.gate_even;
+      bare = bare_same rest.rest.bare;
       balanced = λ is. subst (λ (x : ℕ × Array). IsBalancedArray x.0 x.1) (λ t. (sym height_same t, sym array_same t)) (rest.rest.balanced (height_of old, represents_of_none old (sym reason_same ∙ none_of_represents new (map_of new) is.0 is.1)));
     };
     no_intent = has_same ∙ rest.no_intent;
@@ -214,5 +241,5 @@ module _ (old new : List ℕ) (touched : Touched IsCleanPlace old new) where
         map_is = (λ t. (state_after_items (height_limit (layout_same t)) (record { map = means.base; height = height }) means.items).map) ∙ means.map_is;
       }
 
-  pub map_meant : (m : Map) → MeansMap old m → MeansMap new m
-  map_meant m is = (is.0, means_same m is.0 is.1)
+  pub map_meant : (m : Map) → MeansMap (layout_in old) old m → MeansMap (layout_in old) new m
+  map_meant m is = (layout_same, (is.1.0, means_same m is.1.0 is.1.1))

@@ -10,7 +10,7 @@ use Rattle.command_text.specs.Answers.{step}
 use Rattle.command_text.specs.ArraySession.{plain_state_after}
 use Rattle.command_text.specs.Updates.{updates_made}
 use Rattle.command_text.specs.declared.command.Command.{Command}
-use Rattle.pma_engine.specs.Boots.{Boot, IsRun, AreBoots, BootsLead, CarriesOut, HaveLayout, LeadTo, after_boot, carried_out, commands_on, left_by, map_after_commands}
+use Rattle.pma_engine.specs.Boots.{Boot, AreBoots, BootsLead, CarriesOut, after_boot, carried_out, commands_on, left_by, map_after_commands}
 use Rattle.pma_engine.specs.Outcome.{RunHeadline}
 use Rattle.pma_engine.specs.Session.{replies_begun}
 
@@ -24,12 +24,16 @@ after_append l m [] more = refl
 after_append l m (c ∷ done) more = after_append l (map_after_commands l m (c ∷ [])) done more
 
 -- one boot more, in front of others
-led_on : (start : List ℕ) (m : Map) (b : Boot) (bs : List Boot) (n : ℕ) → CarriesOut start m b n → BootsLead b.image (after_boot start m b n) bs → BootsLead start m (b ∷ bs)
-led_on start m b bs n carries next = record {
+led_on : (start : List ℕ) (m : Map) (b : Boot) (bs : List Boot) (n : ℕ) → layout_in b.image ≡ layout_in start → CarriesOut start m b n → BootsLead b.image (after_boot start m b n) bs → BootsLead start m (b ∷ bs)
+led_on start m b bs n same carries next = record {
   counts = n ∷ next.counts;
   last = next.last;
   lead = (carries, next.lead);
-  means = next.means;
+  as_one =
+      next.as_one
+      ∙ ap (λ (l : Layout). map_after_commands l (after_boot start m b n) (carried_out b.image bs next.counts)) same
+      ∙ sym (after_append (layout_in start) m (take n (commands_on start b)) (carried_out b.image bs next.counts));
+  means = subst (λ (l : Layout). MeansMap l (left_by b.image bs) next.last) same next.means;
 }
 
 module _ (start : List ℕ) (m : Map) (height : ℕ) (means : Means start m height) (b : Boot) (run : RunHeadline (meant_state means) start b.script b.said_before b.image b.said) where
@@ -46,26 +50,20 @@ module _ (start : List ℕ) (m : Map) (height : ℕ) (means : Means start m heig
     count_is = is;
   }
 
-  left : (n : ℕ) → MeansMap b.image (plain_state_after (layout_in start) (meant_state means) (take n (commands_on start b))).map → MeansMap b.image (after_boot start m b n)
-  left n is = subst (MeansMap b.image) (map_of_commands (layout_in start) (meant_state means) (take n (commands_on start b))) is
+  left : (n : ℕ) → MeansMap (layout_in start) b.image (plain_state_after (layout_in start) (meant_state means) (take n (commands_on start b))).map → MeansMap (layout_in start) b.image (after_boot start m b n)
+  left n is = subst (MeansMap (layout_in start) b.image) (map_of_commands (layout_in start) (meant_state means) (take n (commands_on start b))) is
 
 -- by induction over the boots
-pub boots_lead : (start : List ℕ) (m : Map) → MeansMap start m → (boots : List Boot) → AreBoots start boots → BootsLead start m boots
-boots_lead start m here [] are = record { counts = []; last = m; lead = refl; means = here }
+pub boots_lead : (start : List ℕ) (m : Map) → MeansMap (layout_in start) start m → (boots : List Boot) → AreBoots start boots → BootsLead start m boots
+boots_lead start m here [] are = record { counts = []; last = m; lead = refl; as_one = refl; means = here }
 boots_lead start m here (b ∷ bs) are =
-    let run = are.0 m here.0 here.1 in
+    let run = are.0 m here.1.0 here.1.1 in
     let n = replies_begun run.texts (length run.new) in
     elim run.stands [
-      | inl stands ↦ led_on start m b bs n (carries start m here.0 here.1 b run n (inl refl)) (boots_lead b.image (after_boot start m b n) (left start m here.0 here.1 b run n stands) bs are.1)
-      | inr stands ↦ led_on start m b bs (n + 1) (carries start m here.0 here.1 b run (n + 1) (inr refl)) (boots_lead b.image (after_boot start m b (n + 1)) (left start m here.0 here.1 b run (n + 1) stands) bs are.1)
+      | inl stands ↦
+          let means = left start m here.1.0 here.1.1 b run n stands in
+          led_on start m b bs n means.0 (carries start m here.1.0 here.1.1 b run n (inl refl)) (boots_lead b.image (after_boot start m b n) (refl, means.1) bs are.1)
+      | inr stands ↦
+          let means = left start m here.1.0 here.1.1 b run (n + 1) stands in
+          led_on start m b bs (n + 1) means.0 (carries start m here.1.0 here.1.1 b run (n + 1) (inr refl)) (boots_lead b.image (after_boot start m b (n + 1)) (refl, means.1) bs are.1)
     ]
-
--- where all files have one layout, the boots carried out one list of commands
-pub boots_as_one : (l : Layout) (start : List ℕ) (m last : Map) (boots : List Boot) (counts : List ℕ) → HaveLayout l start boots → LeadTo start m boots counts last → last ≡ map_after_commands l m (carried_out start boots counts)
-boots_as_one l start m last [] [] have lead = lead
-boots_as_one l start m last [] (n ∷ counts) have lead = absurd lead
-boots_as_one l start m last (b ∷ bs) [] have lead = absurd lead
-boots_as_one l start m last (b ∷ bs) (n ∷ counts) have lead =
-    boots_as_one l b.image (after_boot start m b n) last bs counts have.1 lead.1
-    ∙ ap (λ (k : Layout). map_after_commands l (map_after_commands k m (take n (commands_on start b))) (carried_out b.image bs counts)) have.0
-    ∙ sym (after_append l m (take n (commands_on start b)) (carried_out b.image bs counts))

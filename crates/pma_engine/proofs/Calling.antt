@@ -1,6 +1,5 @@
 -- How many calls an opening makes behind the closing of an index.
 use Rattle.std.proofs.Common.{◌≡◌, inl, inr, ℕ, ◌+◌, ◌^◌, ◌≤◌, cond, List, length, take, ap, sym, subst, ◌∙◌, arith}
-use Rattle.std.specs.Prelude.{◌==◌}
 use Rattle.std.specs.FinMap.{len}
 use Rattle.station.specs.Bytes.{Touched}
 use Rattle.station.specs.Steps.{Steps}
@@ -22,20 +21,20 @@ use Rattle.recovery.specs.Intents.{may_meet}
 use Rattle.pma_store.specs.BatchCalls.{IsForItems}
 use Rattle.pma_store.specs.Opens.{AreForPending, CallsOpening, IsAllAtRest, opened_tally}
 use Rattle.pma_store.proofs.OpeningCalls.{items_seen}
-use Rattle.pma_engine.proofs.Alike.{array_same, first_same, gate_same, has_same, height_same, layout_same, map_same, numbers_same, pending_same, rests}
+use Rattle.pma_engine.proofs.Alike.{array_same, first_same, has_same, height_same, layout_same, live_table_same, map_same, names_same, pending_same, rests}
 
 module _ (old new : List ℕ) (touched : Touched IsCleanPlace old new) where
   -- a file has as many segments and the same intent once its index is closed
   back_same : back_calls new ≡ back_calls old
   back_same t =
-      costs.region_calls (layout_same old new touched t) (height_same old new touched t)
+      costs.bare_calls (layout_same old new touched t) + costs.region_calls (layout_same old new touched t) (height_same old new touched t)
       + cond (has_same old new touched t) (2 + cond (may_meet (height_limit (layout_same old new touched t)) (len (map_same old new touched t)) (pending_same old new touched t)) (2 ^ height_same old new touched t) 0) 1
 
   -- and asks for the same calls
   pub asked_same : asked_opening new ≡ asked_opening old
   asked_same t =
       3
-      + (cond (gate_same old new touched t == 1) (6 + run_count (numbers_same old new touched t)) 0 + back_same t
+      + (cond (names_same old new touched t) (6 + run_count (live_table_same old new touched t)) 0 + back_same t
       + mending_calls (most_segments (layout_same old new touched t)) (repair_window (height_same old new touched t) (counts_of (array_same old new touched t))))
 
   pub most_same : opening_calls (layout_in new) (height_of new) ≡ opening_calls (layout_in old) (height_of old)

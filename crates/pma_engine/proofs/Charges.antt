@@ -24,8 +24,10 @@ use Rattle.command_text.specs.declared.command.Command.{Command}
 use Rattle.command_text.proofs.SessionLaws.{paid_first, paid_next}
 use Rattle.pma_store.specs.Changing.{most_written, effect_outcome}
 use Rattle.pma_store.specs.Costing.{report_cost, update_cost_in, updates_cost}
+use Rattle.pma_store.specs.Readying.{clear_cost}
 use Rattle.pma_store.specs.Rewrites.{commit_cost}
 use Rattle.pma_store.specs.Charging.{changes}
+use Rattle.pma_store.proofs.ClearCosts.{clear_most}
 use Rattle.pma_engine.specs.Costs.{charged_cost, images_cost, session_cost}
 use Rattle.pma_engine.specs.Jobs.{ArePaid}
 use Rattle.pma_engine.specs.Outcome.{session_of, state_of}
@@ -48,8 +50,8 @@ module _ (l : Layout) (some : 1 ≤ l.format) where
   hmax = height_limit l
 
   -- what a resize costs, and the spread of a window, by their charges
-  resize_paid : (next : ℕ) → segment_size l * 2 ^ next + 9 + commit_cost l ≤ images_cost l (2 ^ next + 3)
-  resize_paid next = omega (arith, some)
+  resize_paid : (next : ℕ) → clear_cost l + (segment_size l * 2 ^ next + 9) + commit_cost l ≤ images_cost l (2 ^ next + 3)
+  resize_paid next = omega (arith, some, clear_most l)
 
   spread_paid : (j : ℕ) → most_written l j ≤ images_cost l (16 * 2 ^ j)
   spread_paid j = omega (arith, times_up (2 ^ j) 1 l.format some)
@@ -126,10 +128,10 @@ paid_after : (l : Layout) (x : Session) → IsSoundState (height_limit l) x.stor
 paid_after l x sound paid [] = paid
 paid_after l x sound paid (c ∷ cs) = paid_after l (session_step l x c) (states_sound (height_limit l) x.store (updates_made l x.store.map c) sound) (paid_next l x c sound paid) cs
 
-module _ (image : List ℕ) (m : Map) (means : MeansMap image m) where
+module _ (image : List ℕ) (m : Map) (means : MeansMap (layout_in image) image m) where
   -- what the commands of a run cost
   pub charged_is : (cs : List Command) → session_cost (layout_in image) (state_of m image) cs ≤ charged_cost (layout_in image) (session_of m image) cs
-  charged_is cs = omega (arith, session_charged (layout_in image) means.1.represents.header.layout.format.least (session_of m image) (begins_sound image m means) cs)
+  charged_is cs = omega (arith, session_charged (layout_in image) means.1.1.represents.header.layout.format.least (session_of m image) (begins_sound image m means) cs)
 
   -- and what they are charged
   pub session_paid : (script : List ℕ) → ArePaid m image script

@@ -3,9 +3,9 @@ use Rattle.std.proofs.Common.{◌≡◌, ◌⊎◌, inl, inr, ℕ, ◌+◌, ◌*
 use Rattle.std.specs.Prelude.{◌==◌}
 use Rattle.std.proofs.lemmas.Bool.Decides.{nat_tests}
 use Rattle.station.specs.Bytes.{byte, Same, Touched}
-use Rattle.station.specs.View.{View, Fixed, Told, Honest, EachHeld, NothingPending, Lawful}
+use Rattle.station.specs.View.{View, Fixed, Told, Honest, EachHeld, Lawful}
 use Rattle.station.specs.Steps.{Steps, Says}
-use Rattle.station.proofs.Composition.{same_on, on_same, told_on, weaken}
+use Rattle.station.proofs.Composition.{same_on, on_same, told_of, told_on, weaken}
 use Rattle.station.proofs.Sayings.{each_says, leaves_in, leaves_on}
 use Rattle.header_gate.specs.declared.layout.Layout.{Layout}
 use Rattle.header_gate.specs.declared.layout.TheConstants.{INDEXED}
@@ -16,7 +16,10 @@ use Rattle.map_model.specs.Regions.{IsSparePlace}
 use Rattle.map_model.specs.Store.{Update}
 use Rattle.pma_store.specs.Batching.{IsBatchPlace}
 use Rattle.pma_store.specs.Items.{IsItemPlace}
+use Rattle.pma_store.specs.Store.{StoreView, IsOpenOn}
 use Rattle.pma_store.specs.Touching.{IsUpdatePlace, Updates}
+use Rattle.pma_store.proofs.Resting.{covered_held}
+use Rattle.pma_store.proofs.Touching.{moves_touch}
 use Rattle.recovery.specs.Restores.{LeavesFile}
 use Rattle.index_file.specs.Clean.{IsClean, IsOpenIndex, IsShut, KeepsClean, version_of}
 use Rattle.index_file.proofs.CleanLaws.{clean_shut}
@@ -132,6 +135,14 @@ item_gate l old new touched = keeps_gate old new apart touched
     apart k (inl at) (inr is) = omega (arith, is, at)
     apart k (inr at) (inr is) = omega (arith, is, at.0)
 
+-- So the index means nothing in each image that an open store's station may hold, if it means nothing in the held bytes.
+pub shut_held : {b : View} (s : StoreView) → Lawful b → IsOpenOn s b → (Told b → IsShut b.held) → EachHeld IsShut b
+shut_held {b} s law here shut d left =
+    let told = told_of law d left in
+    let stands = here.on.stands b.held (inl (told, refl)) in
+    let same = keeps_gate b.held d (not_updated (layout_in b.held)) (moves_touch s b.held d stands (covered_held s law here.on d left)) in
+    shut_stays b.held d (shut told) same.0 same.1
+
 -- of batches
 pub batch_gate : (l : Layout) (old new : List ℕ) → Touched (IsBatchPlace l) old new → KeepsGate old new
 batch_gate l old new touched = keeps_gate old new apart touched
@@ -187,19 +198,19 @@ stays_on fixed calls ab bc = record {
 pub stays_said : {a b d : View} {R : List ℕ → List ℕ → Type 0} {text : List ℕ} → Steps R a b → ((d i : List ℕ) → R d i → KeepsGate d i) → Says text b d → StaysShut a d
 stays_said steps keeps says = stays_on steps.frame.fixed steps.frame.calls (stays_steps steps keeps) (shut_says says)
 
--- a look, where nothing is pending
-pub stays_look : {a b : View} → Lawful a → Lawful b → NothingPending a → Looks a b → StaysShut a b
-stays_look {a} {b} law law_b nothing looks = record {
+-- a look
+pub stays_look : {a b : View} → Lawful a → Lawful b → Looks a b → StaysShut a b
+stays_look {a} {b} law law_b looks = record {
   after = λ shut image may. elim may [
     | inl told ↦ let told_a : Told a = ap (λ (f : Fixed). f.tells_held) (sym looks.run.fixed) ∙ told.0 in subst IsShut (sym (told.1 ∙ looks.held told_a)) (shut a.held (inl (told_a, refl)))
     | inr honest ↦
         let honest_a : Honest a = ap (λ (f : Fixed). f.honest) (sym looks.run.fixed) ∙ honest.0 in
         elim (looks.run.moments.each honest_a a.calls image b.said (omega arith) (law_b.now honest.0 a.calls image looks.run.calls honest.1)) [
           | inl past ↦ shut image (inr (honest_a, (law.present honest_a image b.said past).0))
-          | inr same ↦ subst IsShut (sym same) (shut a.held (inr (honest_a, law.held honest_a)))
+          | inr may_leave ↦ shut image (inr (honest_a, may_leave))
         ]
   ];
-  moments = λ shut. leaves_in (λ image said. IsShut image) looks.run.moments (λ honest image said same. subst IsShut (sym same) (shut a.held (inr (honest, law.held honest))));
+  moments = λ shut. leaves_in (λ image said. IsShut image) looks.run.moments (λ honest image said may_leave. shut image (inr (honest, may_leave)));
 }
 
 -- Clean files.

@@ -8,6 +8,7 @@ use Rattle.station.specs.Steps.{Steps, Says}
 use Rattle.station.specs.declared.travel.Travel.{Travel}
 use Rattle.station.proofs.Sayings.{run_of_steps, run_in, run_on}
 use Rattle.key_slot.specs.Record.{Record}
+use Rattle.header_gate.specs.Header.{layout_in}
 use Rattle.map_model.specs.ArrayState.{ArrayState}
 use Rattle.map_model.specs.Image.{map_of}
 use Rattle.map_model.specs.Store.{Map}
@@ -39,7 +40,8 @@ use Rattle.pma_engine.proofs.Closing.{but_of}
 use Rattle.pma_engine.proofs.Ending.{run_damaged, last_line, on_done, of_disk, of_reply, no_line}
 use Rattle.pma_engine.proofs.Meant.{opened_map}
 use Rattle.pma_engine.proofs.OutcomeLaws.{damaged_refused, no_map, not_store_refused}
-use Rattle.pma_engine.proofs.RangeAnswers.{nothing_front}
+use Rattle.pma_engine.proofs.RangeAnswers.{left_front}
+use Rattle.pma_engine.proofs.StoreLaws.{left_says}
 use Rattle.pma_engine.proofs.Upgrading.{keeps_opened, unopened_run}
 
 -- The dump of an open store.
@@ -51,14 +53,15 @@ module _ (s t : SweepView) (a b : View) (law : Lawful a) (law_b : Lawful b) (not
   module _ (r : Result (Unit {0}) ServeFault) (says : SaysSweep r s t a b) where
     looks : Looks a b
     looks = record {
-      run = run_in (λ image said. image ≡ a.held) says.front.run (λ honest image said is. is.image_is);
+      run = run_in (λ image said. a.may_leave image) says.front.run (λ honest image said is. is.is_left);
       held = says.front.held;
+      left = left_front law law_b says.front;
       unwritten = ap (λ (x : Travel). x.written) says.walks ∙ walk_written s.reader.layout s.reader.region s.reader.next t.reader.next a.travel;
     }
 
     settled : NothingPending b
     settled honest image left =
-        nothing_front law law_b nothing says.front honest image left ∙ sym (says.front.held (law.tells (ap (λ f. f.honest) (sym says.front.run.fixed) ∙ honest)).0)
+        nothing (ap (λ f. f.honest) (sym says.front.run.fixed) ∙ honest) image (left_front law law_b says.front honest image left) ∙ sym (says.front.held (law.tells (ap (λ f. f.honest) (sym says.front.run.fixed) ∙ honest)).0)
 
     front_said : Told a → SaidTold a → SaidFront (dump_text (map_of a.held)) a.said b.said
     front_said told said_told =
@@ -92,8 +95,9 @@ module _ (s t : SweepView) (a b : View) (law : Lawful a) (law_b : Lawful b) (not
       record {
         status_is = inr (inl refl);
         looks = record {
-          run = run_damaged (λ image said. image ≡ a.held) law here.run last says.told;
+          run = run_damaged (λ image said. a.may_leave image) law here.run last says.told;
           held = λ told. absurd (says.told told);
+          left = λ honest image left. here.left (ap (λ f. f.honest) (sym last.fixed) ∙ honest) image (left_says last honest image left);
           unwritten = ap (λ (x : Travel). x.written) last.travel ∙ here.unwritten;
         };
         done = λ e. absurd (omega (arith, e));
@@ -153,7 +157,7 @@ module _ (a b : View) (law : Lawful a) (ab : Steps Reopens (attached_by false a)
         other n none e = elim is [ inl x ↦ none.0 (sym e ∙ x) | inr x ↦ none.1 (sym e ∙ x) ]
 
     -- it is refused, and means no map
-    refused_file : (fault : OpenFault) → IsUnopened fault (attached_by false a) b → IsRefused a d → {text : List ℕ} → Says text b d → (Told a → IsAllAtRest a.held → IsButClosed a.held a.held b.held) → (Told a → (m : Map) → MeansMap a.held m → ⊥) → Comes REFUSED a d
+    refused_file : (fault : OpenFault) → IsUnopened fault (attached_by false a) b → IsRefused a d → {text : List ℕ} → Says text b d → (Told a → IsAllAtRest a.held → IsButClosed a.held a.held b.held) → (Told a → (m : Map) → MeansMap (layout_in a.held) a.held m → ⊥) → Comes REFUSED a d
     refused_file fault unopened refused says kept never = record {
       status_is = inr (inl refl);
       attached = says.attached ∙ ab.frame.attached;
@@ -180,7 +184,7 @@ module _ (a b : View) (law : Lawful a) (ab : Steps Reopens (attached_by false a)
     comes_unopened opening.Failed unopened silent says line = subst (Comes DISK_FAULT a) (sym (silent refl)) (quiet_file opening.Failed unopened DISK_FAULT (inl refl) (λ e. refl) (λ e. absurd (omega (arith, e))))
     comes_unopened (opening.NotStore reason) unopened silent says line =
         refused_file (opening.NotStore reason) unopened (not_store_refused a b ab d reason unopened says (line (reply.NotStore reason) refl)) says
-        (λ told rest. unopened.even reason refl told rest.rest.gate_even) (no_map a b ab d reason unopened)
+        (λ told rest. unopened.bare reason refl told rest.rest.bare) (no_map a b ab d reason unopened)
     comes_unopened (opening.Damaged segment why) unopened silent says line =
         refused_file (opening.Damaged segment why) unopened (damaged_refused a b ab d segment why unopened (line (reply.Damaged segment why) refl)) says
         (λ told. absurd (unopened.undamaged told)) (λ told. absurd (unopened.undamaged told))
@@ -236,7 +240,7 @@ module _ (a b : View) (law : Lawful a) (ab : Steps Reopens (attached_by false a)
         steps = λ nothing.
             run_on (λ image said. KeepsMeaning a.held image) (run_of_steps (λ image said. KeepsMeaning a.held image) ab (λ honest start image left step. subst (λ (x : List ℕ). KeepsMeaning x image) (nothing honest start left) (keeps_opened step))) dumps.looks.run
             (λ honest image said keeps. keeps)
-            (λ honest image said is. subst (KeepsMeaning a.held) (sym is) (keeps_opened (ab.held (law.tells honest).0)));
+            (λ honest image said left. let from = ab.images honest image left in subst (λ (x : List ℕ). KeepsMeaning x image) (nothing honest from.0 from.1) (keeps_opened from.2));
         held = λ told. subst (KeepsMeaning a.held) (sym (dumps.looks.held (on told))) (keeps_opened (ab.held told));
         done = λ e told. (opened.sound told, all_said e told);
         front = λ other told said. front_since told said;
@@ -244,7 +248,7 @@ module _ (a b : View) (law : Lawful a) (ab : Steps Reopens (attached_by false a)
           line = λ told. last_since (dumps.line e (on_said told));
           reason = λ told. absurd (dumps.undamaged e (on told));
           recovers = λ told. absurd (dumps.undamaged e (on told));
-          even = λ told. absurd (dumps.undamaged e (on told));
+          bare = λ told. absurd (dumps.undamaged e (on told));
         };
         memory = λ e. absurd (elim dumps.status_is [ inl x ↦ omega (arith, e, x) | inr (inl x) ↦ omega (arith, e, x) | inr (inr (inl x)) ↦ omega (arith, e, x) | inr (inr (inr x)) ↦ omega (arith, e, x) ]);
         settled = dumps.settled;

@@ -12,7 +12,8 @@ use Rattle.line_source.specs.Lines.{raw_lines}
 use Rattle.line_source.specs.SourceView.{SourceView, SourceTold}
 use Rattle.header_gate.specs.declared.layout.Layout.{Layout}
 use Rattle.header_gate.specs.declared.layout.TheConstants.{INDEXED, INTENT_VERSION}
-use Rattle.header_gate.specs.Header.{gate, layout_in}
+use Rattle.header_gate.specs.Header.{layout_in}
+use Rattle.header_gate.specs.InPlace.{IsBare}
 use Rattle.map_model.specs.ArrayState.{ArrayState}
 use Rattle.map_model.specs.Image.{Represents, array_in}
 use Rattle.map_model.specs.Store.{Map}
@@ -36,6 +37,7 @@ use Rattle.pma_engine.specs.Session.{Headline, replies_after}
 use Rattle.pma_engine.specs.declared.status.TheConstants.{DONE, REFUSED, DISK_FAULT, SCRIPT_FAULT, REPLY_FAULT, OUT_OF_MEMORY, TOO_LONG}
 use Rattle.index_file.specs.Reading.{area_calls}
 use Rattle.pma_engine.proofs.Closing.{keeps_staying, leaving_called, leaving_some}
+use Rattle.pma_engine.proofs.StoreLaws.{bare_yet, nothing_yet}
 use Rattle.pma_engine.proofs.Upgrading.{unpending}
 
 -- The leaving itself.
@@ -46,7 +48,7 @@ leaves_none s a open_yet shut other = record {
   status_is = inl refl;
   steps = weaken (no_steps a) (λ d i may same. subst (Leaves s.place.layout d) (sym same) (record { touched = record { size = refl; rest = λ k out. refl }; clean = clean_shut d (shut d may) }));
   left = λ e told is. absurd (other is);
-  settled = λ e. open_yet.on.settled;
+  settled = λ e. nothing_yet s open_yet.on;
   cost = omega arith;
   unread = refl;
   calls = omega arith;
@@ -85,32 +87,36 @@ module _ (s : StoreView) (old new : List ℕ) (stands : Stands s old) (idle : ha
     layout_is : layout_in old ≡ s.place.layout
     layout_is = stands.balanced.stands.settled.layout_is
 
-    even : gate old ≡ 0
-    even = stands.balanced.stands.settled.gate_even
+    bare : IsBare (layout_in old) old
+    bare = subst (λ (l : Layout). IsBare l old) (sym layout_is) (bare_yet s old stands)
 
     represents : Represents new m height
-    represents = kept.still_represents s.place.layout old new m height is even layout_is leaves.touched
+    represents = kept.still_represents s.place.layout old new m height is bare layout_is leaves.touched
+
+    layout_kept : layout_in new ≡ layout_in old
+    layout_kept = kept.layout_same s.place.layout old new m height is bare layout_is leaves.touched
 
     array_same : array_in new height ≡ array_in old height
-    array_same = kept.array_same s.place.layout old new m height is even layout_is leaves.touched
+    array_same = kept.array_same s.place.layout old new m height is bare layout_is leaves.touched
 
     still_idle : has_pending new ≡ false
-    still_idle = (λ t. nat_le INTENT_VERSION ((kept.layout_same s.place.layout old new m height is even layout_is leaves.touched t).version) && (kept.intent_same s.place.layout old new m height is even layout_is leaves.touched t == 1)) ∙ idle
+    still_idle = (λ t. nat_le INTENT_VERSION ((layout_kept t).version) && (kept.intent_same s.place.layout old new m height is bare layout_is leaves.touched t == 1)) ∙ idle
 
   -- the map that it means
-  map_left : (m : Map) → MeansMap old m → MeansMap new m
-  map_left m means =
-      let is = unpending old m means.0 means.1 idle in (means.0, means_idle new m means.0 (represents m means.0 is) (still_idle m means.0 is))
+  map_left : (l : Layout) (m : Map) → MeansMap l old m → MeansMap l new m
+  map_left l m means =
+      let is = unpending old m means.1.0 means.1.1 idle in (layout_kept m means.1.0 is ∙ means.0, (means.1.0, means_idle new m means.1.0 (represents m means.1.0 is) (still_idle m means.1.0 is)))
 
   -- and its state
-  state_left : (x : ArrayState) → IsAtState x old → IsAtState x new
-  state_left x at = record {
+  state_left : (l : Layout) (x : ArrayState) → IsAtState l x old → IsAtState l x new
+  state_left l x at = record {
+    layout_is = layout_kept x.map x.height at.has.represents ∙ at.layout_is;
     has = record { represents = represents x.map x.height at.has.represents; array_is = array_same x.map x.height at.has.represents ∙ at.has.array_is };
     balanced = at.balanced;
   }
 
 -- a pair of a script goes on, where the image means what it meant
-headline_left : (l : Layout) (x : Session) (cs : List Command) (before old new said : List ℕ) → ((m : Map) → MeansMap old m → MeansMap new m) → Headline l x cs before old said → Headline l x cs before new said
+headline_left : (l : Layout) (x : Session) (cs : List Command) (before old new said : List ℕ) → ((m : Map) → MeansMap l old m → MeansMap l new m) → Headline l x cs before old said → Headline l x cs before new said
 headline_left l x cs before old new said moved here = record {
   new = here.new;
   rest = here.rest;
@@ -126,8 +132,8 @@ module _ (most : ℕ) (l : Layout) (x now : Session) (t : StoreView) (s0 s1 : So
   on : Told a → Told b
   on told = ap (λ (f : Fixed). f.tells_held) serves.run.fixed ∙ told
 
-  moved : Told b → (image : List ℕ) → Leaves t.place.layout b.held image → (m : Map) → MeansMap b.held m → MeansMap image m
-  moved told image step = map_left t b.held image (open_yet.on.stands b.held (inl (told, refl))) (open_yet.no_intent b.held (inl (told, refl))) step
+  moved : Told b → (image : List ℕ) → Leaves t.place.layout b.held image → (m : Map) → MeansMap l b.held m → MeansMap l image m
+  moved told image step = map_left t b.held image (open_yet.on.stands b.held (inl (told, refl))) (open_yet.no_intent b.held (inl (told, refl))) step l
 
   no_refusal : DONE ≡ REFUSED → ⊥
   no_refusal e = omega (arith, e)
@@ -138,7 +144,7 @@ module _ (most : ℕ) (l : Layout) (x now : Session) (t : StoreView) (s0 s1 : So
   run_left : Run (ScriptPair l x a (fresh_reader most) s0) a c
   run_left = run_on (ScriptPair l x a (fresh_reader most) s0) serves.run (run_of_steps (ScriptPair l x a (fresh_reader most) s0) leaves.steps (λ honest start image may step.
       let tells = law.tells (ap (λ (f : Fixed). f.honest) (sym serves.run.fixed) ∙ honest) in
-      pair_left image tells.0 tells.1 (subst (λ (d : List ℕ). Leaves t.place.layout d image) (open_yet.on.settled honest start may) step)))
+      pair_left image tells.0 tells.1 (subst (λ (d : List ℕ). Leaves t.place.layout d image) (nothing_yet t open_yet.on honest start may) step)))
       (λ honest image said pair. pair) (λ honest image said pair. pair)
 
   after : SourceTold s0 → Told a → leaving_cost t.place.layout t.tally.height ≡ leaving_cost l (session_after l x (commands_of l.format s0.left)).store.height
@@ -149,7 +155,7 @@ module _ (most : ℕ) (l : Layout) (x now : Session) (t : StoreView) (s0 s1 : So
       let done = served told_s told in
       record {
         said = λ said_told. leaves.steps.frame.said ∙ done.said said_told;
-        stands = state_left t b.held c.held (open_yet.on.stands b.held (inl (on told, refl))) (open_yet.no_intent b.held (inl (on told, refl))) (leaves.steps.held (on told)) (session_after l x (commands_of l.format s0.left)).store done.stands;
+        stands = state_left t b.held c.held (open_yet.on.stands b.held (inl (on told, refl))) (open_yet.no_intent b.held (inl (on told, refl))) (leaves.steps.held (on told)) l (session_after l x (commands_of l.format s0.left)).store done.stands;
         spent = omega (arith, done.spent, leaves.cost, after told_s told);
       }
 
@@ -215,7 +221,7 @@ pub runs_left : (most : ℕ) (s t : StoreView) (now : Session) (s0 s1 : SourceVi
     → StaysShut a b → (AsksNothing (layout_on s).format s0 → b.travel ≡ a.travel) → (status : ℕ) → LeavesIndex status t b c → RunsOpened status most s s0 s1 a c
 runs_left most s t now s0 s1 a b c law law_b shut serves served at_height open_yet layout stays unread status leaves = record {
   serves = serves_left most (layout_on s) (session_in (fresh_session s) a.held) now t s0 s1 a b c law serves served at_height open_yet layout status leaves;
-  clean = keeps_on law_b serves.run.fixed serves.run.calls (λ nothing. open_yet.on.settled) (keeps_staying on shut stays) (keeps_leaving t.place.layout leaves.steps);
+  clean = keeps_on law_b serves.run.fixed serves.run.calls (λ nothing. nothing_yet t open_yet.on) (keeps_staying on shut stays) (keeps_leaving t.place.layout leaves.steps);
   left = λ e told version. leaves.left e (on told) (ap (λ (l : Layout). l.version) layout ∙ version);
   unleft = λ cut. absurd (elim leaves.status_is [
     | inl i ↦ elim cut [ inl k ↦ omega (arith, i, k) | inr (inl k) ↦ omega (arith, i, k) | inr (inr k) ↦ omega (arith, i, k) ]

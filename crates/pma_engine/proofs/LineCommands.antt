@@ -16,6 +16,7 @@ each_sound f n = record {
   costs = tt;
   opens = λ name low high is low_is high_is. tt;
   nexts = λ name is. tt;
+  prevs = λ name is. tt;
   closes = λ name is. tt;
   probes = λ key block is some. some;
   oversized_key = tt;

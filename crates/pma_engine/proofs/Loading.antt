@@ -55,6 +55,7 @@ use Rattle.pma_engine.specs.declared.status.TheConstants.{DONE, REFUSED, DISK_FA
 use Rattle.pma_engine.proofs.Meant.{opened_map}
 use Rattle.pma_engine.proofs.OutcomeLaws.{no_map}
 use Rattle.pma_engine.proofs.Upgrading.{keeps_opened, keeps_on, none_told, said_since, spared_none, stands_told, unopened_run, unpending}
+use Rattle.pma_engine.proofs.StoreLaws.{nothing_yet}
 
 zero_or : (n : ℕ) → (n ≡ 0) ⊎ (0 < n)
 zero_or zero = inl refl
@@ -103,10 +104,10 @@ module _ (laws : Laws) (most : ℕ) (s : StoreView) (s0 s1 : SourceView) (layout
       (laws.text s.place.layout.format (most_records s.place.layout) (raw_lines s0.left) rows (text told), laws.few s.place.layout.format (most_records s.place.layout) (raw_lines s0.left) rows (text told))
 
   -- a store without records means the empty map
-  no_records : Told a → sum s.tally.counts ≡ 0 → (m : Map) (here : MeansMap a.held m) → m ≡ empty_map
+  no_records : Told a → sum s.tally.counts ≡ 0 → (m : Map) (here : MeansMap (layout_in a.held) a.held m) → m ≡ empty_map
   no_records told none m here =
       empty_of_len m
-      (ap len (determined a.held m here.0 (unpending a.held m here.0 here.1 (none_told a s opened told))).0
+      (ap len (determined a.held m here.1.0 (unpending a.held m here.1.0 here.1.1 (none_told a s opened told))).0
       ∙ counted_all s.place.layout s.place.region s.tally.height s.tally.counts a.held (stands_told a s opened told) ∙ none)
 
   stays : (image : List ℕ) → image ≡ a.held → MayLoad s0 a.held image
@@ -117,8 +118,8 @@ module _ (laws : Laws) (most : ℕ) (s : StoreView) (s0 s1 : SourceView) (layout
     no_intent = spared_none s.place.layout (1 - s.place.region) a.held image (ap (λ (x : Layout). x.version) moved.layout_is) moved.touched (none_told a s opened told)
 
     may_load : MayLoad s0 a.held image
-    may_load m here = elim (moved.map_is m here.0 (unpending a.held m here.0 here.1 (none_told a s opened told))) [
-      | inl same ↦ inl (here.0, means_idle image m here.0 same no_intent)
+    may_load m here = elim (moved.map_is m here.1.0 (unpending a.held m here.1.0 here.1.1 (none_told a s opened told))) [
+      | inl same ↦ inl (moved.layout_is, (here.1.0, means_idle image m here.1.0 same no_intent))
       | inr text ↦ inr (
         no_records told none m here,
         record {
@@ -126,6 +127,7 @@ module _ (laws : Laws) (most : ℕ) (s : StoreView) (s0 s1 : SourceView) (layout
           height = text.height;
           text = subst (λ (x : Layout). HasText x s0 text.rows) (sym (stands_told a s opened told).settled.layout_is) (has_text text.rows text.text);
           least = text.least;
+          layout = moved.layout_is;
           means = means_idle image (from_sorted text.rows) text.height text.represents no_intent;
         },
       )
@@ -135,18 +137,18 @@ module _ (laws : Laws) (most : ℕ) (s : StoreView) (s0 s1 : SourceView) (layout
     keeps : StandsFor s.place s.tally image → KeepsMeaning a.held image
     keeps stands m here =
         let none_in : map_of image ≡ m = empty_of_len (map_of image) (counted_all s.place.layout s.place.region s.tally.height s.tally.counts image stands ∙ none) ∙ sym (no_records told none m here) in
-        (height_of image, means_idle image m (height_of image) (subst (λ (n : Map). Represents image n (height_of image)) none_in stands.settled.represents) no_intent)
+        (moved.layout_is, (height_of image, means_idle image m (height_of image) (subst (λ (n : Map). Represents image n (height_of image)) none_in stands.settled.represents) no_intent))
 
   module _ (r : Result Loaded LoadFault) (b : View) (facts : Facts most r s s0 s1 a b) where
     -- all that the station may hold then was made of what it held
     each_moved : EachHeld (λ image. Told a × Loads s.place (TextFor s.place.layout (fresh_reader most) s0) a.held image) b
     each_moved =
         each_on (λ d. Told a × (d ≡ a.held)) (λ i. Told a × Loads s.place (TextFor s.place.layout (fresh_reader most) s0) a.held i) facts.steps
-        (λ image left. (told_of law image left, only_held a opened.on.settled image left))
+        (λ image left. (told_of law image left, only_held a (nothing_yet s opened.on) image left))
         (λ d i p step. (p.0, subst (λ (x : List ℕ). Loads s.place (TextFor s.place.layout (fresh_reader most) s0) x i) p.1 step))
 
     each_same : 0 < sum s.tally.counts → EachHeld (λ image. image ≡ a.held) b
-    each_same some = each_on (λ d. d ≡ a.held) (λ i. i ≡ a.held) (facts.untouched some).0 (only_held a opened.on.settled) (λ d i p same. same ∙ p)
+    each_same some = each_on (λ d. d ≡ a.held) (λ i. i ≡ a.held) (facts.untouched some).0 (only_held a (nothing_yet s opened.on)) (λ d i p same. same ∙ p)
 
     each : EachHeld (MayLoad s0 a.held) b
     each = elim (zero_or (sum s.tally.counts)) [
@@ -163,9 +165,9 @@ module _ (laws : Laws) (most : ℕ) (s : StoreView) (s0 s1 : SourceView) (layout
     runs : Run (λ image said. MayLoad s0 a.held image) a b
     runs = elim (zero_or (sum s.tally.counts)) [
       | inl none ↦ run_of_steps (λ image said. MayLoad s0 a.held image) facts.steps
-          (λ honest start image left step. may_load image (law.tells honest).0 none (subst (λ (x : List ℕ). Loads s.place (TextFor s.place.layout (fresh_reader most) s0) x image) (opened.on.settled honest start left) step))
+          (λ honest start image left step. may_load image (law.tells honest).0 none (subst (λ (x : List ℕ). Loads s.place (TextFor s.place.layout (fresh_reader most) s0) x image) ((nothing_yet s opened.on) honest start left) step))
       | inr some ↦ run_of_steps (λ image said. MayLoad s0 a.held image) (facts.untouched some).0
-          (λ honest start image left same. stays image (same ∙ opened.on.settled honest start left))
+          (λ honest start image left same. stays image (same ∙ (nothing_yet s opened.on) honest start left))
     ]
 
     left_alone : 0 < sum s.tally.counts → (b.held ≡ a.held) × (b.travel.written ≡ a.travel.written)
@@ -260,10 +262,10 @@ module _ (laws : Laws) (most : ℕ) (s : StoreView) (s0 s1 : SourceView) (layout
             height = done.height;
             text = has_text facts.loaded.0 is.text;
             least = is.least;
+            layout = moved.layout_is ∙ (stands_told a s opened told).settled.layout_is;
             means = means_idle b.held (from_sorted facts.loaded.0) done.height (is.represents b.held (inl (told_b, refl))) none;
           };
           no_intent = none;
-          layout = moved.layout_is ∙ (stands_told a s opened told).settled.layout_is;
           array = is.array told_b;
           balanced = subst (IsBalancedArray done.height) (sym (is.array told_b)) is.balanced;
         }
@@ -374,7 +376,7 @@ module _ (most : ℕ) (s : SourceView) (a b : View) (law : Lawful a) (ab : Steps
       ends calm = elim is [ inl e ↦ absurd (calm (unopened.failed (failed e))) | inr e ↦ e ]
 
   -- it is refused, and means no map
-  refused_file : IsLoadRefused s s a d → {text : List ℕ} → Says text b d → (Told a → (m : Map) → MeansMap a.held m → ⊥) → Comes REFUSED most s s a d
+  refused_file : IsLoadRefused s s a d → {text : List ℕ} → Says text b d → (Told a → (m : Map) → MeansMap (layout_in a.held) a.held m → ⊥) → Comes REFUSED most s s a d
   refused_file refused says never = record {
     status_is = inr (inl refl);
     attached = says.attached ∙ ab.frame.attached;
@@ -407,8 +409,8 @@ module _ (most : ℕ) (s : SourceView) (a b : View) (law : Lawful a) (ab : Steps
         line = λ told. (reply.NotStore reason, tt, from told);
         why = λ told. (reply.NotStore reason, inl (reason, unopened.refused reason refl told, refl), from);
         recovers = λ told r is. subst (λ (x : List ℕ). IsButClosed a.held (recovered (layout_in a.held) a.held) (recovered (layout_in a.held) x)) (sym says.held) (unopened.recovers reason refl told);
-        even = λ told r is even. subst (IsButClosed a.held a.held) (sym says.held) (unopened.even reason refl told even);
-        kept = λ told rest some. (subst (IsButClosed a.held a.held) (sym says.held) (unopened.even reason refl told rest.rest.gate_even), subst (WritesGate a.held a.travel.written) (sym (ap (λ (t : Travel). t.written) says.travel)) (unopened.unwritten told rest));
+        bare = λ told r is bare. subst (IsButClosed a.held a.held) (sym says.held) (unopened.bare reason refl told bare);
+        kept = λ told rest some. (subst (IsButClosed a.held a.held) (sym says.held) (unopened.bare reason refl told rest.rest.bare), subst (WritesGate a.held a.travel.written) (sym (ap (λ (t : Travel). t.written) says.travel)) (unopened.unwritten told rest));
       }) says (no_map a b ab d reason unopened)
     where
       from : SaidTold a → SaysLine (reply.NotStore reason) a.said a d
@@ -418,7 +420,7 @@ module _ (most : ℕ) (s : SourceView) (a b : View) (law : Lawful a) (ab : Steps
         line = λ told. (reply.Damaged segment why, tt, from told);
         why = λ told. absurd (unopened.undamaged told);
         recovers = λ told. absurd (unopened.undamaged told);
-        even = λ told. absurd (unopened.undamaged told);
+        bare = λ told. absurd (unopened.undamaged told);
         kept = λ told. absurd (unopened.undamaged told);
       }) says (λ told. absurd (unopened.undamaged told))
     where
@@ -446,12 +448,12 @@ module _ (most : ℕ) (s0 s1 : SourceView) (a b : View) (law : Lawful a) (ab : S
   same_answer told line = (λ i. AnswersLoad (opened.layout told i) (same_records told i) s0 s1 line)
 
   -- a map that the file meant
-  same_map : Told a → (m : Map) → MeansMap a.held m → len m ≡ sum v.tally.counts
-  same_map told m here = ap len (meant_one a.held m here.0 here.1).0 ∙ sym (same_records told)
+  same_map : Told a → (m : Map) → MeansMap (layout_in a.held) a.held m → len m ≡ sum v.tally.counts
+  same_map told m here = ap len (meant_one a.held m here.1.0 here.1.1).0 ∙ sym (same_records told)
 
   may_since : Told a → (image : List ℕ) → MayLoad s0 b.held image → MayLoad s0 a.held image
-  may_since told image moved m here = elim (moved m ((ab.held told).means m here)) [
-    | inl keeps ↦ inl keeps
+  may_since told image moved m here = elim (moved m (refl, ((ab.held told).means m here).1)) [
+    | inl keeps ↦ inl (keeps.0 ∙ ((ab.held told).means m here).0, keeps.1)
     | inr text ↦ inr (
       text.0,
       record {
@@ -459,6 +461,7 @@ module _ (most : ℕ) (s0 s1 : SourceView) (a b : View) (law : Lawful a) (ab : S
         height = text.1.height;
         text = subst (λ (x : Layout). HasText x s0 text.1.rows) (same_layout told) text.1.text;
         least = text.1.least;
+        layout = text.1.layout ∙ same_layout told;
         means = text.1.means;
       },
     )
@@ -481,7 +484,7 @@ module _ (most : ℕ) (s0 s1 : SourceView) (a b : View) (law : Lawful a) (ab : S
           let last = loads.why e (on told) in
           (last.0, inr (opened.sound told, subst (λ (x : Type 0). x) (same_answer told last.0) last.1), (λ said. since last.0 (last.2 (on_said said))));
       recovers = λ told r is. absurd (none_some (sym (opened.sound told) ∙ is));
-      even = λ told r is. absurd (none_some (sym (opened.sound told) ∙ is));
+      bare = λ told r is. absurd (none_some (sym (opened.sound told) ∙ is));
       kept = λ told rest some.
           let same = loads.left (omega (arith, some, same_records told)) in
           (subst (IsButClosed a.held a.held) (sym same.0) (opened.kept told rest), subst (WritesGate a.held a.travel.written) (sym same.1) (opened.unwritten told rest));
@@ -491,7 +494,7 @@ module _ (most : ℕ) (s0 s1 : SourceView) (a b : View) (law : Lawful a) (ab : S
         none_some is = cc
 
     -- the map that it meant is empty, where it has no records
-    none_is : Told a → sum v.tally.counts ≡ 0 → (m : Map) → MeansMap a.held m → m ≡ empty_map
+    none_is : Told a → sum v.tally.counts ≡ 0 → (m : Map) → MeansMap (layout_in a.held) a.held m → m ≡ empty_map
     none_is told none m here = empty_of_len m (same_map told m here ∙ none)
 
     was_loaded : status ≡ DONE → Told a → (opening_reason a.held ≡ None) × (meant_map a.held ≡ empty_map) × IsFileLoaded (layout_in a.held) s0 d.held
@@ -548,7 +551,7 @@ module _ (most : ℕ) (s0 s1 : SourceView) (a b : View) (law : Lawful a) (ab : S
     | inr (inl e) ↦ absurd (no_memory e)
     | inr (inr (inl never)) ↦ absurd never.0
     | inr (inr (inr (inl over))) ↦ omega (arith, over.1.2, same_map over.0 over.1.0 over.1.1)
-    | inr (inr (inr (inr (told, no_store)))) ↦ absurd (no_store (meant_map a.held) (height_of a.held, means_of_none a.held (opened.sound told)))
+    | inr (inr (inr (inr (told, no_store)))) ↦ absurd (no_store (meant_map a.held) (refl, (height_of a.held, means_of_none a.held (opened.sound told))))
   ]
     where
       no_memory : status ≡ OUT_OF_MEMORY → ⊥

@@ -12,6 +12,7 @@ use Rattle.recovery.specs.declared.fault.OpenFault.{OpenFault}
 use Rattle.recovery.specs.declared.fault.OpenFault.TheVariants as opening
 use Rattle.index_file.specs.Clean.{IsClean, version_of}
 use Rattle.index_file.specs.Opening.{IsQuick}
+use Rattle.index_file.proofs.Kept.{even_of_bare}
 use Rattle.pma_store.specs.declared.store.Store.{Store}
 use Rattle.pma_engine.specs.Jobs.{LooksQuickly}
 use Rattle.pma_engine.specs.Opening.{LooksByIndex}
@@ -23,7 +24,7 @@ use Rattle.pma_engine.specs.declared.status.TheConstants.{DONE}
 may_open : (image : List ℕ) → IsClean image → version_of image ≡ INDEXED → clean_gate image ≡ 1 → IsQuick image
 may_open image clean version odd =
     let left = clean version odd in
-    record { sound = none_of_sound image left.represents.header; indexed = version; gate_even = left.gate_even; intent_even = left.intent_even; clean_odd = odd }
+    record { sound = none_of_sound image left.represents.header; indexed = version; gate_even = even_of_bare (layout_in image) image (λ paired. omega (arith, version, paired)) left.bare; intent_even = left.intent_even; clean_odd = odd }
 
 -- it was not opened
 pub looks_unopened : {text : List ℕ} (a b d : View) (s : SourceView) (fault : OpenFault) (status : ℕ) → status ≡ status_of_opening fault → (Told a → IsClean a.held) → (Told a → IsQuick a.held → LooksByIndex {T = Store} (Err fault) (attached_by false a) b) → Says text b d → LooksQuickly status s a d

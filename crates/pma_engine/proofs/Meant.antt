@@ -18,17 +18,17 @@ opened_map image =
     let hmax = height_limit (layout_in image) in
     ap (λ (t : State). t.map) (plain_items hmax (opened_state image) (pending image)) ∙ map_of_items hmax (plain (opened_state image)) (pending image)
 
-pub meant_is : (image : List ℕ) (m : Map) → MeansMap image m → m ≡ (opened_items_state image).map
-meant_is image m means = (meant_one image m means.0 means.1).0 ∙ sym (opened_map image)
+pub meant_is : (image : List ℕ) (m : Map) → MeansMap (layout_in image) image m → m ≡ (opened_items_state image).map
+meant_is image m means = (meant_one image m means.1.0 means.1.1).0 ∙ sym (opened_map image)
 
-pub opened_is : (image : List ℕ) (m : Map) → MeansMap image m → opened_items_state image ≡ state_of m image
+pub opened_is : (image : List ℕ) (m : Map) → MeansMap (layout_in image) image m → opened_items_state image ≡ state_of m image
 opened_is image m means = λ i. record (opened_items_state image) { map = sym (meant_is image m means) i }
 
 -- and is sound
-pub begins_sound : (image : List ℕ) (m : Map) → MeansMap image m → IsSoundState (height_limit (layout_in image)) (state_of m image)
+pub begins_sound : (image : List ℕ) (m : Map) → MeansMap (layout_in image) image m → IsSoundState (height_limit (layout_in image)) (state_of m image)
 begins_sound image m means =
     let hmax = height_limit (layout_in image) in
-    subst (IsSoundState hmax) (opened_is image m means) (states_sound hmax (opened_state image) (pending image) (opened_sound image means.1.base means.0 means.1.represents))
+    subst (IsSoundState hmax) (opened_is image m means) (states_sound hmax (opened_state image) (pending image) (opened_sound image means.1.1.base means.1.0 means.1.1.represents))
 
 -- without its array it is what the items of the intent lead to
 pub begins_plain : (image : List ℕ) (m : Map) (height : ℕ) (means : Means image m height) → plain (state_of m image) ≡ meant_state means

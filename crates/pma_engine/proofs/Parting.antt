@@ -1,13 +1,25 @@
 -- The parts of an open store.
-use Rattle.std.proofs.Common.{◌≡◌, sym, subst}
-use Rattle.station.specs.View.{View, EachHeld}
+use Rattle.std.proofs.Common.{◌≡◌, ℕ, inl, refl, sym, subst}
+use Rattle.station.specs.View.{View, Told, EachHeld}
+use Rattle.header_gate.specs.InPlace.{IsBare}
 use Rattle.map_model.specs.Standing.{StandsWith}
 use Rattle.redo_journal.specs.declared.place.Place.{Place}
+use Rattle.redo_journal.specs.Rest.{RestsAt}
 use Rattle.window_tally.specs.View.{TallyView}
 use Rattle.pma_store.specs.Store.{StoreView, IsOpenOn}
+use Rattle.pma_engine.proofs.StoreLaws.{bare_yet}
 
 -- they stand for its file
 pub parts_stand : (s : StoreView) (place : Place) (tally : TallyView) (v : View) → place ≡ s.place → tally ≡ s.tally → IsOpenOn s v → EachHeld (StandsWith place.layout place.region tally.height tally.counts) v
 parts_stand s place tally v same_place same_tally is = λ image held.
     subst (λ (p : Place). StandsWith p.layout p.region tally.height tally.counts image) (sym same_place)
     (subst (λ (t : TallyView). StandsWith s.place.layout s.place.region t.height t.counts image) (sym same_tally) (is.on.stands image held).balanced.stands)
+
+-- no page is to be laid over its live region
+pub parts_bare : (s : StoreView) (place : Place) (v : View) → place ≡ s.place → IsOpenOn s v → Told v → IsBare place.layout v.held
+parts_bare s place v same is told = subst (λ (p : Place). IsBare p.layout v.held) (sym same) (bare_yet s v.held (is.on.stands v.held (inl (told, refl))))
+
+-- and its station is at rest
+pub parts_rest : (s : StoreView) (place : Place) (turn : ℕ) (v : View) → place ≡ s.place → turn ≡ s.turn → IsOpenOn s v → RestsAt place.layout turn v
+parts_rest s place turn v same_place same_turn is =
+    subst (λ (p : Place). RestsAt p.layout turn v) (sym same_place) (subst (λ (n : ℕ). RestsAt s.place.layout n v) (sym same_turn) is.on.rests)

@@ -1,5 +1,5 @@
 -- The calls of lines behind one another.
-use Rattle.std.proofs.Common.{◌≡◌, ℕ, ◌+◌, ◌≤◌, List, [], ◌∷◌, ◌++◌, length, refl, sym, ap, subst, ◌∙◌, inl, inr, arith}
+use Rattle.std.proofs.Common.{◌≡◌, ℕ, ◌+◌, ◌≤◌, List, [], ◌∷◌, ◌++◌, length, refl, sym, subst, ◌∙◌, inl, inr, arith}
 use Rattle.station.specs.View.{View, Told}
 use Rattle.header_gate.specs.declared.layout.Layout.{Layout}
 use Rattle.map_model.specs.Cursors.{Cursors}
@@ -7,7 +7,7 @@ use Rattle.map_model.specs.Store.{Update}
 use Rattle.command_text.specs.Script.{command_of_raw, commands_in}
 use Rattle.command_text.specs.Session.{Session, session_reply, session_step, session_after}
 use Rattle.command_text.specs.declared.command.Command.{Command}
-use Rattle.command_text.specs.declared.command.Command.TheVariants.{Nothing, Put, Remove, Batch, Get, Range, Check, Probe, Cost, Open, Next, Close, OversizedKey, OversizedValue, RepeatedKey, Bad}
+use Rattle.command_text.specs.declared.command.Command.TheVariants.{Nothing, Put, Remove, Batch, Get, Range, Check, Probe, Cost, Open, Next, Prev, Close, OversizedKey, OversizedValue, RepeatedKey, Bad}
 use Rattle.pma_store.specs.BatchCalls.{IsForBatch, IsForIntent}
 use Rattle.pma_store.specs.Store.{StoreView, IsOpenOn}
 use Rattle.pma_store.proofs.BatchCalls.{are_from}
@@ -46,6 +46,7 @@ for_view (Probe key block) s k a v n on is = is
 for_view Cost s k a v n on is = is
 for_view (Open name low high) s k a v n on is = is
 for_view (Next name) s k a v n on is = is
+for_view (Prev name) s k a v n on is = is
 for_view (Close name) s k a v n on is = is
 for_view OversizedKey s k a v n on is = is
 for_view OversizedValue s k a v n on is = is

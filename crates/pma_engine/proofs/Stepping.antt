@@ -2,11 +2,12 @@
 use Rattle.std.proofs.Common.{◌≡◌, ◌∷◌, [], ◌∙◌, true, false, Bool, is_some, Option, Some, None, Result, Ok, Err, refl, sym, ap, subst, arith}
 use Rattle.std.specs.FinMap.{contains_key, get, remove}
 use Rattle.station.specs.Bytes.{Same}
-use Rattle.station.specs.View.{View, Told, EachHeld, NothingPending, Rose}
+use Rattle.station.specs.View.{View, Lawful, Told, EachHeld, Rose}
 use Rattle.station.specs.Steps.{Steps}
 use Rattle.station.specs.declared.travel.Travel.{Travel}
 use Rattle.key_slot.specs.Record.{Bytes, Record}
 use Rattle.key_slot.specs.Row.{record_of}
+use Rattle.redo_journal.specs.Rest.{RestsAt}
 use Rattle.map_model.specs.Cursors.{Cursor, Cursors, after_next, after_open, next_in}
 use Rattle.map_model.specs.Image.{map_of}
 use Rattle.segment.specs.declared.fault.StoreFault.{StoreFault}
@@ -41,6 +42,7 @@ asks_one_line command.Check asks = absurd asks
 asks_one_line command.Cost asks = absurd asks
 asks_one_line (command.Open name low high) asks = tt
 asks_one_line (command.Next name) asks = tt
+asks_one_line (command.Prev name) asks = tt
 asks_one_line (command.Close name) asks = tt
 asks_one_line (command.Probe key block) asks = absurd asks
 asks_one_line command.OversizedKey asks = absurd asks
@@ -50,14 +52,14 @@ asks_one_line (command.Bad why) asks = absurd asks
 
 -- Openings and closings ask the station for nothing.
 
-module _ (m : MeteredView) (k q : Cursors) (name : Bytes) (r : Reply) (a : View) (here : IsOpenOn m.store a) where
+module _ (m : MeteredView) (k q : Cursors) (name : Bytes) (r : Reply) (a : View) (law : Lawful a) (here : IsOpenOn m.store a) where
   pub opened : (low high : Option Bytes) → r ≡ open_line k name → q ≡ after_open k name low high → Executes (command.Open name low high) (Ok (Some r)) (with_cursors m k) (with_cursors m q) a a
   opened low high line after =
-      nothing_asked (command.Open name low high) (Some r) (with_cursors m k) (with_cursors m q) a here (idle_open name low high) refl refl (λ told. ap (λ (x : Reply). x ∷ []) line) refl tt (λ told. after) after refl
+      nothing_asked (command.Open name low high) (Some r) (with_cursors m k) (with_cursors m q) a law here (idle_open name low high) refl refl (λ told. ap (λ (x : Reply). x ∷ []) line) refl tt (λ told. after) after refl
 
   pub closed : r ≡ close_line k name → q ≡ remove k name → Executes (command.Close name) (Ok (Some r)) (with_cursors m k) (with_cursors m q) a a
   closed line after =
-      nothing_asked (command.Close name) (Some r) (with_cursors m k) (with_cursors m q) a here (idle_close name) refl refl (λ told. ap (λ (x : Reply). x ∷ []) line) refl tt (λ told. after) after refl
+      nothing_asked (command.Close name) (Some r) (with_cursors m k) (with_cursors m q) a law here (idle_close name) refl refl (λ told. ap (λ (x : Reply). x ∷ []) line) refl tt (λ told. after) after refl
 
 -- A step.
 
@@ -70,15 +72,15 @@ reads_err B near = record { from = near.from; to = near.to; travel = near.travel
 
 -- over any station the cursors go by what the step gave
 module _ (k q : Cursors) (name : Bytes) where
-  row_moves : (o : Option Cursor) (r : Record) → given_by k name o r ≡ moved_by k name o (Some r)
+  pub row_moves : (o : Option Cursor) (r : Record) → given_by k name o r ≡ moved_by k name o (Some r)
   row_moves None r = refl
   row_moves (Some c) r = refl
 
-  end_moves : (o : Option Cursor) → true ≡ is_some o → remove k name ≡ moved_by k name o None
+  pub end_moves : (o : Option Cursor) → true ≡ is_some o → remove k name ≡ moved_by k name o None
   end_moves None is = absurd cc
   end_moves (Some c) is = refl
 
-  none_moves : (o : Option Cursor) → false ≡ is_some o → k ≡ moved_by k name o None
+  pub none_moves : (o : Option Cursor) → false ≡ is_some o → k ≡ moved_by k name o None
   none_moves None is = refl
   none_moves (Some c) is = absurd cc
 
@@ -87,7 +89,7 @@ module _ (k q : Cursors) (name : Bytes) where
   step_moves step.End known after = (None, after ∙ end_moves (get k name) known)
   step_moves step.NoCursor known after = (None, after ∙ none_moves (get k name) known)
 
-module _ (m n : MeteredView) (k q : Cursors) (name : Bytes) {A : Type 0} (result : Result A StoreFault) (a b : View) (here : IsOpenOn m.store a) (steps : Steps Same a b)
+module _ (m n : MeteredView) (k q : Cursors) (name : Bytes) {A : Type 0} (result : Result A StoreFault) (a b : View) (law : Lawful a) (law_b : Lawful b) (here : IsOpenOn m.store a) (steps : Steps Same a b)
     (reads : (c : Cursor) → get k name ≡ Some c → ReadsNear (later c.low c.past) (kept_region m.store) result a b) (idle : get k name ≡ None → b.travel ≡ a.travel) (uncalled : get k name ≡ None → b.calls ≡ a.calls)
     (state : unclosed n ≡ unclosed m) where
   looks_for : (o : Option Cursor) → get k name ≡ o → LooksAhead o m.store a.travel b.travel
@@ -113,11 +115,11 @@ module _ (m n : MeteredView) (k q : Cursors) (name : Bytes) {A : Type 0} (result
   store_kept closed is = ap (λ (v : MeteredView). v.store) (is_as_before m n state closed is)
 
   pub stepped : (s : Step) (r : Reply) → r ≡ next_line (told_by s) → (Told a → told_by s ≡ next_in (map_of a.held) k name) → is_some (told_by s) ≡ contains_key k name → q ≡ after_step k name s
-      → (Told a → q ≡ after_next (map_of a.held) k name) → n.store.closed ≡ false → EachHeld (StandsIdle n.store) b → NothingPending b → Executes (command.Next name) (Ok (Some r)) (with_cursors m k) (with_cursors n q) a b
-  stepped s r line answer known after next unclosed stands settled =
-      looked (with_cursors m k) (with_cursors n q) a b here steps (unwritten_for (get k name) refl) ledger_kept (command.Next name) r (λ told. ap (λ (x : Reply). x ∷ []) (line ∙ ap next_line (answer told))) (idle_next name)
-      (store_kept false unclosed) (opens_again m n state here steps.frame unclosed stands settled) (looks_for (get k name) refl) tt next (step_moves k q name s known after) (calls_for (get k name) refl)
+      → (Told a → q ≡ after_next (map_of a.held) k name) → n.store.closed ≡ false → EachHeld (StandsIdle n.store) b → RestsAt n.store.place.layout n.store.turn b → Executes (command.Next name) (Ok (Some r)) (with_cursors m k) (with_cursors n q) a b
+  stepped s r line answer known after next unclosed stands rests =
+      looked (with_cursors m k) (with_cursors n q) a b law here steps (unwritten_for (get k name) refl) ledger_kept (command.Next name) r (λ told. ap (λ (x : Reply). x ∷ []) (line ∙ ap next_line (answer told))) (idle_next name)
+      (store_kept false unclosed) (opens_again m n state here steps.frame unclosed stands rests) (looks_for (get k name) refl) tt next (step_moves k q name s known after) (calls_for (get k name) refl)
 
   pub stepped_in_vain : (fault : StoreFault) → n.store.closed ≡ true → q ≡ k → (Told a → fault ≡ Failed) → (fault ≡ Failed → Rose a.disk_faults b.disk_faults) → Executes (command.Next name) (Err fault) (with_cursors m k) (with_cursors n q) a b
   stepped_in_vain fault closed cursors sound failed =
-      looked_in_vain (with_cursors m k) (with_cursors n q) a b here steps (unwritten_for (get k name) refl) ledger_kept (command.Next name) fault (store_kept true closed) cursors (looks_for (get k name) refl) (λ f. tt) sound failed (calls_for (get k name) refl)
+      looked_in_vain (with_cursors m k) (with_cursors n q) a b law here steps (unwritten_for (get k name) refl) ledger_kept (command.Next name) fault (store_kept true closed) cursors (looks_for (get k name) refl) (λ f. tt) sound failed (calls_for (get k name) refl)

@@ -85,7 +85,7 @@ module _ (s t : SweepView) (fresh : s.given ≡ 0) {a b : View} where
         ∙ whole_of (leaves.before ++ leaves.last) (scan_of s a.held) count (all_are told) (omega (arith, leaves.rows.next.count, leaves.next.count, length-append leaves.before leaves.last, fresh, number))
 
     front_said : SaysFront lines a d
-    front_said = front_on law (row_text leaves.before) (left ++ reply_text (End count)) leaves.rows.whole (piece_front leaves.rows.whole.nothing says)
+    front_said = front_on law (row_text leaves.before) (left ++ reply_text (End count)) leaves.rows.whole (piece_front says)
 
     begun : Told a → (rest : List ℕ) × (lines ++ rest ≡ scan_text s a.held)
     begun told = ([], append-nil lines ∙ lines_are told)

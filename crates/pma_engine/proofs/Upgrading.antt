@@ -6,7 +6,7 @@ use Rattle.station.specs.Bytes.{Touched}
 use Rattle.station.specs.View.{View, Told, SaidTold, Honest, NothingPending, EachHeld, Rose, Lawful, attached_by}
 use Rattle.station.specs.Steps.{Steps, Says, Run}
 use Rattle.station.specs.declared.travel.Travel.{Travel}
-use Rattle.station.proofs.Sayings.{run_of_steps, run_of_says, run_on}
+use Rattle.station.proofs.Sayings.{run_in, run_of_steps, run_of_says, run_on}
 use Rattle.density_rule.specs.Spread.{resized_counts}
 use Rattle.header_gate.specs.Header.{layout_in, live_copy}
 use Rattle.header_gate.specs.Places.{height_limit}
@@ -43,16 +43,24 @@ use Rattle.pma_store.specs.Store.{StoreView, IsOpenOn}
 use Rattle.pma_engine.specs.Closing.{IsButClosed, WritesGate}
 use Rattle.pma_engine.specs.Opening.{IsOpened, IsUnopened, Reopens, reopening_cost}
 use Rattle.pma_engine.specs.Refusing.{IsRefusal, SaysLine, line_text, line_of_opening, status_of_opening}
-use Rattle.pma_engine.specs.Upgrading.{IsUpgradeStatus, AnswersUpgrade, IsUpgradeRefused, IsUpgraded, KeepsMeaning, next_height, opened_height, UpgradesFile, UpgradesOpened, line_of_upgrade, status_of_upgrade, upgrade_cost}
+use Rattle.pma_engine.specs.Upgrading.{IsUpgradeStatus, AnswersUpgrade, IsUpgradeRefused, IsUpgraded, KeepsMeaning, MayUpgrade, next_height, opened_height, UpgradesFile, UpgradesOpened, line_of_upgrade, status_of_upgrade, upgrade_cost}
 use Rattle.pma_engine.specs.declared.status.TheConstants.{DONE, REFUSED, DISK_FAULT, OUT_OF_MEMORY}
 use Rattle.pma_engine.proofs.Meant.{opened_map}
+use Rattle.pma_engine.proofs.StoreLaws.{nothing_yet}
 
 -- what opens a file keeps its meaning
 pub keeps_opened : {old new : List ℕ} → Reopens old new → KeepsMeaning old new
 keeps_opened opens m has = opens.means m has
 
 pub keeps_on : {old middle new : List ℕ} → KeepsMeaning old middle → KeepsMeaning middle new → KeepsMeaning old new
-keeps_on first second m has = second m (first m has)
+keeps_on {old} {middle} {new} first second m has = let mid = first m has in subst (λ (l : Layout). MeansMap l new m) mid.0 (second m (refl, mid.1))
+
+-- what keeps it may be an upgrade, and so what keeps it first
+may_upgrade : {old new : List ℕ} → KeepsMeaning old new → MayUpgrade old new
+may_upgrade keeps m has = inl (keeps m has)
+
+upgrades_on : {old middle new : List ℕ} → KeepsMeaning old middle → MayUpgrade middle new → MayUpgrade old new
+upgrades_on {old} {middle} {new} first second m has = let mid = first m has in subst (λ (l : Layout). MeansMap l new m ⊎ MeansMap (widened l) new m) mid.0 (second m (refl, mid.1))
 
 -- a file without an intent that is to be applied represents what it means
 pub unpending : (image : List ℕ) (m : Map) (height : ℕ) → Means image m height → has_pending image ≡ false → Represents image m height
@@ -76,14 +84,17 @@ spared_none l spare old new version touched none =
 still_none : {place : Place} {height : ℕ} (old new : List ℕ) → Upgrades place height old new → has_pending old ≡ false → has_pending new ≡ false
 still_none {place} old new upgrades none = spared_none place.layout (1 - place.region) old new (widened_version upgrades.layout_is) upgrades.touched none
 
--- so what upgrades a file without one keeps its meaning too
-keeps_upgraded : {place : Place} {height : ℕ} {old new : List ℕ} → has_pending old ≡ false → Upgrades place height old new → KeepsMeaning old new
+-- so what upgrades a file without one keeps its map too, and its layout or gives it slots of format 2
+keeps_upgraded : {place : Place} {height : ℕ} {old new : List ℕ} → has_pending old ≡ false → Upgrades place height old new → MayUpgrade old new
 keeps_upgraded {place} {height} {old} {new} none upgrades m has =
     let next_none = still_none old new upgrades none in
-    elim (upgrades.map_is m has.0 (unpending old m has.0 has.1 none)) [
-      | inl same ↦ (has.0, means_idle new m has.0 same next_none)
-      | inr next ↦ (height, means_idle new m height next next_none)
+    elim (upgrades.map_is m has.1.0 (unpending old m has.1.0 has.1.1 none)) [
+      | inl same ↦ laid (has.1.0, means_idle new m has.1.0 same next_none)
+      | inr next ↦ laid (height, means_idle new m height next next_none)
     ]
+  where
+    laid : (h : ℕ) × Means new m h → MeansMap (layout_in old) new m ⊎ MeansMap (widened (layout_in old)) new m
+    laid is = elim upgrades.layout_is [ inl same ↦ inl (same, is) | inr wider ↦ inr (wider, is) ]
 
 -- a line said behind disk calls was said since before them
 pub said_since : (a b d : View) (line : Reply) → b.said ≡ a.said → a.say_faults ≡ b.say_faults → SaysLine line b.said b d → SaysLine line a.said a d
@@ -95,10 +106,10 @@ said_since a b d line same calls says = record {
 }
 
 -- disk calls that keep the map, from a view on where nothing is pending, and a saying behind them
-pub run_said : {a b d : View} {R : List ℕ → List ℕ → Type 0} {text : List ℕ} → NothingPending a → Steps R a b → ((old new : List ℕ) → Honest a → a.may_leave old → R old new → KeepsMeaning old new) → Says text b d → Run (λ image said. KeepsMeaning a.held image) a d
-run_said {a} {b} {d} {R} nothing ab keeps says =
-    let P : List ℕ → List ℕ → Type 0 = λ image said. KeepsMeaning a.held image in
-    let from : Honest a → (start image : List ℕ) → a.may_leave start → R start image → KeepsMeaning a.held image = λ honest start image left step. subst (λ (x : List ℕ). KeepsMeaning x image) (nothing honest start left) (keeps start image honest left step) in
+pub run_said : (K : List ℕ → List ℕ → Type 0) {a b d : View} {R : List ℕ → List ℕ → Type 0} {text : List ℕ} → NothingPending a → Steps R a b → ((old new : List ℕ) → Honest a → a.may_leave old → R old new → K old new) → Says text b d → Run (λ image said. K a.held image) a d
+run_said K {a} {b} {d} {R} nothing ab keeps says =
+    let P : List ℕ → List ℕ → Type 0 = λ image said. K a.held image in
+    let from : Honest a → (start image : List ℕ) → a.may_leave start → R start image → K a.held image = λ honest start image left step. subst (λ (x : List ℕ). K x image) (nothing honest start left) (keeps start image honest left step) in
     run_on P (run_of_steps P ab from)
     (run_of_says P says (λ honest image n left within.
     let start = ab.images (ap (λ f. f.honest) (sym ab.frame.fixed) ∙ honest) image left in
@@ -157,8 +168,8 @@ module _ (a : View) (s : StoreView) (opened : IsOpenOn s a) where
         → (Told a → (b.held ≡ a.held) × (b.travel ≡ a.travel)) → (Told a → AnswersUpgrade s.place.layout s.place.region (sum s.tally.counts) line) → UpgradesOpened REFUSED s.place.layout s.tally.height a d
     refused_by r facts line refuses is says whole same due = record {
       status_is = inr (inl refl);
-      run = run_said opened.on.settled facts.steps (λ old new honest left step. keeps_upgraded (none_left old honest left) step) says;
-      held = λ told. subst (KeepsMeaning a.held) (sym says.held) (keeps_upgraded (none_told told) (facts.steps.held told));
+      run = run_said MayUpgrade (nothing_yet s opened.on) facts.steps (λ old new honest left step. keeps_upgraded (none_left old honest left) step) says;
+      held = λ told. subst (MayUpgrade a.held) (sym says.held) (keeps_upgraded (none_told told) (facts.steps.held told));
       due = λ e. absurd (omega (arith, e));
       means = λ e. absurd (omega (arith, e));
       no_intent = λ e. absurd (omega (arith, e));
@@ -180,7 +191,7 @@ module _ (a : View) (s : StoreView) (opened : IsOpenOn s a) where
     failed_by : Facts (Err Failed) s place a b → UpgradesOpened DISK_FAULT s.place.layout s.tally.height a b
     failed_by facts = record {
       status_is = inr (inr refl);
-      run = run_of_steps (λ image said. KeepsMeaning a.held image) facts.steps (λ honest start image left step. subst (λ (x : List ℕ). KeepsMeaning x image) (opened.on.settled honest start left) (keeps_upgraded (none_left start honest left) step));
+      run = run_of_steps (λ image said. MayUpgrade a.held image) facts.steps (λ honest start image left step. subst (λ (x : List ℕ). MayUpgrade x image) ((nothing_yet s opened.on) honest start left) (keeps_upgraded (none_left start honest left) step));
       held = λ told. keeps_upgraded (none_told told) (facts.steps.held told);
       due = λ e. absurd (omega (arith, e));
       means = λ e. absurd (omega (arith, e));
@@ -200,7 +211,7 @@ module _ (a : View) (s : StoreView) (opened : IsOpenOn s a) where
     done_by : Facts (Ok Done) s place a b → UpgradesOpened DONE s.place.layout s.tally.height a b
     done_by facts = record {
       status_is = inl refl;
-      run = run_of_steps (λ image said. KeepsMeaning a.held image) facts.steps (λ honest start image left step. subst (λ (x : List ℕ). KeepsMeaning x image) (opened.on.settled honest start left) (keeps_upgraded (none_left start honest left) step));
+      run = run_of_steps (λ image said. MayUpgrade a.held image) facts.steps (λ honest start image left step. subst (λ (x : List ℕ). MayUpgrade x image) ((nothing_yet s opened.on) honest start left) (keeps_upgraded (none_left start honest left) step));
       held = λ told. keeps_upgraded (none_told told) (facts.steps.held told);
       due = λ e told copy line answers. not_due copy line (subst (λ (x : Type 0). x) (answer_is told copy line) answers);
       means = λ e told m here.
@@ -275,7 +286,7 @@ pub record Comes (status : ℕ) (a b : View) : Type 0 where
 module _ (a b : View) (law : Lawful a) (ab : Steps Reopens (attached_by false a) b) where
   -- of a file that was not opened: nothing was done but what an opening does
   pub unopened_run : {d : View} {text : List ℕ} → NothingPending a → Says text b d → Run (λ image said. KeepsMeaning a.held image) (attached_by false a) d
-  unopened_run nothing says = run_said nothing ab (λ old new honest left step. keeps_opened step) says
+  unopened_run nothing says = run_said KeepsMeaning nothing ab (λ old new honest left step. keeps_opened step) says
 
   module _ (d : View) where
     -- it isn't refused
@@ -284,8 +295,9 @@ module _ (a b : View) (law : Lawful a) (ab : Steps Reopens (attached_by false a)
       status_is = inr (inr is);
       attached = ab.frame.attached;
       upgraded = record {
-        steps = λ nothing. run_of_steps (λ image said. KeepsMeaning a.held image) ab (λ honest start image left step. subst (λ (x : List ℕ). KeepsMeaning x image) (nothing honest start left) (keeps_opened step));
-        held = λ told. keeps_opened (ab.held told);
+        steps = λ nothing. run_of_steps (λ image said. MayUpgrade a.held image) ab (λ honest start image left step. may_upgrade (subst (λ (x : List ℕ). KeepsMeaning x image) (nothing honest start left) (keeps_opened step)));
+        held = λ told. may_upgrade (keeps_opened (ab.held told));
+        kept = λ not_done not_disk told. keeps_opened (ab.held told);
         done = λ e. absurd (other DONE ((λ x. omega (arith, x)), (λ x. omega (arith, x))) e);
         settled = λ e. absurd (other DONE ((λ x. omega (arith, x)), (λ x. omega (arith, x))) e);
         silent = λ e. ab.frame.said;
@@ -301,13 +313,14 @@ module _ (a b : View) (law : Lawful a) (ab : Steps Reopens (attached_by false a)
         other n none e = elim is [ inl x ↦ none.0 (sym e ∙ x) | inr x ↦ none.1 (sym e ∙ x) ]
 
     -- it is refused, and represents no map
-    refused_file : (line : Reply) → IsRefusal line → IsUpgradeRefused a d → {text : List ℕ} → Says text b d → (Told a → b.travel.written ≤ a.travel.written + reopening_cost a.held) → (Told a → (m : Map) → MeansMap a.held m → ⊥) → Comes REFUSED a d
+    refused_file : (line : Reply) → IsRefusal line → IsUpgradeRefused a d → {text : List ℕ} → Says text b d → (Told a → b.travel.written ≤ a.travel.written + reopening_cost a.held) → (Told a → (m : Map) → MeansMap (layout_in a.held) a.held m → ⊥) → Comes REFUSED a d
     refused_file line refuses refused says cost never = record {
       status_is = inr (inl refl);
       attached = says.attached ∙ ab.frame.attached;
       upgraded = record {
-        steps = λ nothing. unopened_run nothing says;
-        held = λ told. subst (KeepsMeaning a.held) (sym says.held) (keeps_opened (ab.held told));
+        steps = λ nothing. run_in (λ image said. MayUpgrade a.held image) (unopened_run nothing says) (λ honest image said keeps. may_upgrade keeps);
+        held = λ told. may_upgrade (subst (KeepsMeaning a.held) (sym says.held) (keeps_opened (ab.held told)));
+        kept = λ not_done not_disk told. subst (KeepsMeaning a.held) (sym says.held) (keeps_opened (ab.held told));
         done = λ e. absurd (omega (arith, e));
         settled = λ e. absurd (omega (arith, e));
         silent = λ other. absurd (other refl);
@@ -328,10 +341,10 @@ module _ (a b : View) (law : Lawful a) (ab : Steps Reopens (attached_by false a)
           line = λ told. (reply.NotStore reason, tt, from told);
           why = λ told. (reply.NotStore reason, inl (reason, unopened.refused reason refl told, refl), from);
           recovers = λ told r is. subst (λ (x : List ℕ). IsButClosed a.held (recovered (layout_in a.held) a.held) (recovered (layout_in a.held) x)) (sym says.held) (unopened.recovers reason refl told);
-          even = λ told r is even. subst (IsButClosed a.held a.held) (sym says.held) (unopened.even reason refl told even);
+          bare = λ told r is bare. subst (IsButClosed a.held a.held) (sym says.held) (unopened.bare reason refl told bare);
           copy = λ told none. ap live_copy says.held ∙ (ab.held told).copy none;
-          kept = λ told rest. (subst (IsButClosed a.held a.held) (sym says.held) (unopened.even reason refl told rest.rest.gate_even), subst (WritesGate a.held a.travel.written) (sym (ap (λ (t : Travel). t.written) says.travel)) (unopened.unwritten told rest));
-        }) says unopened.cost (λ told m here. none_some (sym (none_of_means a.held m here.0 here.1) ∙ unopened.refused reason refl told))
+          kept = λ told rest. (subst (IsButClosed a.held a.held) (sym says.held) (unopened.bare reason refl told rest.rest.bare), subst (WritesGate a.held a.travel.written) (sym (ap (λ (t : Travel). t.written) says.travel)) (unopened.unwritten told rest));
+        }) says unopened.cost (λ told m here. none_some (sym (none_of_means a.held m here.1.0 here.1.1) ∙ unopened.refused reason refl told))
       where
         none_some : {r : Reason} → None ≡ Some r → ⊥
         none_some is = cc
@@ -343,7 +356,7 @@ module _ (a b : View) (law : Lawful a) (ab : Steps Reopens (attached_by false a)
           line = λ told. (reply.Damaged segment why, tt, from told);
           why = λ told. absurd (unopened.undamaged told);
           recovers = λ told. absurd (unopened.undamaged told);
-          even = λ told. absurd (unopened.undamaged told);
+          bare = λ told. absurd (unopened.undamaged told);
           copy = λ told. absurd (unopened.undamaged told);
           kept = λ told. absurd (unopened.undamaged told);
         }) says unopened.cost (λ told. absurd (unopened.undamaged told))
@@ -401,7 +414,7 @@ module _ (a b : View) (law : Lawful a) (ab : Steps Reopens (attached_by false a)
             let last = upgrades.why e (on told) in
             (last.0, inr (opened.sound told, answer_before told (live_copy d.held) last.0 last.1), (λ said. said_since a b d last.0 ab.frame.said (sym ab.frame.say_faults) (last.2 (ap (λ f. f.tells_said) ab.frame.fixed ∙ said))));
         recovers = λ told r is. absurd (none_some (sym (opened.sound told) ∙ is));
-        even = λ told r is. absurd (none_some (sym (opened.sound told) ∙ is));
+        bare = λ told r is. absurd (none_some (sym (opened.sound told) ∙ is));
         copy = λ told none. ap live_copy (upgrades.kept e (on told)).0 ∙ (ab.held told).copy none;
         kept = λ told rest. let kept = upgrades.kept e (on told) in (subst (IsButClosed a.held a.held) (sym kept.0) (opened.kept told rest), subst (WritesGate a.held a.travel.written) (sym kept.1) (opened.unwritten told rest));
       }
@@ -415,11 +428,16 @@ module _ (a b : View) (law : Lawful a) (ab : Steps Reopens (attached_by false a)
         attached = upgrades.run.attached ∙ ab.frame.attached;
         upgraded = record {
           steps = λ nothing.
-              let P : List ℕ → List ℕ → Type 0 = λ image said. KeepsMeaning a.held image in
-              run_on P (run_of_steps P ab (λ honest start image left step. subst (λ (x : List ℕ). KeepsMeaning x image) (nothing honest start left) (keeps_opened step))) upgrades.run
+              let P : List ℕ → List ℕ → Type 0 = λ image said. MayUpgrade a.held image in
+              run_on P (run_of_steps P ab (λ honest start image left step. may_upgrade (subst (λ (x : List ℕ). KeepsMeaning x image) (nothing honest start left) (keeps_opened step)))) upgrades.run
               (λ honest image said keeps. keeps)
-              (λ honest image said keeps. keeps_on (keeps_opened (ab.held (law.tells honest).0)) keeps);
-          held = λ told. keeps_on (keeps_opened (ab.held told)) (upgrades.held (on told));
+              (λ honest image said moved. upgrades_on (keeps_opened (ab.held (law.tells honest).0)) moved);
+          held = λ told. upgrades_on (keeps_opened (ab.held told)) (upgrades.held (on told));
+          kept = λ not_done not_disk told. elim upgrades.status_is [
+            | inl e ↦ absurd (not_done e)
+            | inr (inl e) ↦ subst (KeepsMeaning a.held) (sym (upgrades.kept e (on told)).0) (keeps_opened (ab.held told))
+            | inr (inr e) ↦ absurd (not_disk e)
+          ];
           done = was_upgraded;
           settled = upgrades.settled;
           silent = λ other. upgrades.silent other ∙ ab.frame.said;

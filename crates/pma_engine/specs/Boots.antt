@@ -70,19 +70,16 @@ LeadTo start m [] [] last = last ≡ m
 LeadTo start m (b ∷ bs) (n ∷ counts) last = CarriesOut start m b n × LeadTo b.image (after_boot start m b n) bs counts last
 LeadTo start m _ _ last = ⊥
 
--- There are such numbers for the boots, and the file that the last of them left means the map to which they lead.
-pub record BootsLead (start : List ℕ) (m : Map) (boots : List Boot) : Type 0 where
-  pub counts : List ℕ
-  pub last : Map
-  pub lead : LeadTo start m boots counts last
-  pub means : MeansMap (left_by start boots) last
-
 -- the commands that boots carried out, so many each, as one list
 abbrev pub carried_out : List ℕ → List Boot → List ℕ → List Command
 carried_out start (b ∷ bs) (n ∷ counts) = take n (commands_on start b) ++ carried_out b.image bs counts
 carried_out start _ _ = []
 
--- each boot began on a file with this layout
-abbrev pub HaveLayout : Layout → List ℕ → List Boot → Type 0
-HaveLayout l start [] = Unit {0}
-HaveLayout l start (b ∷ bs) = (layout_in start ≡ l) × HaveLayout l b.image bs
+-- There are such numbers for the boots. The file that the last of them left has the layout of the first, and means the map to which
+-- they lead: that after all commands that were carried out, as one list.
+pub record BootsLead (start : List ℕ) (m : Map) (boots : List Boot) : Type 0 where
+  pub counts : List ℕ
+  pub last : Map
+  pub lead : LeadTo start m boots counts last
+  pub as_one : last ≡ map_after_commands (layout_in start) m (carried_out start boots counts)
+  pub means : MeansMap (layout_in start) (left_by start boots) last

@@ -10,7 +10,7 @@ use Rattle.map_model.specs.Scan.{scanned}
 use Rattle.window_tally.specs.declared.Change.{Change}
 use Rattle.window_tally.specs.declared.Change.TheVariants.{Add, Take}
 use Rattle.command_text.specs.declared.command.Command.{Command}
-use Rattle.command_text.specs.declared.command.Command.TheVariants.{Nothing, Put, Remove, Batch, Get, Range, Check, Probe, Cost, Open, Next, Close, OversizedKey, OversizedValue, RepeatedKey, Bad}
+use Rattle.command_text.specs.declared.command.Command.TheVariants.{Nothing, Put, Remove, Batch, Get, Range, Check, Probe, Cost, Open, Next, Prev, Close, OversizedKey, OversizedValue, RepeatedKey, Bad}
 use Rattle.pma_store.specs.BatchCalls.{IsForBatch}
 use Rattle.pma_store.specs.Calling.{asked_calls}
 use Rattle.pma_store.specs.Damaging.{picked}
@@ -50,6 +50,7 @@ IsForCommand (Probe key block) s k a calls = calls ≡ 0
 IsForCommand Cost s k a calls = calls ≡ 0
 IsForCommand (Open name low high) s k a calls = calls ≡ 0
 IsForCommand (Next name) s k a calls = IsForStep (get k name) calls
+IsForCommand (Prev name) s k a calls = IsForStep (get k name) calls
 IsForCommand (Close name) s k a calls = calls ≡ 0
 IsForCommand OversizedKey s k a calls = calls ≡ 0
 IsForCommand OversizedValue s k a calls = calls ≡ 0

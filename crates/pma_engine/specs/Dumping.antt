@@ -4,6 +4,7 @@ use Rattle.std.specs.List.{flat_map}
 use Rattle.std.specs.FinMap.{entries}
 use Rattle.station.specs.View.{View, Told, SaidTold, NothingPending, Rose, attached_by}
 use Rattle.station.specs.Steps.{Run}
+use Rattle.header_gate.specs.Header.{layout_in}
 use Rattle.map_model.specs.Image.{map_of}
 use Rattle.map_model.specs.Store.{Map}
 use Rattle.batch_intent.specs.Means.{MeansMap, meant_map, opening_reason}
@@ -45,7 +46,7 @@ pub record DumpsFile (status : ℕ) (a b : View) : Type 0 where
   pub memory : status ≡ OUT_OF_MEMORY → IsOutOfMemory (attached_by false a) b
   pub settled : (status ≡ DONE) ⊎ (status ≡ REPLY_FAULT) → NothingPending b
   -- of a store: where no call failed, it ends so, or for want of memory
-  pub complete : Told a → (m : Map) → MeansMap a.held m → (Rose a.disk_faults b.disk_faults → ⊥) → (Rose a.say_faults b.say_faults → ⊥) → (status ≡ DONE) ⊎ (status ≡ OUT_OF_MEMORY)
+  pub complete : Told a → (m : Map) → MeansMap (layout_in a.held) a.held m → (Rose a.disk_faults b.disk_faults → ⊥) → (Rose a.say_faults b.say_faults → ⊥) → (status ≡ DONE) ⊎ (status ≡ OUT_OF_MEMORY)
   -- nothing is written but by the opening: where it has nothing to do, nothing but the gate of an open index
   pub unwritten : Told a → IsAllAtRest a.held → WritesGate a.held a.travel.written b.travel.written
   pub kept : (status ≡ DISK_FAULT → ⊥) → Told a → IsAllAtRest a.held → IsButClosed a.held a.held b.held

@@ -5,7 +5,8 @@ use Rattle.station.specs.View.{View, Told, SaidTold, EachHeld, NothingPending, R
 use Rattle.station.specs.Steps.{Run}
 use Rattle.line_source.specs.Lines.{raw_lines}
 use Rattle.line_source.specs.SourceView.{SourceView, SourceTold, SourceRose}
-use Rattle.header_gate.specs.Header.{gate, layout_in}
+use Rattle.header_gate.specs.InPlace.{IsBare}
+use Rattle.header_gate.specs.Header.{layout_in}
 use Rattle.header_gate.specs.Places.{segment_size}
 use Rattle.header_gate.specs.Recovered.{recovered}
 use Rattle.header_gate.specs.declared.layout.Layout.{Layout}
@@ -63,24 +64,25 @@ status_of_load (Err load.Spent) = TOO_LONG
 abbrev pub HasText : Layout → SourceView → List Record → Type 0
 HasText l s rows = SourceTold s → IsLoadText l.format (raw_lines s.left) rows × (length rows ≤ most_records l)
 
--- the image means the map of the whole text, at the least height that holds its records
+-- the image has this layout, and means the map of the whole text, at the least height that holds its records
 pub record MeansText (l : Layout) (s : SourceView) (image : List ℕ) : Type 0 where
   pub rows : List Record
   pub height : ℕ
   pub text : HasText l s rows
   pub least : IsLeastHeight (length rows) height
+  pub layout : layout_in image ≡ l
   pub means : Means image (from_sorted rows) height
 
--- the new image means each map that the old one does; or, where that has no records, the map of the whole text
+-- the new image has the layout of the old one, and means each map that it does; or, where that has no records, the map of the
+-- whole text
 abbrev pub MayLoad : SourceView → List ℕ → List ℕ → Type 0
-MayLoad s old new = (m : Map) → MeansMap old m → MeansMap new m ⊎ ((m ≡ empty_map) × MeansText (layout_in old) s new)
+MayLoad s old new = (m : Map) → MeansMap (layout_in old) old m → MeansMap (layout_in old) new m ⊎ ((m ≡ empty_map) × MeansText (layout_in old) s new)
 
 -- A text was loaded into a store of this layout: the file means its map, its array is the spread of the records over the segments of
 -- the least height that holds them, every window within its bounds, and no items of an intent wait.
 pub record IsFileLoaded (l : Layout) (s : SourceView) (new : List ℕ) : Type 0 where
   pub text : MeansText l s new
   pub no_intent : has_pending new ≡ false
-  pub layout : layout_in new ≡ l
   pub array : array_of new ≡ spread_over (2 ^ text.height) text.rows
   pub balanced : IsBalancedArray text.height (array_of new)
 
@@ -118,13 +120,13 @@ IsLoadRefusal old s0 s1 line = ((r : Reason) × (opening_reason old ≡ Some r) 
     ⊎ ((opening_reason old ≡ None) × IsLoadAnswer old s0 s1 line)
 
 -- A load was refused, and one line says so. Over a station that tells its bytes it tells the reason or the answer; a file that is
--- no store recovers to what it recovered to, and where its gate is even, it is as before; and where a store has records, and an
--- opening had nothing to do, every byte is as it was, but that the index may be closed.
+-- no store recovers to what it recovered to, and where no page is to be laid over its live region, it is as before; and where a
+-- store has records, and an opening had nothing to do, every byte is as it was, but that the index may be closed.
 pub record IsLoadRefused (s0 s1 : SourceView) (a b : View) : Type 0 where
   pub line : SaidTold a → (line : Reply) × IsRefusal line × SaysLine line a.said a b
   pub why : Told a → (line : Reply) × IsLoadRefusal a.held s0 s1 line × (SaidTold a → SaysLine line a.said a b)
   pub recovers : Told a → (r : Reason) → opening_reason a.held ≡ Some r → IsButClosed a.held (recovered (layout_in a.held) a.held) (recovered (layout_in a.held) b.held)
-  pub even : Told a → (r : Reason) → opening_reason a.held ≡ Some r → gate a.held ≡ 0 → IsButClosed a.held a.held b.held
+  pub bare : Told a → (r : Reason) → opening_reason a.held ≡ Some r → IsBare (layout_in a.held) a.held → IsButClosed a.held a.held b.held
   pub kept : Told a → IsAllAtRest a.held → 0 < len (meant_map a.held) → IsButClosed a.held a.held b.held × WritesGate a.held a.travel.written b.travel.written
 
 -- at most so many bytes are written by a load behind the opening, into a file of this layout that then has this height
@@ -153,10 +155,10 @@ pub record LoadsFile (status most : ℕ) (s0 s1 : SourceView) (a b : View) : Typ
   pub takes : SourceTold s0 → TakesAtMost most s0 s1
   pub too_long : status ≡ TOO_LONG → SourceTold s0 → length s0.left ≡ length s1.left + most
   -- of a store: where no disk call failed, it ends so, or for want of memory, or with the one answer that is due, or for the source
-  pub complete : Told a → (m : Map) → MeansMap a.held m → (Rose a.disk_faults b.disk_faults → ⊥) →
+  pub complete : Told a → (m : Map) → MeansMap (layout_in a.held) a.held m → (Rose a.disk_faults b.disk_faults → ⊥) →
       (status ≡ DONE) ⊎ ((status ≡ OUT_OF_MEMORY) ⊎ (((status ≡ REFUSED) × ((line : Reply) × IsLoadAnswer a.held s0 s1 line)) ⊎ ((m ≡ empty_map) × IsCutText status)))
   -- a text that a store without records admits, of fewer bytes than may be taken
-  pub admitted : SourceTold s0 → Told a → MeansMap a.held empty_map → (rows : List Record) → HasText (layout_in a.held) s0 rows → length s0.left < most →
+  pub admitted : SourceTold s0 → Told a → MeansMap (layout_in a.held) a.held empty_map → (rows : List Record) → HasText (layout_in a.held) s0 rows → length s0.left < most →
       (Rose a.disk_faults b.disk_faults → ⊥) → (SourceRose s0 s1 → ⊥) → (status ≡ DONE) ⊎ (status ≡ OUT_OF_MEMORY)
   pub written : status ≡ DONE → Told a → b.travel.written ≤ a.travel.written + (reopening_cost a.held + load_cost (layout_in a.held) (height_of b.held))
 

@@ -4,7 +4,8 @@ use Rattle.std.specs.FinMap.{len}
 use Rattle.station.specs.View.{View, Told, SaidTold, NothingPending, Rose, attached_by}
 use Rattle.station.specs.Steps.{Run}
 use Rattle.density_rule.specs.Bounds.{upper_of}
-use Rattle.header_gate.specs.Header.{gate, live_copy, layout_in}
+use Rattle.header_gate.specs.InPlace.{IsBare}
+use Rattle.header_gate.specs.Header.{live_copy, layout_in}
 use Rattle.header_gate.specs.Places.{segment_size}
 use Rattle.header_gate.specs.Recovered.{recovered}
 use Rattle.header_gate.specs.declared.layout.Layout.{Layout}
@@ -66,9 +67,13 @@ abbrev pub IsUpgradeRefusal : List ℕ → List ℕ → Reply → Type 0
 IsUpgradeRefusal old new line = ((r : Reason) × (opening_reason old ≡ Some r) × (line ≡ reply.NotStore r))
     ⊎ ((opening_reason old ≡ None) × IsUpgradeAnswer old new line)
 
--- the new image means each map that the old one does
+-- the new image has the layout of the old one, and means each map that it does
 abbrev pub KeepsMeaning : List ℕ → List ℕ → Type 0
-KeepsMeaning old new = (m : Map) → MeansMap old m → MeansMap new m
+KeepsMeaning old new = (m : Map) → MeansMap (layout_in old) old m → MeansMap (layout_in old) new m
+
+-- the new image means each map that the old one does, in the layout of the old one or with slot format 2
+abbrev pub MayUpgrade : List ℕ → List ℕ → Type 0
+MayUpgrade old new = (m : Map) → MeansMap (layout_in old) old m → MeansMap (layout_in old) new m ⊎ MeansMap (widened (layout_in old)) new m
 
 -- the height of a store once it is opened, and once it is upgraded
 abbrev pub opened_height : List ℕ → ℕ
@@ -88,14 +93,15 @@ pub record IsUpgraded (old new : List ℕ) : Type 0 where
   pub layout : layout_in new ≡ widened (layout_in old)
   pub array : array_of new ≡ resized (opened_items_state old).array (next_height old)
 
--- An upgrade was refused, and one line says so. Over a station that tells its bytes it tells the reason or the answer; a file
--- that is no store recovers to what it recovered to, and where its gate is even, it is as before; and where an opening had
--- nothing to do, every byte is as it was, but that the index may be closed. The copy that is live is the one that was, where no items are to be applied.
+-- An upgrade was refused, and one line says so. Over a station that tells its bytes it tells the reason or the answer; a file that
+-- is no store recovers to what it recovered to, and where no page is to be laid over its live region, it is as before; and where
+-- an opening had nothing to do, every byte is as it was, but that the index may be closed. The copy that is live is the one that
+-- was, where no items are to be applied.
 pub record IsUpgradeRefused (a b : View) : Type 0 where
   pub line : SaidTold a → (line : Reply) × IsRefusal line × SaysLine line a.said a b
   pub why : Told a → (line : Reply) × IsUpgradeRefusal a.held b.held line × (SaidTold a → SaysLine line a.said a b)
   pub recovers : Told a → (r : Reason) → opening_reason a.held ≡ Some r → IsButClosed a.held (recovered (layout_in a.held) a.held) (recovered (layout_in a.held) b.held)
-  pub even : Told a → (r : Reason) → opening_reason a.held ≡ Some r → gate a.held ≡ 0 → IsButClosed a.held a.held b.held
+  pub bare : Told a → (r : Reason) → opening_reason a.held ≡ Some r → IsBare (layout_in a.held) a.held → IsButClosed a.held a.held b.held
   pub copy : Told a → has_pending a.held ≡ false → live_copy b.held ≡ live_copy a.held
   pub kept : Told a → IsAllAtRest a.held → IsButClosed a.held a.held b.held × WritesGate a.held a.travel.written b.travel.written
 
@@ -103,10 +109,12 @@ pub record IsUpgradeRefused (a b : View) : Type 0 where
 abbrev pub upgrade_cost : Layout → ℕ → ℕ
 upgrade_cost l height = segment_size (widened l) * 2 ^ upgraded_height l height + 9
 
--- `upgrade`: no moment and no status changes the map
+-- `upgrade`: no moment and no status changes the map, and none the layout but for the slot format
 pub record UpgradesFile (status : ℕ) (a b : View) : Type 0 where
-  pub steps : NothingPending a → Run (λ image said. KeepsMeaning a.held image) (attached_by false a) b
-  pub held : Told a → KeepsMeaning a.held b.held
+  pub steps : NothingPending a → Run (λ image said. MayUpgrade a.held image) (attached_by false a) b
+  pub held : Told a → MayUpgrade a.held b.held
+  -- where it isn't done and no disk call failed, the held bytes keep the layout
+  pub kept : (status ≡ DONE → ⊥) → (status ≡ DISK_FAULT → ⊥) → Told a → KeepsMeaning a.held b.held
   pub done : status ≡ DONE → Told a → IsUpgraded a.held b.held
   pub settled : status ≡ DONE → NothingPending b
   -- but for a line of refusal nothing is said
@@ -114,15 +122,15 @@ pub record UpgradesFile (status : ℕ) (a b : View) : Type 0 where
   pub refused : status ≡ REFUSED → IsUpgradeRefused a b
   pub memory : status ≡ OUT_OF_MEMORY → IsOutOfMemory (attached_by false a) b
   -- of a store: where no disk call failed, it ends so, or for want of memory, or with the one answer that is due
-  pub complete : Told a → (m : Map) → MeansMap a.held m → (Rose a.disk_faults b.disk_faults → ⊥) →
+  pub complete : Told a → (m : Map) → MeansMap (layout_in a.held) a.held m → (Rose a.disk_faults b.disk_faults → ⊥) →
       (status ≡ DONE) ⊎ ((status ≡ OUT_OF_MEMORY) ⊎ ((status ≡ REFUSED) × ((line : Reply) × IsUpgradeAnswer a.held b.held line)))
   pub written : Told a → b.travel.written ≤ a.travel.written + (reopening_cost a.held + upgrade_cost (layout_in a.held) (opened_height a.held))
 
 -- what the upgrade of an open store came to, on whose station nothing is pending; its file has no intent that is to be applied
 pub record UpgradesOpened (status : ℕ) (l : Layout) (height : ℕ) (a b : View) : Type 0 where
   pub status_is : (status ≡ DONE) ⊎ ((status ≡ REFUSED) ⊎ (status ≡ DISK_FAULT))
-  pub run : Run (λ image said. KeepsMeaning a.held image) a b
-  pub held : Told a → KeepsMeaning a.held b.held
+  pub run : Run (λ image said. MayUpgrade a.held image) a b
+  pub held : Told a → MayUpgrade a.held b.held
   pub due : status ≡ DONE → Told a → (copy : ℕ) (line : Reply) → AnswersUpgrade (layout_in a.held) copy (len (map_of a.held)) line → ⊥
   pub means : status ≡ DONE → Told a → (m : Map) → Represents a.held m height → Means b.held m (upgraded_height l height)
   pub no_intent : status ≡ DONE → Told a → has_pending b.held ≡ false

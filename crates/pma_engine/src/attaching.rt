@@ -2,9 +2,10 @@
 
 ghost use Rattle.std.specs.Prelude.{◌≡◌, ◌+◌, ◌≤◌, None, Some, OnOk, true, false};
 ghost use Rattle.station.specs.Steps.{Says};
-ghost use Rattle.station.specs.View.{Told, SaidTold, EachHeld, NothingPending, NamedBy, attached_by};
+ghost use Rattle.station.specs.View.{Told, SaidTold, EachHeld, NamedBy, attached_by};
 ghost use Rattle.header_gate.specs.Header.{layout_in};
 ghost use Rattle.header_gate.specs.Places.{file_length};
+ghost use Rattle.header_gate.specs.declared.layout.TheConstants.{INDEXED};
 ghost use Rattle.index_file.specs.Clean.{IsClean, IsOpenIndex};
 ghost use Rattle.index_file.specs.Opening.{IsQuick};
 ghost use Rattle.index_file.specs.Reading.{area_calls};
@@ -67,7 +68,8 @@ fn open_parts<S: Station>(station: &mut S, parts: Parts) -> Result<Store, OpenFa
     requires fits { Fits parts.place parts.tally parts.index parts.frames.journal }
     requires none { parts.intent ≡ None }
     requires quick { Told (S.view station.old) → IsQuick (S.view station.old).held }
-    requires nothing { NothingPending (S.view station.old) }
+    requires indexed { parts.place.layout.version ≡ INDEXED }
+    requires turn { parts.frames.turn ≡ 0 }
     requires reach { file_length parts.place.layout ≤ (S.view station.old).fixed.reach }
     ensures takes { TakesParts parts result (S.view station.old) (S.view station.new) }
     ensures calls { (S.view station.new).calls ≤ (S.view station.old).calls + 2 }

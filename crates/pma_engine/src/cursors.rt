@@ -8,7 +8,7 @@ ghost use Rattle.cursor_set.specs.Answers.{told_by};
 ghost use Rattle.map_model.specs.Cursors.{Cursor, after_open};
 ghost use Rattle.pma_store.specs.Seeking.{kept_region};
 ghost use Rattle.pma_store.specs.Store.{IsOpenOn};
-ghost use Rattle.range_scan.specs.Seeking.{ReadsNear, later};
+ghost use Rattle.range_scan.specs.Seeking.{ReadsNear, ReadsBehind, earlier, later};
 ghost use Rattle.pma_engine.specs.Carrying.{with_cursors, AsksCursors, Executes};
 ghost use Rattle.pma_engine.specs.Replies.{one_line};
 
@@ -35,6 +35,7 @@ pub(crate) fn ask_cursors<S: Station>(
     match command {
         Command::Open { name, low, high } => Ok(open_cursor(cursors, name, *low, *high)),
         Command::Next(name) => step_cursor(store, cursors, station, name),
+        Command::Prev(name) => step_cursor_back(store, cursors, station, name),
         Command::Close(name) => Ok(close_cursor(cursors, name)),
         _ => unreachable!(),
     }
@@ -52,7 +53,7 @@ fn open_cursor(cursors: &mut CursorSet, name: &Key, low: Option<Key>, high: Opti
     }
 }
 
-// The reply to a step of a cursor.
+// The reply to a step of a cursor to its next record.
 fn step_cursor<S: Station>(
     store: &mut Metered,
     cursors: &mut CursorSet,
@@ -66,6 +67,23 @@ fn step_cursor<S: Station>(
     match cursors.next_row(store, station, name) {
         Ok(step) => Ok(reply_to_step(&step)),
         Err(fault) => Err(fault),
+    }
+}
+
+// The reply to a step of a cursor to its previous record.
+fn step_cursor_back<S: Station>(
+    store: &mut Metered,
+    cursors: &mut CursorSet,
+    station: &mut S,
+    name: &Key,
+) -> Result<Reply, StoreFault>
+    requires open { IsOpenOn store.old.store (S.view station.old) }
+    ensures executes { Executes (Command.Prev name.now) (one_line result) (with_cursors store.old cursors.old) (with_cursors store.new cursors.new) (S.view station.old) (S.view station.new) }
+    ensures reads { (k : Cursor) → get cursors.old name.now ≡ Some k → ReadsBehind (earlier k.past k.high) (kept_region store.old.store) result (S.view station.old) (S.view station.new) }
+{
+    match cursors.step_back(store, station, name) {
+        Ok(step) => Ok(reply_to_step(&step)),
+        Err(error) => Err(error),
     }
 }
 

@@ -1,12 +1,16 @@
 //! Lines that are put together, so that they are said at once.
 
 ghost use Rattle.std.specs.Prelude.{◌≡◌, ◌==◌, ◌+◌, ◌≤◌, ◌↔◌, ◌++◌, [], length, take, true};
+ghost use Rattle.key_slot.specs.Padded.{IsPadded};
 ghost use Rattle.key_slot.specs.declared.sizes.TheConstants.{MAX_KEY_LEN, MAX_VALUE_LEN};
+ghost use Rattle.segment.specs.Fields.{IsWhole, row_in, row_of_fields};
 ghost use Rattle.command_text.specs.Answers.{row_line};
 ghost use Rattle.command_text.specs.Printed.{printed, value_word};
 ghost use Rattle.command_text.specs.Reply.{reply_text};
 
 use command_text::{Reply, ReplyText, are_plain, write_record, write_reply};
+use key_slot::{MAX_KEY_LEN, MAX_VALUE_LEN, NARROW_KEY_LEN, NARROW_VALUE_LEN};
+use segment::{Fields, Slot};
 use std::marker::Model;
 
 /// The most bytes that are said in one piece.
@@ -78,15 +82,33 @@ impl Piece {
         self.len = 0;
     }
 
-    /// Puts the line of a record behind the others.
-    pub(crate) fn push_record(&mut self, key: &[u8], value: &[u8])
-        requires key { length key.now ≤ MAX_KEY_LEN }
-        requires value { length value.now ≤ MAX_VALUE_LEN }
+    /// Puts the line of a record, which is the row of a slot, behind the others.
+    #[inline(always)]
+    pub(crate) fn push_record(&mut self, slot: Slot<'_>)
+        requires whole { IsWhole slot }
         requires room { length self.old + LINE_LEN ≤ PIECE_LEN }
-        ensures { self.new ≡ self.old ++ reply_text (row_line (key.now, value.now)) }
+        ensures { self.new ≡ self.old ++ reply_text (row_line (row_in slot.entry)) }
     {
+        match slot {
+            Slot::Narrow(fields) => self.push_fields::<NARROW_KEY_LEN, NARROW_VALUE_LEN>(fields),
+            Slot::Wide(fields) => self.push_fields::<MAX_KEY_LEN, MAX_VALUE_LEN>(fields),
+        }
+    }
+
+    // Puts the line of a record, whose whole fields have so many bytes, behind the others.
+    #[inline(always)]
+    fn push_fields<const KEY: usize, const VALUE: usize>(&mut self, fields: Fields<'_>)
+        requires key { IsPadded KEY fields.key_len fields.key.now }
+        requires value { IsPadded VALUE fields.value_len fields.value.now }
+        requires most_key { KEY ≤ MAX_KEY_LEN }
+        requires most_value { VALUE ≤ MAX_VALUE_LEN }
+        requires room { length self.old + LINE_LEN ≤ PIECE_LEN }
+        ensures { self.new ≡ self.old ++ reply_text (row_line (row_of_fields fields.entry)) }
+    {
+        let key = &fields.key[..fields.key_len];
+        let value = &fields.value[..fields.value_len];
         if are_plain(key) && are_plain(value) {
-            self.len = copy_record(&mut self.bytes, self.len, key, value);
+            self.len = copy_record::<KEY, VALUE>(&mut self.bytes, self.len, fields);
         } else {
             write_record(key, value, &mut self.text);
             self.len = copy_behind(&mut self.bytes, self.len, self.text.as_bytes());
@@ -103,37 +125,77 @@ impl Piece {
     }
 }
 
-// Copies the line of a record whose fields are printed as they are behind the first `len` of other bytes, and answers how many
-// there are then. Each field is copied once, from where it lies.
+// Copies the line of a record whose key and value are printed as they are behind the first `len` of other bytes, and answers how
+// many there are then. Each field is copied once, from where it lies, and as a whole: what it has behind the key or the value is
+// written over by what comes behind, or left.
 #[inline(always)]
-fn copy_record(bytes: &mut [u8], len: usize, key: &[u8], value: &[u8]) -> usize
-    requires room { len + length key.now + length value.now + 9 ≤ length bytes.old }
-    requires key { printed key.now ≡ key.now }
-    requires value { printed value.now ≡ value.now }
+fn copy_record<const KEY: usize, const VALUE: usize>(
+    bytes: &mut [u8],
+    len: usize,
+    fields: Fields<'_>,
+) -> usize
+    requires room { len + KEY + VALUE + 9 ≤ length bytes.old }
+    requires key { IsPadded KEY fields.key_len fields.key.now }
+    requires value { IsPadded VALUE fields.value_len fields.value.now }
+    requires plain_key { let key = take fields.key_len fields.key.now in printed key ≡ key }
+    requires plain_value { let value = take fields.value_len fields.value.now in printed value ≡ value }
     ensures within { result ≤ length bytes.new }
     ensures size { length bytes.new ≡ length bytes.old }
-    ensures behind { take result bytes.new ≡ take len bytes.old ++ reply_text (row_line (key.now, value.now)) }
+    ensures behind { take result bytes.new ≡ take len bytes.old ++ reply_text (row_line (row_of_fields fields.entry)) }
 {
-    let begun = copy_behind(bytes, len, b"record ");
-    let with_key = copy_behind(bytes, begun, key);
-    let with_value = copy_value(bytes, with_key, value);
-    copy_behind(bytes, with_value, b"\n")
+    let begun = copy_whole::<7>(bytes, len, b"record ", 7);
+    let with_key = copy_whole::<KEY>(bytes, begun, fields.key, fields.key_len);
+    let with_value = copy_value::<VALUE>(bytes, with_key, fields.value, fields.value_len);
+    copy_whole::<1>(bytes, with_value, b"\n", 1)
 }
 
 // Copies a space and a value that is printed as it is, and nothing for the empty value.
 #[inline(always)]
-fn copy_value(bytes: &mut [u8], len: usize, value: &[u8]) -> usize
-    requires room { len + length value.now + 1 ≤ length bytes.old }
-    requires value { printed value.now ≡ value.now }
-    ensures most { result ≤ len + length value.now + 1 }
+fn copy_value<const VALUE: usize>(bytes: &mut [u8], len: usize, field: &[u8], used: usize) -> usize
+    requires room { len + VALUE + 1 ≤ length bytes.old }
+    requires field { IsPadded VALUE used field.now }
+    requires plain { printed (take used field.now) ≡ take used field.now }
+    ensures most { result ≤ len + VALUE + 1 }
     ensures size { length bytes.new ≡ length bytes.old }
-    ensures behind { take result bytes.new ≡ take len bytes.old ++ value_word value.now }
+    ensures behind { take result bytes.new ≡ take len bytes.old ++ value_word (take used field.now) }
 {
-    if value.is_empty() {
+    if used == 0 {
         return len;
     }
-    let begun = copy_behind(bytes, len, b" ");
-    copy_behind(bytes, begun, value)
+    let begun = copy_whole::<1>(bytes, len, b" ", 1);
+    copy_whole::<VALUE>(bytes, begun, field, used)
+}
+
+// Copies a field of so many bytes behind the first `len` of others, and answers how many there are with the first `used` of the
+// field. The copy is a few moves, since its length is known where this is inlined; `copy_from_slice` sees first whether both
+// overlap.
+#[inline(always)]
+fn copy_whole<const SIZE: usize>(bytes: &mut [u8], len: usize, field: &[u8], used: usize) -> usize
+    requires size { length field.now ≡ SIZE }
+    requires used { used ≤ SIZE }
+    requires room { len + SIZE ≤ length bytes.old }
+    ensures count { result ≡ len + used }
+    ensures size { length bytes.new ≡ length bytes.old }
+    ensures behind { take result bytes.new ≡ take len bytes.old ++ take used field.now }
+{
+    write_whole::<SIZE>(&mut bytes[len..len + SIZE], field);
+    len + used
+}
+
+// Writes bytes over others, so many of both.
+#[inline(always)]
+fn write_whole<const SIZE: usize>(over: &mut [u8], bytes: &[u8])
+    requires over { length over.old ≡ SIZE }
+    requires bytes { length bytes.now ≡ SIZE }
+    ensures { over.new ≡ bytes.now }
+{
+    let Some(from) = bytes.as_array::<SIZE>() else {
+        unreachable!()
+    };
+    let Some(to) = over.as_mut_array::<SIZE>() else {
+        unreachable!()
+    };
+    *to = *from;
 }
 
 // Copies bytes behind the first `len` of others, and answers how many there are then.

@@ -5,7 +5,7 @@ use Rattle.std.proofs.lemmas.List.{take_all}
 use Rattle.std.proofs.lemmas.Nat.{pow_pos}
 use Rattle.station.specs.declared.station.Failed as disk
 use Rattle.station.specs.View.{View, Told, Lawful}
-use Rattle.station.proofs.Composition.{told_back, each_held}
+use Rattle.station.proofs.Composition.{told_back, told_on}
 use Rattle.density_rule.specs.Bounds.{upper_of}
 use Rattle.header_gate.specs.declared.layout.Layout.{Layout}
 use Rattle.header_gate.specs.declared.layout.TheConstants.{INTENT_VERSION}
@@ -43,7 +43,9 @@ use Rattle.pma_store.specs.Judging.{counts_of as counts_judged, edits_of, judged
 use Rattle.pma_store.specs.Store.{StoreView, Stands, limit_of}
 use Rattle.pma_store.proofs.BatchCalls.{commit_behind, runs_few}
 use Rattle.pma_store.proofs.Batched.{fault_batch}
-use Rattle.pma_store.proofs.Committed.{IsReadyAtOnce, member, commit_touches, commit_idle, commit_means, balanced, holds, are, lays, reached, loads, counts_are, changes_are, size, stands, same_layout, tall}
+use Rattle.pma_store.proofs.Resting.{each_rest}
+use Rattle.redo_journal.proofs.Live.{rests_settled}
+use Rattle.pma_store.proofs.Committed.{IsReadyAtOnce, LeavesBy, leaves_held, member, commit_touches, commit_idle, commit_means, balanced, holds, are, lays, reached, loads, counts_are, changes_are, size, stands, same_layout, tall}
 use Rattle.pma_store.proofs.Effects.{charges_edits, costs_edits, edits_in}
 use Rattle.pma_store.proofs.Making.{no_fault, stands_again}
 use Rattle.pma_store.proofs.Outcomes.{has_is}
@@ -120,8 +122,8 @@ module _ {a : View} (items : List Update) (s : StoreView) (numbers : List ℕ) (
   pub once_looked : {start c : View} (looked : LooksOnce items s.tally.height start a) → look.count ≤ length looked.looked → c.calls ≤ a.calls + (8 + run_count b.numbers) → CallsBatch items s start c
   once_looked looked few_looked calls = commit_behind items s (run_count b.numbers) looked (omega (arith, few_runs, few_looked)) calls
 
-  pub not_committed : {c : View} → (fault : disk.Failed) (looked : LooksOnce items s.tally.height a a) → look.count ≤ length looked.looked → (frames : CommitsFrames s.place look.count (Err fault) b a c) → AppliesBatch items (Err Failed) s s a c
-  not_committed {c} fault looked few_looked frames = fault_batch items Failed s s
+  pub not_committed : {c : View} → (fault : disk.Failed) (looked : LooksOnce items s.tally.height a a) → look.count ≤ length looked.looked → (turn : ℕ) → (frames : CommitsFrames s.place look.count (Err fault) b turn a c) → AppliesBatch items (Err Failed) s (record s { turn = turn }) a c
+  not_committed {c} fault looked few_looked turn frames = fault_batch items Failed s (record s { turn = turn })
       (commit_means items s numbers b look judged changes ready law frames.steps (map_after_batch (version_of s) (limit_of s) (map_of a.held) items) mapped)
       (commit_touches items s numbers b look judged changes ready frames.steps)
       refl refl
@@ -129,20 +131,23 @@ module _ {a : View} (items : List Update) (s : StoreView) (numbers : List ℕ) (
       (omega (arith, frames.cost, most_covers s.place.layout (limit_of s) look.count (length items) (omega (arith, few, all)))) (once_looked looked few_looked frames.calls)
       (λ told. refl) tt (inl refl) (λ failed. frames.cause)
 
-  module _ {c : View} (looked : LooksOnce items s.tally.height a a) (few_looked : look.count ≤ length looked.looked) (law_c : Lawful c) (index : IndexView) (tally : TallyView) (commits : CommitsEdits s.place look changes (Ok tt) b s.index index s.tally tally a c) where
+  module _ {c : View} (looked : LooksOnce items s.tally.height a a) (few_looked : look.count ≤ length looked.looked) (law_c : Lawful c) (turn : ℕ) (index : IndexView) (tally : TallyView) (commits : CommitsEdits s.place look changes (Ok tt) b turn s.index index s.tally tally a c) where
     abbrev t : StoreView
-    t = record s { tally = tally; index = index }
+    t = record s { tally = tally; index = index; turn = turn }
+
+    left : Told a → LeavesBy s.place look.count b a.held c.held
+    left told = leaves_held items s numbers b look judged changes ready law a.held (inl (told, refl)) c.held (commits.frames.steps.held told)
 
     module _ (told : Told a) where
       abbrev next : ArrayState
       next = next_states (limit_of s) (state_in s a.held) items
 
       has : HasState c.held (next_states (limit_of s) (state_in s a.held) items)
-      has = reached items s numbers b look judged changes ready told c.held (commits.frames.steps.held told) (commits.frames.laid told)
+      has = reached items s numbers b look judged changes ready told c.held (left told) (commits.frames.laid told)
 
       header : KeepsHeader a.held c.held
       header = batch_header a.held c.held (segments_in s.place.layout.format b.numbers) (frame_byte b.slots) (stands items s numbers b look judged changes ready told).balanced.stands.settled.represents.header
-          (lays items s numbers b look judged changes ready told c.held (commits.frames.steps.held told) (commits.frames.laid told))
+          (lays items s numbers b look judged changes ready told c.held (left told) (commits.frames.laid told))
 
       edited : AreEdits (limit_of s) (state_in s a.held) items (next_states (limit_of s) (state_in s a.held) items)
       edited = are items s numbers b look judged changes ready told
@@ -201,7 +206,7 @@ module _ {a : View} (items : List Update) (s : StoreView) (numbers : List ℕ) (
           stands = record {
             settled = record {
               represents = represents_own c.held next.map next.height has.represents;
-              gate_even = commits.frames.closed told;
+              gate_even = λ single. (rests_settled s.place.layout turn c single commits.frames.rests).1 c.held (inl (told_on commits.frames.steps.frame told, refl));
               layout_is = header.layout_is ∙ same_layout items s numbers b look judged changes ready told;
               region_is = header.live_is ∙ (stands items s numbers b look judged changes ready told).balanced.stands.settled.region_is;
             };
@@ -213,7 +218,7 @@ module _ {a : View} (items : List Update) (s : StoreView) (numbers : List ℕ) (
         index = subst (IsIndexOf index) (sym array_after) fences_are;
       }
 
-    pub committed : AppliesBatch items (Ok (done_by (counts_judged judged) (2 * edits_of judged))) s (record s { tally = tally; index = index }) a c
+    pub committed : AppliesBatch items (Ok (done_by (counts_judged judged) (2 * edits_of judged))) s (record s { tally = tally; index = index; turn = turn }) a c
     committed = record {
       batch = record {
         answer = λ told.
@@ -235,8 +240,8 @@ module _ {a : View} (items : List Update) (s : StoreView) (numbers : List ℕ) (
         met = tt;
         complete = λ told calm. refl;
       };
-      store = stands_again s (record s { tally = tally; index = index }) ready.is.on refl commits.frames.steps.frame
-          (each_held c (Stands (record s { tally = tally; index = index })) law_c commits.frames.settled (λ told_c. stands_after (told_back commits.frames.steps.frame told_c))) commits.frames.settled;
+      store = stands_again s (record s { tally = tally; index = index; turn = turn }) ready.is.on refl commits.frames.steps.frame
+          (each_rest (record s { tally = tally; index = index; turn = turn }) law_c commits.frames.rests (λ told_c. stands_after (told_back commits.frames.steps.frame told_c))) commits.frames.rests;
       no_intent = commit_idle items s numbers b look judged changes ready commits.frames.steps;
       closed = refl;
       damaged = tt;

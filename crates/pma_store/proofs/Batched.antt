@@ -7,7 +7,7 @@ use Rattle.std.proofs.lemmas.Bool.Decides.{nat_tests}
 use Rattle.station.specs.Bytes.{byte, Touched, Same}
 use Rattle.station.specs.View.{View, Told, EachHeld, NothingPending, Lawful, Rose}
 use Rattle.station.specs.Steps.{Steps}
-use Rattle.station.proofs.Composition.{told_on, weaken, touched_on, touched_in, each_on, only_held, on_same, andthen, frame_on}
+use Rattle.station.proofs.Composition.{told_on, weaken, touched_on, touched_in, each_on, on_same, andthen, frame_on}
 use Rattle.batch_intent.specs.Gate.{IsIntentPlace, Intends}
 use Rattle.batch_intent.specs.Means.{has_pending, map_after_all}
 use Rattle.batch_intent.specs.Spelling.{IsIntent, fits_item}
@@ -18,6 +18,7 @@ use Rattle.map_model.specs.ArrayState.{ArrayState, next_states}
 use Rattle.map_model.specs.Image.{RepresentsMap, map_of}
 use Rattle.map_model.specs.Items.{ItemCounts, no_items, count_items, first_full, accepts, array_state_after_batch, charge_after_items, map_after_items}
 use Rattle.map_model.specs.Store.{Map, Update}
+use Rattle.redo_journal.specs.Rest.{RestsAt}
 use Rattle.segment.specs.declared.fault.StoreFault.{StoreFault}
 use Rattle.segment.specs.declared.fault.StoreFault.TheVariants.{Failed}
 use Rattle.pma_store.specs.declared.answers.Batch.{Batch}
@@ -35,6 +36,7 @@ use Rattle.pma_store.specs.Store.{StoreView, Stands, StandsOn, IsOpenOn, limit_o
 use Rattle.pma_store.proofs.BatchCalls.{are_from, intent_alone, look_alone, no_looks}
 use Rattle.pma_store.proofs.Making.{no_fault, same_fault, stands_again, stands_on, stands_there}
 use Rattle.pma_store.proofs.Moments.{IsReadyFor, begin_held, begin_steps, begun_then, idle_even, if_told, meant_idle}
+use Rattle.pma_store.proofs.Resting.{map_held}
 use Rattle.pma_store.proofs.Spared.{spared_stands, spared_state}
 use Rattle.pma_store.proofs.Steps.{own_of, leaves_on}
 use Rattle.pma_store.proofs.Touching.{untouched}
@@ -46,7 +48,7 @@ fails_by : {T : Type 0} (a b : View) (fault : StoreFault) → (Told a → fault 
 fails_by a b fault damaged failed told calm = absurd (calm (failed (ap Err (damaged told))))
 
 pub fault_batch : {a c : View} (items : List Update) (fault : StoreFault) (s t : StoreView)
-    → Steps (BecomesMeant (map_of a.held) (map_after_batch (version_of s) (limit_of s) (map_of a.held) items)) a c → Steps (Touched (IsBatchPlace s.place.layout)) a c → t.place.layout ≡ s.place.layout → t.closed ≡ s.closed
+    → Steps (BecomesMeant s.place.layout (map_of a.held) (map_after_batch (version_of s) (limit_of s) (map_of a.held) items)) a c → Steps (Touched (IsBatchPlace s.place.layout)) a c → t.place.layout ≡ s.place.layout → t.closed ≡ s.closed
     → (Told a → WritesSome s.place.layout (state_in s a.held) (items_made (version_of s) (limit_of s) (map_of a.held) items) (a.travel.written + 514) c.travel.written)
     → c.travel.written ≤ a.travel.written + (most_of s.place.layout (length items) + 514) → CallsBatch items s a c
     → (Told a → fault ≡ Failed) → TellsOther (2 ^ limit_of s) fault → (fault ≡ Failed) ⊎ ((IsMetLooking s.place s.tally fault c × (c.travel.written ≡ a.travel.written)) ⊎ IsMetMid items s t fault c) → (IsErrOf {T = Batch} (Err fault) Failed → Rose a.disk_faults c.disk_faults) → AppliesBatch items (Err fault) s t a c
@@ -79,12 +81,12 @@ fault_batch {a} {c} items fault s t meant touched layout closed most spent calls
 
 -- Calls that change no byte.
 
-module _ {a c : View} (items : List Update) (s : StoreView) (is : IsOpenOn s a) (steps : Steps Same a c) (unwritten : c.travel.written ≡ a.travel.written) (looks : LooksOnce items s.tally.height a c) where
-  still_meant : (next : Map) → Steps (BecomesMeant (map_of a.held) next) a c
+module _ {a c : View} (items : List Update) (s : StoreView) (law : Lawful a) (is : IsOpenOn s a) (steps : Steps Same a c) (unwritten : c.travel.written ≡ a.travel.written) (looks : LooksOnce items s.tally.height a c) where
+  still_meant : (next : Map) → Steps (BecomesMeant s.place.layout (map_of a.held) next) a c
   still_meant next = weaken steps (λ d i left same.
       let idle = is.no_intent d left in
-      let own = meant_idle d (map_of d) (own_of s d (is.on.stands d left)) idle in
-      subst (λ (x : List ℕ). BecomesMeant (map_of x) next d i) (only_held a is.on.settled d left) (subst (λ (x : List ℕ). BecomesMeant (map_of d) next d x) (sym same) (inl own)))
+      let own = meant_idle s.place.layout d (map_of d) (is.on.stands d left).balanced.stands.settled.layout_is (own_of s d (is.on.stands d left)) idle in
+      subst (λ (m : Map). BecomesMeant s.place.layout m next d i) (map_held s law is.on d left) (subst (λ (x : List ℕ). BecomesMeant s.place.layout (map_of d) next d x) (sym same) (inl own)))
 
   still_touched : Steps (Touched (IsBatchPlace s.place.layout)) a c
   still_touched = weaken steps (λ d i left same. untouched d i same)
@@ -93,9 +95,9 @@ module _ {a c : View} (items : List Update) (s : StoreView) (is : IsOpenOn s a) 
   still_written us x = record { made = 0; some = omega arith; bytes = omega (arith, unwritten) }
 
   -- the items were judged, and are refused
-  pub refused_batch : (done : Batch) → Lawful a → IsRefusal done → (done ≡ NoBatch → (c.travel ≡ a.travel) × (c.calls ≡ a.calls)) → (Told a → accepts (version_of s) (limit_of s) (map_of a.held) items ≡ false)
+  pub refused_batch : (done : Batch) → IsRefusal done → (done ≡ NoBatch → (c.travel ≡ a.travel) × (c.calls ≡ a.calls)) → (Told a → accepts (version_of s) (limit_of s) (map_of a.held) items ≡ false)
       → (Told a → done ≡ batch_answer (version_of s) (limit_of s) (state_in s a.held) items) → AppliesBatch items (Ok done) s s a c
-  refused_batch done law refusal unread refused answer = record {
+  refused_batch done refusal unread refused answer = record {
     batch = record {
       answer = answer;
       state = λ told. (λ τ. state_in s (steps.held told τ)) ∙ sym (ap (λ (b : Bool). cond b (next_states (limit_of s) (state_in s a.held) items) (state_in s a.held)) (refused told));
@@ -131,7 +133,7 @@ module _ {a c : View} (items : List Update) (s : StoreView) (is : IsOpenOn s a) 
 pub no_batch : {a : View} (items : List Update) (s : StoreView) → IsOpenOn s a → Lawful a → Steps Same a a → version_of s < INTENT_VERSION → AppliesBatch items (Ok NoBatch) s s a a
 no_batch {a} items s is law steps early =
     let below : nat_le INTENT_VERSION (version_of s) ≡ false = le_false INTENT_VERSION (version_of s) early in
-    refused_batch items s is steps refl (no_looks items s.tally.height a) NoBatch law tt (λ _. (refl, refl))
+    refused_batch items s law is steps refl (no_looks items s.tally.height a) NoBatch tt (λ _. (refl, refl))
     (λ told. ap (λ (b : Bool). b && is_none (first_full (limit_of s) (map_of a.held) items)) below)
     (λ told. sym (ap (λ (b : Bool). cond b (cond (is_some (first_full (limit_of s) (map_of a.held) items)) (Full (upper_of (limit_of s))) (done_by (count_items (limit_of s) (map_of a.held) items no_items) (charge_after_items (limit_of s) (state_in s a.held) items))) NoBatch) below))
   where
@@ -164,18 +166,18 @@ full_batch {a} {c} items s t most is law version most_is judges =
     let at_version = le_true INTENT_VERSION (version_of s) version in
     let full = λ (told : Told a). none_by (first_full (limit_of s) (map_of a.held) items) (count_items (limit_of s) (map_of a.held) items no_items) (judges.judged told) in
     subst (λ (t : StoreView). AppliesBatch items (Ok (Full most)) s t a c) (sym judges.store)
-    (refused_batch items s is judges.steps judges.unwritten judges.looks (Full most) law tt (λ e. absurd cc)
+    (refused_batch items s law is judges.steps judges.unwritten judges.looks (Full most) tt (λ e. absurd cc)
     (λ told. (λ τ. at_version τ && is_none (first_full (limit_of s) (map_of a.held) items)) ∙ not_none (first_full (limit_of s) (map_of a.held) items) (full told))
     (λ told. ap Full most_is ∙ sym (λ τ. cond (at_version τ) (cond (full told τ) (Full (upper_of (limit_of s))) (done_by (count_items (limit_of s) (map_of a.held) items no_items) (charge_after_items (limit_of s) (state_in s a.held) items))) NoBatch)))
 
 -- the disk failed while the keys were looked for
-pub judging_fails : {a c : View} (items : List Update) (fault : StoreFault) (s t : StoreView) → IsOpenOn s a → JudgesItems items (Err fault) s t a c → AppliesBatch items (Err fault) s t a c
-judging_fails {a} {c} items fault s t is judges =
+pub judging_fails : {a c : View} (items : List Update) (fault : StoreFault) (s t : StoreView) → Lawful a → IsOpenOn s a → JudgesItems items (Err fault) s t a c → AppliesBatch items (Err fault) s t a c
+judging_fails {a} {c} items fault s t law is judges =
     fault_batch items fault s t
-    (still_meant items s is judges.steps judges.unwritten judges.looks (map_after_batch (version_of s) (limit_of s) (map_of a.held) items))
-    (still_touched items s is judges.steps judges.unwritten judges.looks)
+    (still_meant items s law is judges.steps judges.unwritten judges.looks (map_after_batch (version_of s) (limit_of s) (map_of a.held) items))
+    (still_touched items s law is judges.steps judges.unwritten judges.looks)
     (ap (λ (s : StoreView). s.place.layout) judges.store) (ap (λ (s : StoreView). s.closed) judges.store)
-    (λ told. still_written items s is judges.steps judges.unwritten judges.looks (items_made (version_of s) (limit_of s) (map_of a.held) items) (state_in s a.held))
+    (λ told. still_written items s law is judges.steps judges.unwritten judges.looks (items_made (version_of s) (limit_of s) (map_of a.held) items) (state_in s a.held))
     (omega (arith, judges.unwritten)) (look_alone items s judges.looks)
     judges.damaged judges.counted (inr (inl (judges.met, judges.unwritten))) (λ failed. judges.failed (same_fault fault (λ e. e) failed))
 
@@ -192,8 +194,8 @@ judged_then {a} {b} {c} items r s t is law first unwritten looks calls some appl
         refused = IfOk-weaker r _ _ (λ done leaves refusal. leaves_on first unwritten (leaves refusal)) made.refused;
         unread = IfOk-weaker r _ _ (λ done not is. absurd (not (subst IsRefusal (sym is) tt))) some;
         meant = if_told law (frame_on first.frame made.meant.frame) (λ told.
-            let own = subst (λ (x : List ℕ). Steps (BecomesMeant (map_of x) (map_after_batch (version_of s) (limit_of s) (map_of x) items)) b c) (first.held told) made.meant in
-            andthen (still_meant items s is first unwritten looks (map_after_batch (version_of s) (limit_of s) (map_of a.held) items)) own (λ d i left one. one) (λ d e i left one mid two. two));
+            let own = subst (λ (x : List ℕ). Steps (BecomesMeant s.place.layout (map_of x) (map_after_batch (version_of s) (limit_of s) (map_of x) items)) b c) (first.held told) made.meant in
+            andthen (still_meant items s law is first unwritten looks (map_after_batch (version_of s) (limit_of s) (map_of a.held) items)) own (λ d i left one. one) (λ d e i left one mid two. two));
         touched = on_same first made.touched (λ d. untouched d d refl);
         layout = made.layout;
         images = IfOk-weaker r _ _ (λ done images. omega (arith, images, unwritten)) made.images;
@@ -237,9 +239,8 @@ module _ {a b : View} (items : List Update) (s : StoreView) (is : IsOpenOn s a) 
   ready : EachHeld (IsReadyFor s.place.layout (map_of a.held) items) a
   ready d left =
       let own = (is.on.stands d left).balanced.stands.settled in
-      let same = only_held a is.on.settled d left in
       record {
-        represents = subst (λ (x : List ℕ). RepresentsMap d (map_of x)) same (own_of s d (is.on.stands d left));
+        represents = subst (RepresentsMap d) (map_held s law is.on d left) (own_of s d (is.on.stands d left));
         gate_even = idle_even d (subst (λ (l : Layout). INTENT_VERSION ≤ l.version) (sym own.layout_is) version) (is.no_intent d left);
         layout_is = own.layout_is;
         fit = subst (λ (l : Layout). T (list_all (fits_item l.format) items)) (sym own.layout_is) fit;
@@ -249,8 +250,8 @@ module _ {a b : View} (items : List Update) (s : StoreView) (is : IsOpenOn s a) 
   touches_intent = weaken writes (λ d i left step. step.touched)
 
   -- the store stands for the file with the intent
-  pub stands_intent : NothingPending b → StandsOn s b
-  stands_intent settled = stands_again s s is.on refl writes.frame (each_on (Stands s) (Stands s) writes is.on.stands (λ d i stands step. spared_stands s d i stands step.touched)) settled
+  pub stands_intent : RestsAt s.place.layout s.turn b → StandsOn s b
+  stands_intent rests = stands_again s s is.on refl writes.frame (each_on (Stands s) (Stands s) writes is.on.stands (λ d i stands step. spared_stands s d i stands step.touched)) rests
 
   pub state_intent : Told a → state_in s b.held ≡ state_in s a.held
   state_intent told = spared_state s a.held b.held (stands_there s is.on told) (writes.held told).touched
@@ -266,7 +267,7 @@ module _ {a b : View} (items : List Update) (s : StoreView) (is : IsOpenOn s a) 
   pub not_written : b.travel.written ≤ a.travel.written + 513 → b.calls ≤ a.calls + 4 → Rose a.disk_faults b.disk_faults → AppliesBatch items (Err Failed) s s a b
   not_written cost four rose =
       fault_batch items Failed s s
-      (if_told law writes.frame (λ told. subst (λ (m : Map). Steps (BecomesMeant (map_of a.held) m) a b) (all_mapped told) (begin_steps s.place.layout (map_of a.held) items version some intent a b (facts told).0 ready writes)))
+      (if_told law writes.frame (λ told. subst (λ (m : Map). Steps (BecomesMeant s.place.layout (map_of a.held) m) a b) (all_mapped told) (begin_steps s.place.layout (map_of a.held) items version some intent a b (facts told).0 ready writes)))
       (touched_in (IsBatchPlace s.place.layout) (λ p there. inr there) touches_intent)
       refl refl
       (λ told. record { made = 0; some = omega arith; bytes = omega (arith, cost) })
@@ -289,12 +290,12 @@ module _ {a b : View} (items : List Update) (s : StoreView) (is : IsOpenOn s a) 
     run_touched : Steps (Touched (IsBatchPlace s.place.layout)) a c
     run_touched = touched_on (IsBatchPlace s.place.layout) (λ p there. inr there) item_places touches_intent makes.touched
 
-    run_meant : Steps (BecomesMeant (map_of a.held) (map_after_batch (version_of s) (limit_of s) (map_of a.held) items)) a c
+    run_meant : Steps (BecomesMeant s.place.layout (map_of a.held) (map_after_batch (version_of s) (limit_of s) (map_of a.held) items)) a c
     run_meant =
         if_told law run_touched.frame (λ told.
         let begun = begin_steps s.place.layout (map_of a.held) items version some intent a b (facts told).0 ready writes in
         let held = begin_held s.place.layout (map_of a.held) items version some intent a b law_b ready writes settled opened in
-        subst (λ (m : Map). Steps (BecomesMeant (map_of a.held) m) a c) (all_mapped told) (begun_then (map_of a.held) (map_after_all s.place.layout (map_of a.held) items) begun (makes.steps (map_of a.held) (facts told).0 held)))
+        subst (λ (m : Map). Steps (BecomesMeant s.place.layout (map_of a.held) m) a c) (all_mapped told) (begun_then s.place.layout (map_of a.held) (map_after_all s.place.layout (map_of a.held) items) begun (makes.steps (map_of a.held) (facts told).0 held)))
 
     run_most : Told a → WritesSome s.place.layout (state_in s a.held) (items_made (version_of s) (limit_of s) (map_of a.held) items) (a.travel.written + 514) c.travel.written
     run_most told =

@@ -28,6 +28,7 @@ use Rattle.pma_store.specs.declared.answers.Put.{Put}
 use Rattle.pma_store.specs.declared.answers.Report.{Report}
 use Rattle.pma_store.specs.declared.updating.Outcome.{Outcome}
 use Rattle.pma_store.specs.declared.updating.Outcome.TheVariants.{Unchanged, Replaced, Changed}
+use Rattle.pma_store.proofs.ClearCosts.{clear_most}
 use Rattle.pma_store.proofs.Outcomes.{quiet, holds, balanced_array, has_is, put_answered, replaced_report}
 use Rattle.pma_store.proofs.Paying.{work_is, put_changed}
 
@@ -101,12 +102,12 @@ module _ (s : StoreView) (image : List ℕ) (stands : Stands s image) where
 
 -- What is written, in images of segments.
 
-images_of : (f height : ℕ) → 1 ≤ f → f ≤ 2 → (n : ℕ) → n ≡ 2 ^ height → 4096 * f * n + 9 + (8196 * f + 6) ≤ 4101 * f * (n + 3)
+images_of : (f height : ℕ) → 1 ≤ f → f ≤ 2 → (n : ℕ) → n ≡ 2 ^ height → 5 + (4096 * f * n + 9) + (8196 * f + 6) ≤ 4101 * f * (n + 3)
 images_of f height low high n is = elim (cases_eq f 1) [
-  | inl one ↦ let few : 4096 * 1 * n + 9 + (8196 * 1 + 6) ≤ 4101 * 1 * (n + 3) = omega arith in subst (λ (f : ℕ). 4096 * f * n + 9 + (8196 * f + 6) ≤ 4101 * f * (n + 3)) (sym one) few
+  | inl one ↦ let few : 5 + (4096 * 1 * n + 9) + (8196 * 1 + 6) ≤ 4101 * 1 * (n + 3) = omega arith in subst (λ (f : ℕ). 5 + (4096 * f * n + 9) + (8196 * f + 6) ≤ 4101 * f * (n + 3)) (sym one) few
   | inr more ↦
       let two : f ≡ 2 = omega (arith, more, low, high) in
-      let few : 4096 * 2 * n + 9 + (8196 * 2 + 6) ≤ 4101 * 2 * (n + 3) = omega arith in subst (λ (f : ℕ). 4096 * f * n + 9 + (8196 * f + 6) ≤ 4101 * f * (n + 3)) (sym two) few
+      let few : 5 + (4096 * 2 * n + 9) + (8196 * 2 + 6) ≤ 4101 * 2 * (n + 3) = omega arith in subst (λ (f : ℕ). 5 + (4096 * f * n + 9) + (8196 * f + 6) ≤ 4101 * f * (n + 3)) (sym two) few
 ]
 
 spread_images : (f n : ℕ) → 1 ≤ f → f ≤ 2 → (65568 * f + 24) * n ≤ 4101 * f * (16 * n)
@@ -121,7 +122,7 @@ written_by : (l : Layout) → IsSlotFormat l.format → (height : ℕ) (r : Repo
 written_by l is height r = go r.resized r.rebalanced
   where
     go : (resized : Bool) (spread : Option Window) → update_cost l height (record r { resized = resized; rebalanced = spread }) ≤ 4101 * l.format * charge_by (cond resized (work.Resize height) (spread_work spread))
-    go true spread = images_of l.format height is.least is.most (2 ^ height) refl
+    go true spread = omega (arith, images_of l.format height is.least is.most (2 ^ height) refl, clear_most l)
     go false None = omega (arith, is.least)
     go false (Some w) = spread_images l.format (2 ^ w.height) is.least is.most
 

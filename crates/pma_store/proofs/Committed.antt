@@ -17,10 +17,11 @@ use Rattle.batch_intent.specs.Spelling.{IsIntent}
 use Rattle.batch_intent.proofs.Meanings.{update_keeps}
 use Rattle.density_rule.specs.Bounds.{upper_of}
 use Rattle.header_gate.specs.declared.layout.Layout.{Layout}
-use Rattle.header_gate.specs.Header.{gate, layout_in, IsGatePlace}
+use Rattle.header_gate.specs.Header.{layout_in, IsGatePlace}
 use Rattle.header_gate.specs.Paged.{pages_of_all, segment_image}
 use Rattle.header_gate.specs.Places.{height_limit, pages_at, region_place}
-use Rattle.header_gate.specs.Recovered.{Ascends, IsBatch, laid_over, recovered, table_numbers}
+use Rattle.header_gate.specs.Recovered.{Ascends, IsBatch, IsJournalSound, is_laid, laid_over, live_table, recovered}
+use Rattle.header_gate.proofs.Journals.{sound_alike, sound_on}
 use Rattle.header_gate.proofs.PagedSegments.{length-pages_of_all, pages_batch, pages_fit}
 use Rattle.key_slot.specs.Segment.{segment_bytes}
 use Rattle.key_slot.proofs.SegmentLaws.{times_up}
@@ -40,6 +41,7 @@ use Rattle.one_commit.proofs.Edits.{are_edits}
 use Rattle.one_commit.proofs.Reaching.{state_reached}
 use Rattle.redo_journal.specs.Commit.{IsJournalPlace, IsNamed, frame_byte}
 use Rattle.redo_journal.specs.Frames.{Batch}
+use Rattle.redo_journal.specs.declared.place.Place.{Place}
 use Rattle.redistribute.specs.Rearranged.{IsMovePlace}
 use Rattle.segment.specs.Rows.{value_of}
 use Rattle.segment.specs.declared.fault.StoreFault.{StoreFault}
@@ -47,9 +49,10 @@ use Rattle.segment_frames.specs.Lists.{held_lists, segments_in}
 use Rattle.segment_frames.proofs.FrameLaws.{held_byte}
 use Rattle.segment_frames.proofs.PageNumbers.{segments_ascend}
 use Rattle.station.specs.Bytes.{Touched}
-use Rattle.station.specs.View.{View, Told, EachHeld, Lawful}
+use Rattle.redo_journal.proofs.Live.{rest_live, rest_recovers}
+use Rattle.station.specs.View.{View, Told, MayHold, EachHeld, Lawful}
 use Rattle.station.specs.Steps.{Steps}
-use Rattle.station.proofs.Composition.{told_of, weaken, each_on, only_held}
+use Rattle.station.proofs.Composition.{told_of, weaken, each_on}
 use Rattle.pma_store.specs.declared.judging.Judged.{Judged}
 use Rattle.pma_store.specs.declared.look.Look.{Look}
 use Rattle.pma_store.specs.AtOnce.{CommitsPages, FitsCommit}
@@ -166,6 +169,13 @@ lays_edits format segments items b look from loaded size loads = record {
   unnamed = λ i lt none. loads.unnamed i (omega (arith, lt, size)) none;
 }
 
+-- What the commit of the pages of so many segments leaves of an image: it recovers to all of the batch or to nothing of it, and
+-- a journal that is to be laid is that of the batch, or what it was; where there are none, it is what it was.
+pub record LeavesBy (place : Place) (count : ℕ) (b : Batch) (start image : List ℕ) : Type 0 where
+  pub whole : (recovered place.layout image ≡ recovered place.layout start) ⊎ (recovered place.layout image ≡ laid_over place.layout place.region b.numbers (frame_byte b.slots) (recovered place.layout start))
+  pub table : is_laid place.layout image ≡ true → (live_table place.layout image ≡ b.numbers) ⊎ ((is_laid place.layout start ≡ true) × (live_table place.layout image ≡ live_table place.layout start))
+  pub none : count ≡ 0 → is_laid place.layout image ≡ true → (is_laid place.layout start ≡ true) × (live_table place.layout image ≡ live_table place.layout start)
+
 module _ {a : View} (items : List Update) (s : StoreView) (numbers : List ℕ) (b : Batch) (look : Look) (judged : Judged) (changes : List ItemChange) (ready : IsReadyAtOnce items s numbers b look judged changes a) where
   abbrev l : Layout
   l = s.place.layout
@@ -210,6 +220,27 @@ module _ {a : View} (items : List Update) (s : StoreView) (numbers : List ℕ) (
 
   pub commit_idle : {c : View} → Steps (CommitsPages s.place look.count b) a c → EachHeld (λ image. has_pending image ≡ false) c
   commit_idle steps = each_on (Stood s) (λ image. has_pending image ≡ false) steps (λ d left. (ready.is.on.stands d left, ready.is.no_intent d left)) (λ d i was step. idle d i was.0 step was.1)
+
+  -- what is left of an image that the station may hold is left of the held bytes, too
+  pub leaves_held : Lawful a → (d : List ℕ) → MayHold a d → (i : List ℕ) → CommitsPages s.place look.count b d i → LeavesBy s.place look.count b a.held i
+  leaves_held law d left i step =
+      let rest = ready.is.on.rests.rest in
+      let recovers : recovered s.place.layout d ≡ recovered s.place.layout a.held = rest_recovers s.place.layout a law rest d left in
+      let live = λ (laid : is_laid s.place.layout d ≡ true). rest_live s.place.layout a law rest d left laid in
+      record {
+        whole = elim step.commits.whole [
+          | inl same ↦ inl (same ∙ recovers)
+          | inr laid ↦ inr (laid ∙ ap (laid_over s.place.layout s.place.region b.numbers (frame_byte b.slots)) recovers)
+        ];
+        table = λ laid. elim (step.commits.table laid) [
+          | inl is ↦ inl is
+          | inr was ↦ inr ((live was.0).0, was.1 ∙ (live was.0).1)
+        ];
+        none = λ zero laid.
+            let same : i ≡ d = step.none zero in
+            let was = live (ap (is_laid s.place.layout) (sym same) ∙ laid) in
+            (was.0, ap (live_table s.place.layout) same ∙ was.1);
+      }
 
   module _ (told : Told a) where
     abbrev A : Array
@@ -260,22 +291,31 @@ module _ {a : View} (items : List Update) (s : StoreView) (numbers : List ℕ) (
     edits : LaysEdits (slot_format a.held) (array_of a.held) items (segments_in s.place.layout.format b.numbers) (frame_byte b.slots)
     edits = subst (λ (l : Layout). LaysEdits l.format (array_of a.held) items (segments_in s.place.layout.format b.numbers) (frame_byte b.slots)) (sym same_layout) (lays_edits s.place.layout.format (array_of a.held) items b look (2 ^ s.tally.height) ready.loaded size loads)
 
-    module _ (i : List ℕ) (step : CommitsPages s.place look.count b a.held i) where
-      -- what the journal holds, where it is to be laid, is the batch
-      journal : gate i ≡ 1 → IsBatch (layout_in a.held).journal (pages_at (layout_in a.held) (height_of a.held)) (table_numbers i)
-      journal odd =
-          let some = step.some odd in
-          let count = ready.loaded.count_is in
-          let own : IsBatch (length ns) (2 ^ s.tally.height) ns = record {
-            least_is = omega (arith, some, count);
-            most_is = omega arith;
-            ascends = ascends;
-            below = λ k d lt. omega (arith, get_or_default ns k d 0 lt, ready.loaded.below k (omega (arith, lt, count)));
-          } in
-          let few : l.format * length ns ≤ l.journal = omega (arith, ap length ready.loaded.held.pages, length-pages_of_all l.format ns, ready.loaded.held.frames.few, ready.journal) in
-          let paged = pages_batch l.journal (2 ^ s.tally.height) l.format ns ready.loaded.held.known.least few own in
-          let table : IsBatch l.journal (pages_at l s.tally.height) (table_numbers i) = subst (IsBatch l.journal (pages_at l s.tally.height)) (sym (step.commits.table odd ∙ ready.loaded.held.pages)) paged in
-          subst (λ (l : Layout). IsBatch l.journal (pages_at l (height_of a.held)) (table_numbers i)) (sym same_layout) (subst (λ (h : ℕ). IsBatch l.journal (pages_at l h) (table_numbers i)) (sym tall) table)
+    -- what the journal held before
+    journal_before : IsJournalSound s.place.layout s.tally.height a.held
+    journal_before =
+        subst (λ (h : ℕ). IsJournalSound s.place.layout h a.held) tall
+        (subst (λ (l : Layout). IsJournalSound l (height_of a.held) a.held) same_layout stands.balanced.stands.settled.represents.journal)
+
+    module _ (i : List ℕ) (step : LeavesBy s.place look.count b a.held i) where
+      -- what the journal holds, where it is to be laid, is the batch, or what it held before
+      journal : IsJournalSound (layout_in a.held) (height_of a.held) i
+      journal =
+          let own : IsJournalSound s.place.layout s.tally.height i = elim (cases_eq look.count 0) [
+            | inl none ↦ sound_alike s.place.layout s.tally.height a.held i (step.none none) journal_before
+            | inr some ↦
+                let count = ready.loaded.count_is in
+                let batch : IsBatch (length ns) (2 ^ s.tally.height) ns = record {
+                  least_is = omega (arith, some, count);
+                  most_is = omega arith;
+                  ascends = ascends;
+                  below = λ k d lt. omega (arith, get_or_default ns k d 0 lt, ready.loaded.below k (omega (arith, lt, count)));
+                } in
+                let few : l.format * length ns ≤ l.journal = omega (arith, ap length ready.loaded.held.pages, length-pages_of_all l.format ns, ready.loaded.held.frames.few, ready.journal) in
+                let paged = pages_batch l.journal (2 ^ s.tally.height) l.format ns ready.loaded.held.known.least few batch in
+                sound_on s.place.layout s.tally.height b.numbers a.held i step.table (subst (IsBatch l.journal (pages_at l s.tally.height)) (sym ready.loaded.held.pages) paged) journal_before
+          ] in
+          subst (λ (l : Layout). IsJournalSound l (height_of a.held) i) (sym same_layout) (subst (λ (h : ℕ). IsJournalSound s.place.layout h i) (sym tall) own)
 
       module _ (laid : recovered s.place.layout i ≡ laid_over s.place.layout s.place.region b.numbers (frame_byte b.slots) (recovered s.place.layout a.held)) where
         pub lays : LaysBatch (segments_in s.place.layout.format b.numbers) (frame_byte b.slots) a.held i
@@ -294,24 +334,23 @@ module _ {a : View} (items : List Update) (s : StoreView) (numbers : List ℕ) (
             (state_reached (state_in s a.held) items a.held i ns (frame_byte b.slots) has balanced ready.intent.distinct fit lays edits journal)
 
       becomes : Represents i (map_of a.held) (height_of a.held) ⊎ HasState i (next_states (limit_of s) (state_in s a.held) items)
-      becomes = elim step.commits.whole [
+      becomes = elim step.whole [
         | inl same ↦ inl (kept a.held i (map_of a.held) (height_of a.held) stands.balanced.stands.settled.represents (subst (λ (l : Layout). recovered l i ≡ recovered l a.held) (sym same_layout) same) journal)
         | inr laid ↦ inr (reached laid)
       ]
 
     -- at each moment the file means the map before the items or after them
-    moment : (i : List ℕ) → CommitsPages s.place look.count b a.held i → MeansMap i (map_of a.held) ⊎ MeansMap i (map_after_items (limit_of s) (map_of a.held) items)
-    moment i step =
-        let none = idle a.held i stands step (ready.is.no_intent a.held (inl (told, refl))) in
+    moment : (i : List ℕ) → LeavesBy s.place look.count b a.held i → layout_in i ≡ s.place.layout → has_pending i ≡ false → MeansMap s.place.layout i (map_of a.held) ⊎ MeansMap s.place.layout i (map_after_items (limit_of s) (map_of a.held) items)
+    moment i step laid none =
         elim (becomes i step) [
-          | inl same ↦ inl (meant_idle i (map_of a.held) (height_of a.held, same) none)
-          | inr reached ↦ inr (meant_idle i (map_after_items (limit_of s) (map_of a.held) items) (next.height, subst (λ (m : Map). Represents i m next.height) (states_map (limit_of s) st items) reached.represents) none)
+          | inl same ↦ inl (meant_idle s.place.layout i (map_of a.held) laid (height_of a.held, same) none)
+          | inr reached ↦ inr (meant_idle s.place.layout i (map_after_items (limit_of s) (map_of a.held) items) laid (next.height, subst (λ (m : Map). Represents i m next.height) (states_map (limit_of s) st items) reached.represents) none)
         ]
 
-  pub commit_means : {c : View} → Lawful a → Steps (CommitsPages s.place look.count b) a c → (m : Map) → (Told a → m ≡ map_after_items (limit_of s) (map_of a.held) items) → Steps (BecomesMeant (map_of a.held) m) a c
+  pub commit_means : {c : View} → Lawful a → Steps (CommitsPages s.place look.count b) a c → (m : Map) → (Told a → m ≡ map_after_items (limit_of s) (map_of a.held) items) → Steps (BecomesMeant s.place.layout (map_of a.held) m) a c
   commit_means law steps m after = weaken steps (λ d i left step.
       let told = told_of law d left in
-      elim (moment told i (subst (λ (x : List ℕ). CommitsPages s.place look.count b x i) (only_held a ready.is.on.settled d left) step)) [
+      elim (moment told i (leaves_held law d left i step) (moves_layout s.place d i (moves d i step) ∙ (ready.is.on.stands d left).balanced.stands.settled.layout_is) (idle d i (ready.is.on.stands d left) step (ready.is.no_intent d left))) [
         | inl same ↦ inl same
-        | inr next ↦ inr (subst (MeansMap i) (sym (after told)) next)
+        | inr next ↦ inr (subst (MeansMap s.place.layout i) (sym (after told)) next)
       ])

@@ -41,3 +41,7 @@ module _ (format : ℕ) (b : Batch) (n : ℕ) (start now next : IndexView) (asce
 
   pub renews_none : next ≡ now → number_of format b n ≡ 0 → RenewsFences format b (n + 1) start next
   renews_none same zero_is = renews_more (ap (λ (x : IndexView). x.hmax) same) (ap (λ (x : IndexView). x.height) same) (λ pos. absurd (omega (arith, pos, zero_is))) (λ i apart. ap (λ (x : IndexView). fence_of x i) same)
+
+-- whatever the frames note of the gate
+pub renews_turned : (format : ℕ) (b : Batch) (turn n : ℕ) (old new : IndexView) → RenewsFences format (record b { turn = turn }) n old new → RenewsFences format b n old new
+renews_turned format b turn n old new renews = record { hmax = renews.hmax; height = renews.height; set = renews.set; others = renews.others }

@@ -22,6 +22,7 @@ use Rattle.map_model.specs.Store.{Map, Update, map_after, key_of}
 use Rattle.key_slot.proofs.SegmentLaws.{times_up}
 use Rattle.map_model.proofs.Recovering.{determined}
 use Rattle.map_model.proofs.Resuming.{get_before}
+use Rattle.redo_journal.specs.Rest.{RestsAt}
 use Rattle.segment.specs.declared.fault.StoreFault.{StoreFault}
 use Rattle.segment.specs.declared.fault.StoreFault.TheVariants.{Failed}
 use Rattle.pma_store.specs.Answers.{state_in}
@@ -76,7 +77,7 @@ pub record HasMade (items : List Update) (k charge : ℕ) (s t : StoreView) (a b
   pub charged : Told a → charge ≡ charge_after_items (limit_of s) (state_in s a.held) (take k items)
   pub small : charge ≤ 1048576 * k
   pub on : StandsOn t b
-  pub meant : (base : Map) → AreAdmitted (limit_of s) base items → EachHeld (InBatch s.place.layout base items 0) a → Steps (MeansNow (map_after_all s.place.layout base items)) a b × EachHeld (InBatch s.place.layout base items k) b
+  pub meant : (base : Map) → AreAdmitted (limit_of s) base items → EachHeld (InBatch s.place.layout base items 0) a → Steps (MeansNow s.place.layout (map_after_all s.place.layout base items)) a b × EachHeld (InBatch s.place.layout base items k) b
   pub touched : Steps (Touched (IsUpdatePlace s.place.layout)) a b
   pub layout : t.place.layout ≡ s.place.layout
   pub closed : t.closed ≡ s.closed
@@ -132,10 +133,10 @@ module _ (items : List Update) (k charge : ℕ) (s t next : StoreView) (a b c : 
     step : Steps (Updates (limit_of s) (get_or items k d)) b c
     step = subst (λ (h : ℕ). Steps (Updates h (get_or items k d)) b c) limit_same made.steps
 
-    pub goes_on : (base : Map) → AreAdmitted (limit_of s) base items → EachHeld (InBatch s.place.layout base items 0) a → Steps (MeansNow (map_after_all s.place.layout base items)) a c
+    pub goes_on : (base : Map) → AreAdmitted (limit_of s) base items → EachHeld (InBatch s.place.layout base items 0) a → Steps (MeansNow s.place.layout (map_after_all s.place.layout base items)) a c
     goes_on base admitted each =
         let before = is.meant base admitted each in
-        then_now (map_after_all s.place.layout base items) before.0 (item_steps s.place.layout base items admitted k d lt b c before.1 step)
+        then_now s.place.layout (map_after_all s.place.layout base items) before.0 (item_steps s.place.layout base items admitted k d lt b c before.1 step)
 
     -- whatever is told
     pub spends : c.travel.written ≤ a.travel.written + most_of s.place.layout (suc k)
@@ -186,7 +187,7 @@ module _ (items : List Update) (k charge : ℕ) (s t next : StoreView) (a b c : 
         meant = λ base admitted each.
             let before = is.meant base admitted each in (
               goes_on (Ok charge_next) made base admitted each,
-              item_made s.place.layout base items admitted k d lt b c law before.1 (step (Ok charge_next) made) made.store.settled (λ told_b m represents.
+              item_made s.place.layout base items admitted k d lt b c next law before.1 (step (Ok charge_next) made) made.store (λ told_b m represents.
                   let own : m ≡ map_of b.held = (determined b.held m represents.0 represents.1).0 in
                   let mapped : map_of c.held ≡ map_after (limit_of s) (map_of b.held) (get_or items k d) = ap (λ (x : ArrayState). x.map) (made.state told_b) ∙ ap (λ (h : ℕ). map_after h (map_of b.held) (get_or items k d)) limit_same in
                   subst (RepresentsMap c.held) (mapped ∙ ap (λ (x : Map). map_after (limit_of s) x (get_or items k d)) (sym own)) (own_of next c.held (stands_there next made.store (told_on made.steps.frame told_b)))),
@@ -264,10 +265,10 @@ module _ (items : List Update) (charge : ℕ) (s t : StoreView) (a b c : View) (
   whole : take (length items) items ≡ items
   whole = take_all (length items) items (omega arith)
 
-  closes : (base : Map) → AreAdmitted (limit_of s) base items → EachHeld (InBatch s.place.layout base items 0) a → Steps (MeansNow (map_after_all s.place.layout base items)) a c
+  closes : (base : Map) → AreAdmitted (limit_of s) base items → EachHeld (InBatch s.place.layout base items 0) a → Steps (MeansNow s.place.layout (map_after_all s.place.layout base items)) a c
   closes base admitted each =
       let before = is.meant base admitted each in
-      then_now (map_after_all s.place.layout base items) before.0 (closing_steps s.place.layout base items admitted b c before.1 closing)
+      then_now s.place.layout (map_after_all s.place.layout base items) before.0 (closing_steps s.place.layout base items admitted b c before.1 closing)
 
   touches_gate : Steps (Touched (IsItemPlace s.place.layout)) a c
   touches_gate = touched_on (IsItemPlace s.place.layout) (λ p there. inl there) (λ p there. inr there) is.touched closing
@@ -278,15 +279,15 @@ module _ (items : List Update) (charge : ℕ) (s t : StoreView) (a b c : View) (
   begun_all : AreForItems items s a is.of_items
   begun_all = record { begun = length items; some = omega arith; last = t.tally; are_for = is.are_for }
 
-  pub all_made : length items ≤ 16 → Lawful c → NothingPending c → (Told b → intent_gate c.held ≡ 0) → MakesItems items (Ok charge) s t a c
-  all_made few law settled even =
+  pub all_made : length items ≤ 16 → Lawful c → NothingPending c → RestsAt t.place.layout t.turn c → (Told b → intent_gate c.held ≡ 0) → MakesItems items (Ok charge) s t a c
+  all_made few law settled rests even =
       let stands : EachHeld (Stands t) c = each_on (Stands t) (Stands t) closing is.on.stands (λ d i stands step. spared_stands t d i stands (gate_touched d i step)) in
       record {
         state = λ told.
             let told_b = told_on is.touched.frame told in
             spared_state t b.held c.held (stands_there t is.on told_b) (gate_touched b.held c.held (closing.held told_b)) ∙ is.state told ∙ ap (next_states (limit_of s) (state_in s a.held)) whole;
         charge = λ told. is.charged told ∙ ap (charge_after_items (limit_of s) (state_in s a.held)) whole;
-        store = stands_again t t is.on refl closing.frame stands settled;
+        store = stands_again t t is.on refl closing.frame stands rests;
         no_intent = each_held c (λ image. has_pending image ≡ false) law settled (λ told. even_idle_at c.held (even (told_back closing.frame told)));
         steps = closes;
         touched = touches_gate;

@@ -16,11 +16,14 @@ use Rattle.raw_slots.proofs.SlotLists.{length-slots_in}
 use Rattle.redo_journal.specs.Frames.{Batch, IsFrames}
 use Rattle.segment_frames.specs.Held.{grouped, HoldsRows, HoldsLists}
 use Rattle.segment_frames.specs.Lists.{frames_of, rows_in, segments_in, held_lists, IsHeld}
+use Rattle.segment_frames.proofs.Alike.{held_turned}
 use Rattle.segment_frames.proofs.FrameLaws.{holds_decoded, lists_back, length-rows_in}
 use Rattle.segment_frames.proofs.Grouped.{frames_at, grouped_same, length-frames_of, length-grouped, all_within, segment_room}
 use Rattle.segment_frames.proofs.PageNumbers.{pages_back, whole_pages}
 use Rattle.segment_frames.proofs.Slots.{splice_before, splice_inside}
 use Rattle.raw_slots.proofs.Runs.{length-splice}
+use Rattle.pma_store.specs.declared.look.Look.{Look}
+use Rattle.pma_store.specs.Looked.{AreLoaded}
 
 -- The pages of the batch so far lie below those of a segment above its segments.
 pub pages_below : (format : ℕ) (b : Batch) (segment : ℕ) → IsHeld format b → ((k : ℕ) → k < length (segments_in format b.numbers) → get_or (segments_in format b.numbers) k 0 < segment) → (j : ℕ) → j < length b.numbers → get_or b.numbers j 0 < format * segment
@@ -45,7 +48,7 @@ module _ (format : ℕ) (b : Batch) (f segment : ℕ) (rows : List Record) (writ
 
   -- the batch with the segment
   abbrev pub with_segment : Batch
-  with_segment = record { journal = b.journal; numbers = pages_of_all format (segments_in format b.numbers ++ segment ∷ []); slots = slots }
+  with_segment = record { journal = b.journal; turn = b.turn; numbers = pages_of_all format (segments_in format b.numbers ++ segment ∷ []); slots = slots }
 
   there : own * f + own ≤ length b.slots
   there = segment_room format f b.journal b.slots held.frames.frames room
@@ -110,7 +113,19 @@ module _ (format : ℕ) (b : Batch) (f segment : ℕ) (rows : List Record) (writ
   pub still_held : IsFrames (record b { numbers = with_segment.numbers }) → IsHeld format with_segment
   still_held frames = record {
     known = held.known;
-    frames = record { journal = frames.journal; frames = size ∙ frames.frames; few = frames.few; ascends = frames.ascends; small = frames.small };
+    frames = record { journal = frames.journal; turn = frames.turn; frames = size ∙ frames.frames; few = frames.few; ascends = frames.ascends; small = frames.small };
     pages = whole_pages format with_segment.numbers (segments_in format b.numbers ++ segment ∷ []) held.known.least refl;
     lists = subst (λ (a : Array). HoldsLists format a (grouped format slots)) (sym lists_are) all;
   }
+
+-- frames that note another gate hold the same
+pub loaded_turned : (format : ℕ) (b : Batch) (look : Look) (from turn : ℕ) → turn < 2 → AreLoaded format b look from → AreLoaded format (record b { turn = turn }) look from
+loaded_turned format b look from turn small is = record {
+  held = held_turned format turn b small is.held;
+  count_is = is.count_is;
+  few = is.few;
+  numbers_are = is.numbers_are;
+  below = is.below;
+  fits = is.fits;
+  filled = is.filled;
+}

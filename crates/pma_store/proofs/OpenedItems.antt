@@ -3,9 +3,9 @@ use Rattle.std.proofs.Common.{◌^◌, ◌≡◌, ◌≢◌, ◌⊎◌, inl, inr
 use mathlib.Core.Bool.{true≢false}
 use Rattle.std.specs.Prelude.{IsOk, IsErrOf, is_ok}
 use Rattle.station.specs.Bytes.{Touched}
-use Rattle.station.specs.View.{View, Told, Honest, EachHeld, NothingPending, Lawful, Rose}
+use Rattle.station.specs.View.{View, Told, Honest, MayHold, EachHeld, Lawful, Rose}
 use Rattle.station.specs.Steps.{Frame, Steps}
-use Rattle.station.proofs.Composition.{each_held, frame_on, honest_on, told_on, weaken}
+use Rattle.station.proofs.Composition.{frame_on, honest_on, told_on, weaken}
 use Rattle.batch_intent.specs.Means.{InBatch, KeepsIntent, Means, MeansMap, has_pending, map_after_all, meant_map, opening_reason, pending}
 use Rattle.batch_intent.proofs.Meanings.{batch_begun, items_are, meant_one, pending_kept, map_made}
 use Rattle.batch_intent.proofs.OpeningReasons.{means_of_none}
@@ -37,8 +37,16 @@ use Rattle.pma_store.specs.Items.{IsItemPlace, MakesItems}
 use Rattle.pma_store.specs.Looking.{TellsOther}
 use Rattle.pma_store.specs.Meaning.{MeansNow}
 use Rattle.pma_store.specs.Opens.{OpensMeant, IsAllAtRest, WritesOpening, TellsOtherCount}
-use Rattle.pma_store.specs.Store.{StoreView, limit_of}
-use Rattle.pma_store.proofs.Moments.{if_told}
+use Rattle.pma_store.specs.Store.{StoreView, StandsOn, limit_of}
+use Rattle.pma_store.specs.Touching.{IsUpdatePlace}
+use Rattle.pma_store.proofs.Making.{stands_there}
+use Rattle.pma_store.proofs.Moments.{batch_held, if_told}
+use Rattle.pma_store.proofs.Resting.{covered_held}
+use Rattle.pma_store.proofs.Touching.{moves_touch}
+
+-- touched twice at the same places
+touched_on_top : {X : ℕ → Type 0} (old mid new : List ℕ) → Touched X old mid → Touched X mid new → Touched X old new
+touched_on_top old mid new one two = record { size = two.size ∙ one.size; rest = λ k out. two.rest k out ∙ one.rest k out }
 
 -- What brings a file back keeps what it means.
 
@@ -47,7 +55,7 @@ wider l k is = inl (inr (inr (inr is)))
 
 pub opens_meant : (old new : List ℕ) → Opens old new → OpensMeant old new
 opens_meant old new opens = record {
-  means = λ m height is. (height, opens_means old new opens m height is);
+  means = λ m height is. ((opens_keeps old new opens).layout_is, (height, opens_means old new opens m height is));
   recovers = opens.recovers;
   touched = record { size = opens.touched.size; rest = λ k out. opens.touched.rest k (λ x. out (wider (layout_in old) k x)) };
   idle = λ none. opens;
@@ -76,7 +84,7 @@ module _ {T U : Type 0} {a b : View} where
     steps = steps_meant opens.steps;
     late = opens.late;
     early = opens.early;
-    even = opens.even;
+    bare = opens.bare;
     refused_settled = opens.refused_settled;
     memory = λ is. opens.memory (other is);
     memory_last = λ is. opens.memory_last (other is);
@@ -105,7 +113,7 @@ module _ {T U : Type 0} {a b : View} where
     steps = steps_meant opens.steps;
     late = tt;
     early = tt;
-    even = tt;
+    bare = tt;
     refused_settled = tt;
     memory = λ is. absurd (true≢false (ap is_ok is));
     memory_last = λ is. absurd (true≢false (ap is_ok is));
@@ -153,7 +161,7 @@ reread_counted (NotStore reason) is = tt
 -- An opening with items.
 
 module _ {X : Type 0} {a b c : View} (x : X) (items : List Update) (s t : StoreView) (r : Result ℕ StoreFault) (law_a : Lawful a) (law_b : Lawful b)
-    (opens : OpensFile Opens IsAtRest opening_reads (Ok x) a b) (settled : NothingPending b) (layout_is : Told b → layout_in b.held ≡ s.place.layout)
+    (opens : OpensFile Opens IsAtRest opening_reads (Ok x) a b) (on_b : StandsOn s b) (layout_is : Told b → layout_in b.held ≡ s.place.layout)
     (waits : Told a → (has_pending a.held ≡ true) × (pending a.held ≡ items)) (made : MakesItems items r s t b c) where
   on : Told a → Told b
   on told = told_on opens.steps.frame told
@@ -184,7 +192,7 @@ module _ {X : Type 0} {a b c : View} (x : X) (items : List Update) (s t : StoreV
     behind_items = items_are b.held (meant_map a.held) (height_of a.held) behind ∙ own_items
 
     batch : EachHeld (InBatch s.place.layout behind.base items 0) b
-    batch = each_held b (InBatch s.place.layout behind.base items 0) law_b settled (λ told_b.
+    batch = batch_held s s.place.layout behind.base items 0 law_b on_b (λ told_b.
         let begun = batch_begun b.held (meant_map a.held) (height_of a.held) behind (pending_kept a.held b.held keeps ∙ (waits told).0) in
         subst (λ (l : Layout). InBatch l behind.base items 0 b.held) (layout_is told_b) (subst (λ (us : List Update). InBatch (layout_in b.held) behind.base us 0 b.held) own_items begun))
 
@@ -196,12 +204,12 @@ module _ {X : Type 0} {a b c : View} (x : X) (items : List Update) (s t : StoreV
     after : map_after_all s.place.layout behind.base items ≡ meant_map a.held
     after = (λ τ. map_after_items (height_limit (sym (layout_is (on told)) τ)) behind.base (sym behind_items τ)) ∙ map_made b.held (meant_map a.held) (height_of a.held) behind
 
-    now : Steps (MeansNow (meant_map a.held)) b c
-    now = subst (λ (m : Map). Steps (MeansNow m) b c) after (made.steps behind.base admitted batch)
+    now : Steps (MeansNow s.place.layout (meant_map a.held)) b c
+    now = subst (λ (m : Map). Steps (MeansNow s.place.layout m) b c) after (made.steps behind.base admitted batch)
 
-    meant_at : (image : List ℕ) → Touched (IsItemPlace s.place.layout) b.held image → MeansMap image (meant_map a.held) → OpensMeant a.held image
+    meant_at : (image : List ℕ) → Touched (IsItemPlace s.place.layout) b.held image → MeansMap s.place.layout image (meant_map a.held) → OpensMeant a.held image
     meant_at image touched is = record {
-      means = λ m height own. subst (MeansMap image) (sym (meant_one a.held m height own).0) is;
+      means = λ m height own. subst (MeansMap (layout_in a.held) image) (sym (meant_one a.held m height own).0) (is.0 ∙ own_layout, is.1);
       recovers = λ reason wrong. let both : None ≡ Some reason = sym (opens.sound told) ∙ wrong in absurd cc;
       touched = record {
         size = touched.size ∙ opened.touched.size;
@@ -210,13 +218,19 @@ module _ {X : Type 0} {a b c : View} (x : X) (items : List Update) (s t : StoreV
       idle = λ none. absurd (true≢false (sym (waits told).0 ∙ none));
     }
 
+    -- what the station may hold before the items differs in places of an update alone
+    item_held : (start : List ℕ) → MayHold b start → Touched (IsItemPlace s.place.layout) b.held start
+    item_held start left =
+        let touched = subst (λ (l : Layout). Touched (IsUpdatePlace l) b.held start) (layout_is (on told)) (moves_touch s b.held start (stands_there s on_b (on told)) (covered_held s law_b on_b start left)) in
+        record { size = touched.size; rest = λ k out. touched.rest k (λ there. out (inl there)) }
+
     module _ (honest : Honest a) (image said : List ℕ) where
-      at_start : (start : List ℕ) → b.may_leave start → Touched (IsItemPlace s.place.layout) start image → MeansMap image (meant_map a.held) → OpensMeant a.held image
-      at_start start left touched is = meant_at image (subst (λ (d : List ℕ). Touched (IsItemPlace s.place.layout) d image) (settled (honest_on opens.steps.frame honest) start left) touched) is
+      at_start : (start : List ℕ) → b.may_leave start → Touched (IsItemPlace s.place.layout) start image → MeansMap s.place.layout image (meant_map a.held) → OpensMeant a.held image
+      at_start start left touched is = meant_at image (touched_on_top b.held start image (item_held start (inr (honest_on opens.steps.frame honest, left))) touched) is
 
       left_then : (n : ℕ) → n ≤ a.calls
           → b.may_have_left n image said ⊎ ((said ≡ b.said) × ((start : List ℕ) × b.may_leave start × Touched (IsItemPlace s.place.layout) start image))
-          → b.may_have_left n image said ⊎ ((said ≡ b.said) × ((start : List ℕ) × b.may_leave start × MeansNow (meant_map a.held) start image))
+          → b.may_have_left n image said ⊎ ((said ≡ b.said) × ((start : List ℕ) × b.may_leave start × MeansNow s.place.layout (meant_map a.held) start image))
           → a.may_have_left n image said ⊎ ((said ≡ a.said) × ((start : List ℕ) × a.may_leave start × OpensMeant start image))
       left_then n le (inl early) other = (steps_meant opens.steps).moments.each honest n image said le early
       left_then n le (inr one) (inl early) = (steps_meant opens.steps).moments.each honest n image said le early
@@ -277,7 +291,7 @@ module _ {X : Type 0} {a b c : View} (x : X) (items : List Update) (s t : StoreV
       steps = steps;
       late = tt;
       early = tt;
-      even = tt;
+      bare = tt;
       refused_settled = tt;
       memory = λ is. absurd (true≢false (ap is_ok is));
       memory_last = λ is. absurd (true≢false (ap is_ok is));
@@ -296,7 +310,7 @@ module _ {X : Type 0} {a b c : View} (x : X) (items : List Update) (s t : StoreV
       steps = steps;
       late = λ reason is. no_store fault reason is;
       early = λ reason is. no_store fault reason is;
-      even = λ reason is. no_store fault reason is;
+      bare = λ reason is. no_store fault reason is;
       refused_settled = λ reason is. no_store fault reason is;
       memory = λ is. no_memory {U = U} fault is;
       memory_last = λ is. no_memory {U = U} fault is;

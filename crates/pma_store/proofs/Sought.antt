@@ -1,10 +1,11 @@
 -- A store in which the next record behind a key is looked for.
 use Rattle.std.proofs.Common.{◌≡◌, ◌+◌, ◌≤◌, Bool, false, sym, ap, subst}
-use Rattle.station.specs.View.{View, Fixed, EachHeld, NothingPending}
+use Rattle.station.specs.View.{View, Fixed, EachHeld}
 use Rattle.station.specs.Steps.{Frame}
 use Rattle.cost_ledger.specs.Ledger.{IsLedger, ledger_bound}
 use Rattle.cost_ledger.specs.Potential.{potential_of}
 use Rattle.header_gate.specs.Places.{file_length}
+use Rattle.redo_journal.specs.Rest.{RestsAt}
 use Rattle.pma_store.specs.Metered.{MeteredView, IsMetered}
 use Rattle.pma_store.specs.Seeking.{StandsIdle, unclosed}
 use Rattle.pma_store.specs.Store.{StoreView, IsOpenOn}
@@ -14,9 +15,9 @@ pub stands_idle : {a : View} (s : StoreView) → IsOpenOn s a → EachHeld (Stan
 stands_idle s is image held = record { stands = is.on.stands image held; no_intent = is.no_intent image held }
 
 -- by which it is open
-pub opens_by : {a : View} (s : StoreView) → s.closed ≡ false → EachHeld (StandsIdle s) a → NothingPending a → file_length s.place.layout ≤ a.fixed.reach → IsOpenOn s a
-opens_by s opened stands settled reach = record {
-  on = record { stands = λ image held. (stands image held).stands; settled = settled; reach = reach };
+pub opens_by : {a : View} (s : StoreView) → s.closed ≡ false → EachHeld (StandsIdle s) a → RestsAt s.place.layout s.turn a → file_length s.place.layout ≤ a.fixed.reach → IsOpenOn s a
+opens_by s opened stands rests reach = record {
+  on = record { stands = λ image held. (stands image held).stands; rests = rests; reach = reach };
   opened = opened;
   no_intent = λ image held. (stands image held).no_intent;
 }
@@ -34,7 +35,7 @@ module _ (m n : MeteredView) (state : unclosed n ≡ unclosed m) where
   }
 
   -- and behind an answer it is open on its station
-  pub opens_again : {a b : View} → IsOpenOn m.store a → Frame a b → n.store.closed ≡ false → EachHeld (StandsIdle n.store) b → NothingPending b → IsOpenOn n.store b
-  opens_again {a} {b} is frame opened stands settled =
+  pub opens_again : {a b : View} → IsOpenOn m.store a → Frame a b → n.store.closed ≡ false → EachHeld (StandsIdle n.store) b → RestsAt n.store.place.layout n.store.turn b → IsOpenOn n.store b
+  opens_again {a} {b} is frame opened stands rests =
       let reach = subst (λ (v : MeteredView). file_length v.store.place.layout ≤ a.fixed.reach) (sym state) is.on.reach in
-      opens_by n.store opened stands settled (subst (λ (f : Fixed). file_length n.store.place.layout ≤ f.reach) (sym frame.fixed) reach)
+      opens_by n.store opened stands rests (subst (λ (f : Fixed). file_length n.store.place.layout ≤ f.reach) (sym frame.fixed) reach)

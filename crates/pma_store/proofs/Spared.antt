@@ -1,12 +1,10 @@
 -- A store stands for each file that differs in the intent and its gate alone.
-use Rattle.std.proofs.Common.{◌≡◌, ℕ, ◌+◌, ◌^◌, ◌<◌, List, [], refl, sym, ap, subst, ◌∙◌, arith}
-use Rattle.std.specs.Prelude.{map}
-use Rattle.std.specs.List.{range_with_len}
+use Rattle.std.proofs.Common.{◌≡◌, ℕ, ◌^◌, ◌<◌, List, [], refl, sym, ap, subst, ◌∙◌, arith}
+use Rattle.std.proofs.Math.Pow.{pow_mono}
 use Rattle.std.proofs.lemmas.List.{ext_get_or}
-use Rattle.station.specs.Bytes.{byte, Touched}
-use Rattle.header_gate.specs.declared.layout.Layout.{Layout}
-use Rattle.header_gate.specs.Places.{IsSlotFormat, segment_place, segment_size}
-use Rattle.header_gate.proofs.RecoveredPages.{page_before}
+use Rattle.station.specs.Bytes.{Touched}
+use Rattle.header_gate.specs.Header.{layout_in}
+use Rattle.header_gate.specs.Places.{IsSlotFormat, height_limit}
 use Rattle.key_slot.specs.Segment.{segment_of}
 use Rattle.batch_intent.specs.Gate.{IsIntentPlace}
 use Rattle.batch_intent.proofs.Meanings.{unnamed_touched}
@@ -16,17 +14,11 @@ use Rattle.map_model.specs.Image.{Represents, array_in, array_of, height_of, liv
 use Rattle.map_model.specs.Store.{Map}
 use Rattle.map_model.specs.Standing.{IsSettled, StandsWith}
 use Rattle.map_model.proofs.Recovering.{determined}
-use Rattle.map_model.proofs.Unnamed.{unnamed_represents, behind, layout_same, live_same, gate_same, format_same}
-use Rattle.range_scan.specs.Reading.{page_in}
-use Rattle.range_scan.proofs.Standing.{page_is, array_size, array_at}
+use Rattle.map_model.proofs.Unnamed.{unnamed_represents, layout_same, live_same, gate_same, format_same, segment_same}
+use Rattle.range_scan.proofs.Standing.{array_size, array_at}
 use Rattle.veb_index.specs.Arrays.{IsIndexOf}
 use Rattle.pma_store.specs.Answers.{state_in}
 use Rattle.pma_store.specs.Store.{StoreView, IsStore, Stands}
-
--- what is read of a segment goes by its bytes
-page_by : (l : Layout) (region i : ℕ) (old new : List ℕ) → ((o : ℕ) → byte new (segment_place l region i + o) ≡ byte old (segment_place l region i + o)) → page_in l region new i ≡ page_in l region old i
-unfolding page_in
-page_by l region i old new same = λ t. map (λ o. same o t) (range_with_len 0 (segment_size l))
 
 module _ (s : StoreView) (old new : List ℕ) (is : Stands s old) (touched : Touched IsIntentPlace old new) where
   was : Represents old (map_of old) (height_of old)
@@ -41,7 +33,7 @@ module _ (s : StoreView) (old new : List ℕ) (is : Stands s old) (touched : Tou
   settled : IsSettled s.place.layout s.place.region new
   settled = record {
     represents = subst (λ (h : ℕ). Represents new (map_of new) h) own.1 (subst (λ (m : Map). Represents new m (height_of old)) own.0 (unnamed_represents old new (map_of old) (height_of old) was spares));
-    gate_even = gate_same old new was.header spares ∙ is.balanced.stands.settled.gate_even;
+    gate_even = λ single. gate_same old new was.header spares ∙ is.balanced.stands.settled.gate_even single;
     layout_is = layout_same old new was.header spares ∙ is.balanced.stands.settled.layout_is;
     region_is = live_same old new was.header spares ∙ is.balanced.stands.settled.region_is;
   }
@@ -52,14 +44,8 @@ module _ (s : StoreView) (old new : List ℕ) (is : Stands s old) (touched : Tou
   by_counts : StandsWith s.place.layout s.place.region s.tally.height (counts_of (array_in new s.tally.height)) new
   by_counts = record { settled = settled; height_is = tall; counts_are = refl }
 
-  read_same : (i : ℕ) → page_in s.place.layout s.place.region new i ≡ page_in s.place.layout s.place.region old i
-  read_same i = page_by s.place.layout s.place.region i old new (λ o. behind old new was.header spares (segment_place s.place.layout s.place.region i + o) (omega (arith, page_before s.place.layout s.place.region)))
-
   kept_segment : (i : ℕ) → i < 2 ^ s.tally.height → live_segment new i ≡ live_segment old i
-  kept_segment i lt =
-      sym (page_is s.place.layout s.place.region s.tally.height (counts_of (array_in new s.tally.height)) new by_counts i lt)
-      ∙ read_same i
-      ∙ page_is s.place.layout s.place.region s.tally.height s.tally.counts old is.balanced.stands i lt
+  kept_segment i lt = segment_same old new was.header spares i (omega (arith, lt, pow_mono {i = s.tally.height} {j = height_limit (layout_in old)} (omega (arith, was.header.height, is.balanced.stands.height_is))))
 
   array_kept : array_in new s.tally.height ≡ array_in old s.tally.height
   array_kept =

@@ -6,7 +6,7 @@ use Rattle.station.specs.Steps.{Steps}
 use Rattle.station.proofs.Composition.{weaken, touched_on, on_same, same_on}
 use Rattle.header_gate.specs.declared.layout.Layout.{Layout}
 use Rattle.header_gate.specs.Header.{number, format_in, layout_in, live_copy}
-use Rattle.header_gate.specs.Places.{page_size, copy_place, region_place}
+use Rattle.header_gate.specs.Places.{area_place, copy_place, image_place, journal_end, journal_shift, page_size, region_place}
 use Rattle.header_gate.proofs.NumberLaws.{number_same}
 use Rattle.key_slot.specs.Record.{Record}
 use Rattle.map_model.specs.Regions.{IsSparePlace}
@@ -49,6 +49,11 @@ spare_places l spare k small (inr (inr range)) = inr (inr (inr (inr (inr (in_reg
 
 -- The sizes of the parts stand where no update touches a byte, so the parts end where they did.
 
+-- the second journal's place goes by the journal's size and the version
+reshift : (l m : Layout) → l.journal ≡ m.journal → l.version ≡ m.version → journal_shift l 1 ≡ journal_shift m 1
+unfolding journal_shift
+reshift l m journal version = λ t. journal_shift (record { hmax = 0; journal = journal t; version = version t; format = 0 }) 1
+
 module _ (l : Layout) (old new : List ℕ) (touched : Touched (IsUpdatePlace l) old new) where
   outside : (k : ℕ) → 3072 ≤ k → k < 4096 → IsUpdatePlace l k → ⊥
   outside k from low (inl is) = omega (arith, is, from)
@@ -61,10 +66,28 @@ module _ (l : Layout) (old new : List ℕ) (touched : Touched (IsUpdatePlace l) 
   at : (k : ℕ) → 3072 ≤ k → k + 4 ≤ 4096 → number new k ≡ number old k
   at k from high = number_same new old k k (λ n x y lt ex ey. let e : x ≡ y = omega arith in touched.rest x (outside x (omega arith) (omega arith)) ∙ ap (byte old) e)
 
+  hmax_stays : (layout_in new).hmax ≡ (layout_in old).hmax
+  hmax_stays = at 3084 (omega arith) (omega arith)
+
+  size_stays : (layout_in new).journal ≡ (layout_in old).journal
+  size_stays = at 3088 (omega arith) (omega arith)
+
+  shift_stays : journal_shift (layout_in new) 1 ≡ journal_shift (layout_in old) 1
+  shift_stays = reshift (layout_in new) (layout_in old) size_stays (at 3080 (omega arith) (omega arith))
+
+  journals_end : journal_end (layout_in new) ≡ journal_end (layout_in old)
+  journals_end = λ t. image_place (record { hmax = 0; journal = size_stays t; version = 0; format = 0 }) (size_stays t) + shift_stays t
+
+  regions_end : area_place (layout_in new) ≡ area_place (layout_in old)
+  regions_end = λ t. journals_end t + page_size * 2 ^ hmax_stays t * 2
+
   same_places : (k : ℕ) → IsUpdatePlace (layout_in new) k → IsUpdatePlace (layout_in old) k
-  same_places k is =
-      let by_hmax = subst (λ (h : ℕ). IsUpdatePlace (record (layout_in new) { hmax = h }) k) (at 3084 (omega arith) (omega arith)) is in
-      subst (λ (j : ℕ). IsUpdatePlace (record (layout_in old) { journal = j }) k) (at 3088 (omega arith) (omega arith)) by_hmax
+  same_places k (inl selector) = inl selector
+  same_places k (inr (inl copy)) = inr (inl copy)
+  same_places k (inr (inr (inl copy))) = inr (inr (inl copy))
+  same_places k (inr (inr (inr (inl gate)))) = inr (inr (inr (inl gate)))
+  same_places k (inr (inr (inr (inr (inl journal))))) = inr (inr (inr (inr (inl (journal.0, subst (λ (n : ℕ). k < n) journals_end journal.1)))))
+  same_places k (inr (inr (inr (inr (inr region))))) = inr (inr (inr (inr (inr (subst (λ (n : ℕ). n ≤ k) journals_end region.0, subst (λ (n : ℕ). k < n) regions_end region.1)))))
 
 pub touched_then : (old mid new : List ℕ) → Touched (IsUpdatePlace (layout_in old)) old mid → Touched (IsUpdatePlace (layout_in mid)) mid new → Touched (IsUpdatePlace (layout_in old)) old new
 touched_then old mid new one two = record {

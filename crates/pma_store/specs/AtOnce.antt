@@ -1,10 +1,9 @@
 -- A batch as one commit: what it writes, and what it leaves in memory.
 use Rattle.std.specs.Prelude.{◌≡◌, ℕ, ◌+◌, ◌*◌, ◌<◌, ◌≤◌, ◌^◌, true, All, List, length, get_or, Some, None, Result, Ok, Err, OnOk, OnErr}
-use Rattle.station.specs.View.{View, Told, NothingPending, Rose}
+use Rattle.station.specs.View.{View, Told, Rose}
 use Rattle.station.specs.Steps.{Steps}
 use Rattle.cost_ledger.specs.Potential.{potential_of}
 use Rattle.density_rule.specs.Windows.{IsBalanced}
-use Rattle.header_gate.specs.Header.{gate}
 use Rattle.header_gate.specs.Recovered.{recovered, laid_over}
 use Rattle.key_slot.specs.Record.{IsAscending}
 use Rattle.map_model.specs.Array.{Array, rows, segment_at}
@@ -16,6 +15,7 @@ use Rattle.redo_journal.specs.Commit.{Commits, frame_byte}
 use Rattle.redo_journal.specs.Frames.{Batch}
 use Rattle.redo_journal.specs.Neighbours.{run_count}
 use Rattle.redo_journal.specs.declared.place.Place.{Place}
+use Rattle.redo_journal.specs.Rest.{RestsAt}
 use Rattle.segment.specs.Rows.{key_at}
 use Rattle.segment.specs.declared.fault.StoreFault.{StoreFault}
 use Rattle.segment_frames.specs.Lists.{held_lists, segments_in}
@@ -52,17 +52,16 @@ pub record FitsCommit (numbers : List ℕ) (items : List Update) (look : Look) (
   pub changes_are : (array : Array) → 0 < length array → IsAscending (rows array) → BelongThere array numbers items → HasFound array numbers items look.found (2 ^ tally.height) → changes ≡ changes_in array items
   pub fit : fit_one_commit tally.height tally.counts changes ≡ true
 
--- A commit of the pages of so many segments. Where the gate is odd, there is one.
+-- A commit of the pages of so many segments. Where there are none, nothing changes.
 pub record CommitsPages (place : Place) (count : ℕ) (b : Batch) (old new : List ℕ) : Type 0 where
   pub commits : Commits place.layout place.region b.numbers (frame_byte b.slots) old new
-  pub some : gate new ≡ 1 → 0 < count
+  pub none : count ≡ 0 → new ≡ old
 
--- The pages in frames were committed, or nothing was done where there are none.
-pub record CommitsFrames (place : Place) (count : ℕ) (result : Result (Unit {0}) Failed) (b : Batch) (a c : View) : Type 0 where
+-- The pages in frames were committed, or nothing was done where there are none. The frames note then what the gate says.
+pub record CommitsFrames (place : Place) (count : ℕ) (result : Result (Unit {0}) Failed) (b : Batch) (turn : ℕ) (a c : View) : Type 0 where
   pub steps : Steps (CommitsPages place count b) a c
   pub laid : OnOk result (Told a → recovered place.layout c.held ≡ laid_over place.layout place.region b.numbers (frame_byte b.slots) (recovered place.layout a.held))
-  pub closed : OnOk result (Told a → gate c.held ≡ 0)
-  pub settled : OnOk result (NothingPending c)
+  pub rests : OnOk result (RestsAt place.layout turn c)
   pub none : count ≡ 0 → c.travel.written ≡ a.travel.written
   pub cost : c.travel.written ≤ a.travel.written + (8196 * place.layout.format * count + 6)
   pub unread : c.travel.read ≡ a.travel.read
@@ -71,8 +70,8 @@ pub record CommitsFrames (place : Place) (count : ℕ) (result : Result (Unit {0
   pub cause : OnErr result (Rose a.disk_faults c.disk_faults)
 
 -- Besides, the fences of the edited segments were set, and the changes counted, but not where it failed.
-pub record CommitsEdits (place : Place) (look : Look) (changes : List ItemChange) (result : Result (Unit {0}) Failed) (b : Batch) (index next_index : IndexView) (tally next_tally : TallyView) (a c : View) : Type 0 where
-  pub frames : CommitsFrames place look.count result b a c
+pub record CommitsEdits (place : Place) (look : Look) (changes : List ItemChange) (result : Result (Unit {0}) Failed) (b : Batch) (turn : ℕ) (index next_index : IndexView) (tally next_tally : TallyView) (a c : View) : Type 0 where
+  pub frames : CommitsFrames place look.count result b turn a c
   pub fences : OnOk result (RenewsFences place.layout.format b look.count index next_index)
   pub counted : OnOk result (next_tally ≡ record tally { counts = counts_by changes tally.counts; marks = marks_by_changes tally.height changes tally.marks })
   pub is_tally : IsTally next_tally

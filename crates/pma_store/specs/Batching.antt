@@ -83,7 +83,7 @@ pub record Batches (items : List Update) (result : Result Batch StoreFault) (s t
   pub refused : IfOk result (λ done. IsRefusal done → LeavesAll s t a b)
   pub unread : IfOk result (λ done. done ≡ NoBatch → (b.travel ≡ a.travel) × (b.calls ≡ a.calls))
   -- at every moment none of the items or all of them, and no byte touched but an update's, the intent's and its gate's
-  pub meant : Steps (BecomesMeant (map_of a.held) (map_after_batch (version_of s) (limit_of s) (map_of a.held) items)) a b
+  pub meant : Steps (BecomesMeant s.place.layout (map_of a.held) (map_after_batch (version_of s) (limit_of s) (map_of a.held) items)) a b
   pub touched : Steps (Touched (IsBatchPlace s.place.layout)) a b
   pub layout : t.place.layout ≡ s.place.layout
   -- what it writes by its answer, by the state, and at most whatever is answered

@@ -1,7 +1,8 @@
 -- How many calls of the device an update makes at most.
-use Rattle.std.specs.Prelude.{ℕ, ◌+◌, ◌-◌, ◌^◌, if◌then◌else◌, Option, Some, None}
+use Rattle.std.specs.Prelude.{ℕ, ◌+◌, ◌-◌, ◌^◌, ◌==◌, if◌then◌else◌, Option, Some, None}
 use Rattle.density_rule.specs.declared.Window.{Window}
 use Rattle.header_gate.specs.declared.layout.Layout.{Layout}
+use Rattle.header_gate.specs.declared.layout.TheConstants.{PAIRED}
 use Rattle.recovery.specs.Costs.{repair_calls}
 use Rattle.resize_region.specs.Source.{copy_calls}
 use Rattle.segment_frames.specs.Lists.{most_segments}
@@ -13,9 +14,17 @@ use Rattle.pma_store.specs.declared.answers.Report.{Report}
 abbrev pub spread_calls : Layout → ℕ → ℕ
 spread_calls l j = repair_calls (most_segments l) j
 
+-- what clears the live one of two journals before a resize: its count and the gate, each with a sync
+unfoldable pub clear_calls : Layout → ℕ
+clear_calls l = if l.version == PAIRED then 4 else 0
+
 -- a resize from one height to another: a copying and a flip
+abbrev pub copying_calls : Layout → ℕ → ℕ → ℕ
+copying_calls l from to = copy_calls (most_segments l) (2 ^ from) (2 ^ to) + 4
+
+-- with what clears a journal before it
 abbrev pub resize_calls : Layout → ℕ → ℕ → ℕ
-resize_calls l from to = copy_calls (most_segments l) (2 ^ from) (2 ^ to) + 4
+resize_calls l from to = clear_calls l + copying_calls l from to
 
 -- what is asked for first, in a store of this height
 abbrev pub ready_calls : Layout → ℕ → Pick → ℕ

@@ -1,5 +1,5 @@
 -- What the items of a batch would do, by whether their keys are there and by how many records there are.
-use Rattle.std.specs.Prelude.{◌≡◌, ◌^◌, ℕ, ◌+◌, ◌-◌, ◌<◌, if◌then◌else◌, Bool, false, List, length, slice_index_or, Option, Some, None, is_some, Result, IfOk, IfErr, IsErrOf, is_ok, Err}
+use Rattle.std.specs.Prelude.{◌≡◌, ◌^◌, ℕ, ◌+◌, ◌<◌, if◌then◌else◌, Bool, false, List, length, slice_index_or, Option, Some, None, is_some, Result, IfOk, IfErr, IsErrOf, is_ok, Err}
 use Rattle.std.specs.FinMap.{contains_key}
 use Rattle.station.specs.Bytes.{Same}
 use Rattle.station.specs.View.{View, Told, Rose}

@@ -22,10 +22,11 @@ use Rattle.pma_store.specs.Costing.{WritesSome, most_of}
 use Rattle.pma_store.specs.Items.{IsItemPlace}
 use Rattle.pma_store.specs.Looking.{TellsOther}
 
--- The image means what it meant, and recovers to what it recovered to if something is wrong with it or its intent; only the
--- places of updates and the intent's gate may change, and where no items are to be applied, what brings the file back.
+-- The image has the layout that it had, means what it meant, and recovers to what it recovered to if something is wrong with it or
+-- its intent; only the places of updates and the intent's gate may change, and where no items are to be applied, what brings the
+-- file back.
 pub record OpensMeant (old new : List ℕ) : Type 0 where
-  pub means : (m : Map) (height : ℕ) → Means old m height → MeansMap new m
+  pub means : (m : Map) (height : ℕ) → Means old m height → MeansMap (layout_in old) new m
   pub recovers : (r : Reason) → opening_reason old ≡ Some r → recovered (layout_in old) new ≡ recovered (layout_in old) old
   pub touched : Touched (IsItemPlace (layout_in old)) old new
   pub idle : has_pending old ≡ false → Opens old new

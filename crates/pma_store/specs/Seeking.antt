@@ -1,4 +1,4 @@
--- What a look for the next record behind a key sees of a store.
+-- What a look for a record next to a key sees of a store.
 use Rattle.std.specs.Prelude.{◌≡◌, ℕ, false, List, Option, Result, IfOk, is_err}
 use Rattle.std.specs.Option.{option_map}
 use Rattle.std.specs.FinMap.{entries}
@@ -9,9 +9,9 @@ use Rattle.batch_intent.specs.Means.{has_pending}
 use Rattle.key_slot.specs.Record.{Bytes}
 use Rattle.key_slot.specs.Row.{record_of}
 use Rattle.key_slot.specs.declared.row.Row.{Row}
-use Rattle.map_model.specs.Cursors.{first_ahead}
+use Rattle.map_model.specs.Cursors.{first_ahead, last_behind}
 use Rattle.map_model.specs.Image.{map_of}
-use Rattle.range_scan.specs.Seeking.{KeptRegion, ReadsNear, later}
+use Rattle.range_scan.specs.Seeking.{KeptRegion, ReadsNear, ReadsBehind, earlier, later}
 use Rattle.segment.specs.declared.fault.StoreFault.{StoreFault}
 use Rattle.pma_store.specs.Metered.{MeteredView}
 use Rattle.pma_store.specs.Store.{StoreView, Stands}
@@ -36,3 +36,11 @@ pub record Seeks (low past high : Option Bytes) (result : Result (Option Row) St
   pub kept : t ≡ record s { closed = is_err result }
   -- one segment or two were read, and damage is that of the one that was read last
   pub read : ReadsNear (later low past) (kept_region s) result a b
+
+-- And the last record before one.
+pub record SeeksBack (low past high : Option Bytes) (result : Result (Option Row) StoreFault) (s t : StoreView) (a b : View) : Type 0 where
+  pub answer : IfOk result (λ row. Told a → option_map record_of row ≡ last_behind low past high (entries (map_of a.held)))
+  pub steps : Steps Same a b
+  pub kept : t ≡ record s { closed = is_err result }
+  -- one segment or two were read, the later first, and damage is that of the one that was read last
+  pub read : ReadsBehind (earlier past high) (kept_region s) result a b

@@ -25,6 +25,10 @@ pub record Updates (hmax : ℕ) (u : Update) (start image : List ℕ) : Type 0 w
   pub layout_is : layout_in image ≡ layout_in start
   pub touched : Touched (IsUpdatePlace (layout_in start)) start image
 
+-- a place of the gate or of the journals, which a clearing touches
+abbrev pub IsClearPlace : Layout → ℕ → Type 0
+IsClearPlace l p = IsGatePlace p ⊎ IsJournalPlace l p
+
 -- where the file has its parts after an update, by whether the height changed: a resize makes the other region the live one
 abbrev pub place_after : Bool → Place → Place
 place_after false place = place

@@ -2,12 +2,13 @@
 
 ghost use Rattle.std.specs.Prelude.{◌≡◌, ◌^◌, ◌<◌, ◌≤◌, ◌*◌, ℕ, T, All, length, slice_index_or, take, true, OnOk, IfSome};
 ghost use Rattle.std.specs.List.{list_all};
-ghost use Rattle.station.specs.View.{Told, EachHeld, NothingPending};
+ghost use Rattle.station.specs.View.{Told, EachHeld};
 ghost use Rattle.batch_intent.specs.Spelling.{IsIntent, fits_item};
 ghost use Rattle.density_rule.specs.Bounds.{upper_of};
 ghost use Rattle.density_rule.specs.Windows.{IsBalanced};
 ghost use Rattle.header_gate.specs.Places.{IsLayout, file_length, height_limit};
 ghost use Rattle.one_commit.specs.Fitting.{stay_within};
+ghost use Rattle.redo_journal.specs.Rest.{RestsAt};
 ghost use Rattle.segment_frames.specs.Standing.{IsSettledAt};
 ghost use Rattle.window_tally.specs.View.{IsTally};
 ghost use Rattle.header_gate.specs.declared.layout.TheConstants.{INTENT_VERSION};
@@ -149,12 +150,12 @@ fn commit_edits<S: Station>(
     requires loaded { AreLoaded place.now.layout.format frames.old look.now (2 ^ index.old.height) }
     requires tall { index.old.height ≤ height_limit place.now.layout }
     requires settled { EachHeld (IsSettledAt place.now) (S.view station.old) }
-    requires nothing { NothingPending (S.view station.old) }
+    requires rests { RestsAt place.now.layout frames.old.turn (S.view station.old) }
     requires tally { IsTally tally.old }
     requires balanced { IsBalanced tally.old.height tally.old.counts }
     requires in_store { All (λ c. c.segment < 2 ^ tally.old.height) changes.now }
     requires within { stay_within tally.old.height tally.old.counts changes.now ≡ true }
-    ensures committed { CommitsEdits place.now look.now changes.now result frames.old index.old index.new tally.old tally.new (S.view station.old) (S.view station.new) }
+    ensures committed { CommitsEdits place.now look.now changes.now result frames.old frames.new.turn index.old index.new tally.old tally.new (S.view station.old) (S.view station.new) }
     ensures journal { frames.new.journal ≡ frames.old.journal }
 {
     match commit_frames(station, place, frames, look.count) {
@@ -181,9 +182,10 @@ fn commit_frames<S: Station>(
     requires pages { length frames.old.numbers ≡ place.now.layout.format * count }
     requires below { All (λ n. n < 2 ^ place.now.layout.hmax) frames.old.numbers }
     requires settled { EachHeld (IsSettledAt place.now) (S.view station.old) }
-    requires nothing { NothingPending (S.view station.old) }
-    ensures committed { CommitsFrames place.now count result frames.old (S.view station.old) (S.view station.new) }
-    ensures frames { frames.new ≡ frames.old }
+    requires rests { RestsAt place.now.layout frames.old.turn (S.view station.old) }
+    ensures committed { CommitsFrames place.now count result frames.old frames.new.turn (S.view station.old) (S.view station.new) }
+    ensures frames { frames.new ≡ record frames.old { turn = frames.new.turn } }
+    ensures turn { OnOk result (frames.old.turn < 2 → frames.new.turn < 2) }
 {
     if count == 0 {
         return Ok(());

@@ -24,6 +24,7 @@ pub(crate) fn load_segment(frames: &mut Frames, format: u32, f: u32, segment: u3
     ensures numbers { segments_in format frames.new.numbers ≡ segments_in format frames.old.numbers ++ segment ∷ [] }
     ensures lists { held_lists format frames.new ≡ held_lists format frames.old ++ rows.now ∷ [] }
     ensures journal { frames.new.journal ≡ frames.old.journal }
+    ensures turn { frames.new.turn ≡ frames.old.turn }
     ensures fitted { FitsSegment format rows.now }
 {
     push_pages(frames, format, segment);

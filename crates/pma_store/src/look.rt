@@ -7,6 +7,7 @@ ghost use Rattle.station.specs.Bytes.{Same};
 ghost use Rattle.station.specs.View.{Told, Rose, after_read};
 ghost use Rattle.station.specs.Steps.{Steps};
 ghost use Rattle.batch_intent.specs.Spelling.{IsIntent, fits_item};
+ghost use Rattle.header_gate.specs.InPlace.{IsRecovered};
 ghost use Rattle.header_gate.specs.Places.{IsLayout, file_length, height_limit, segment_place, segment_size};
 ghost use Rattle.key_slot.specs.Record.{IsAscending, is_record};
 ghost use Rattle.map_model.specs.Array.{Array, segment_at, rows as rows_of};
@@ -79,13 +80,15 @@ pub(crate) fn look_over<S: Station>(
     requires journal { frames.old.journal ≡ place.now.layout.journal }
     requires tall { tally.now.height ≤ height_limit place.now.layout }
     requires stands { Told (S.view station.old) → StandsWith place.now.layout place.now.region tally.now.height tally.now.counts (S.view station.old).held }
+    requires readable { Told (S.view station.old) → IsRecovered place.now.layout (S.view station.old).held }
     requires intent { IsIntent intent.now }
     requires items { T (list_all (fits_item place.now.layout.format) intent.now) }
     requires segments { length segments.now ≡ length intent.now }
     requires within { (k : ℕ) → k < length segments.now → slice_index_or segments.now k 0 < 2 ^ tally.now.height }
     requires belong { Told (S.view station.old) → BelongThere (array_of (S.view station.old).held) segments.now intent.now }
     requires fresh { look.old.count ≡ 0 }
-    ensures { LooksOver place.now tally.now segments.now intent.now result frames.new look.new (S.view station.old) (S.view station.new) }
+    ensures looks { LooksOver place.now tally.now segments.now intent.now result frames.new look.new (S.view station.old) (S.view station.new) }
+    ensures turn { frames.new.turn ≡ frames.old.turn }
 {
     frames.start();
     let mut from = 0;
@@ -115,6 +118,7 @@ fn read_rows<S: Station>(
     requires segment { segment < 2 ^ tally.now.height }
     requires tall { tally.now.height ≤ height_limit place.now.layout }
     requires stands { Told (S.view station.old) → StandsWith place.now.layout place.now.region tally.now.height tally.now.counts (S.view station.old).held }
+    requires readable { Told (S.view station.old) → IsRecovered place.now.layout (S.view station.old).held }
     ensures rows { OnOk result (Told (S.view station.old) → rows.new ≡ segment_at (array_of (S.view station.old).held) segment) }
     ensures fits { OnOk result (T (list_all (is_record place.now.layout.format) rows.new)) }
     ensures steps { Steps Same (S.view station.old) (S.view station.new) }
@@ -149,6 +153,7 @@ fn take_in(
     ensures count { look.new.count ≤ look.old.count + 1 }
     ensures looked { (array : Array) → 0 < length array → IsAscending (rows_of array) → BelongThere array segments.now intent.now → rows.old ≡ segment_at array segment → HasLooked layout.now.format array segments.now intent.now frames.old look.old segment → HasLooked layout.now.format array segments.now intent.now frames.new look.new (segment + 1) }
     ensures journal { frames.new.journal ≡ frames.old.journal }
+    ensures turn { frames.new.turn ≡ frames.old.turn }
 {
     find_items(rows, intent, segments, segment, &mut look.found);
     if look.whole && has_edit(intent, segments, segment, &look.found) {
@@ -173,6 +178,7 @@ fn load_edits(
     ensures more { result ≡ true → LoadsMore layout.now.format segment (edited_by (own_items segment segments.now intent.now) rows.old) frames.old frames.new }
     ensures kept { result ≡ false → (frames.new ≡ frames.old) × (look.new ≡ look.old) }
     ensures journal { frames.new.journal ≡ frames.old.journal }
+    ensures turn { frames.new.turn ≡ frames.old.turn }
     ensures found { (look.new.found ≡ look.old.found) × (look.new.whole ≡ look.old.whole) }
 {
     let f = look.count;

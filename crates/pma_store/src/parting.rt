@@ -15,7 +15,7 @@ impl Store {
     pub fn from_parts(parts: Parts) -> Store
         requires none { parts.intent ≡ None }
         requires fits { Fits parts.place parts.tally parts.index parts.frames.journal }
-        ensures store { result ≡ record { place = parts.place; tally = parts.tally; index = parts.index; journal = parts.frames.journal; closed = false } }
+        ensures store { result ≡ record { place = parts.place; tally = parts.tally; index = parts.index; journal = parts.frames.journal; turn = parts.frames.turn; closed = false } }
         ensures is_store { IsStore result }
     {
         store_of(parts)
@@ -29,6 +29,7 @@ impl Store {
         ensures tally { result.tally ≡ self.tally }
         ensures index { result.index ≡ self.index }
         ensures journal { result.frames.journal ≡ self.journal }
+        ensures turn { result.frames.turn ≡ self.turn }
         ensures intent { result.intent ≡ None }
         ensures store { IsStore self }
     {
@@ -47,7 +48,7 @@ impl Store {
 /// The store that has these parts, but for the items that are to be applied.
 pub(crate) fn store_of(parts: Parts) -> Store
     requires { Fits parts.place parts.tally parts.index parts.frames.journal }
-    ensures store { result ≡ record { place = parts.place; tally = parts.tally; index = parts.index; journal = parts.frames.journal; closed = false } }
+    ensures store { result ≡ record { place = parts.place; tally = parts.tally; index = parts.index; journal = parts.frames.journal; turn = parts.frames.turn; closed = false } }
     ensures is_store { IsStore result }
 {
     Store {

@@ -1,19 +1,21 @@
--- What a look for the next record behind a key may read, and may find wrong.
+-- What a look for the record next to a key may read, and may find wrong.
 use Rattle.std.specs.Prelude.{◌≡◌, ℕ, ◌+◌, ◌-◌, ◌^◌, ◌<◌, ◌≤◌, Bool, false, List, [], ◌∷◌, T, take, drop, slice_get, Option, Some, None, Result, IfErr, if◌then◌else◌}
 use Rattle.std.specs.Ordering.{is_lt, is_eq}
 use Rattle.header_gate.specs.declared.layout.Layout.{Layout}
 use Rattle.key_slot.specs.Record.{Bytes, Record, key_cmp}
 use Rattle.map_model.specs.Cursors.{is_ahead}
+use Rattle.map_model.specs.Array.{segment_at}
 use Rattle.map_model.specs.Image.{array_of}
 use Rattle.std.specs.FinMap.Entries.{where_key}
-use Rattle.map_model.specs.Scan.{is_below}
+use Rattle.std.specs.List.{last_or}
+use Rattle.map_model.specs.Scan.{is_below, is_from}
 use Rattle.segment.specs.declared.fault.StoreFault.{StoreFault}
 use Rattle.station.specs.View.{View, Told}
-use Rattle.range_scan.specs.Bounds.{are_from, are_before}
+use Rattle.range_scan.specs.Bounds.{are_from, are_before, are_behind}
 use Rattle.range_scan.specs.Faults.{IsDamageAt}
 use Rattle.range_scan.specs.ReaderView.{ReaderView}
-use Rattle.range_scan.specs.Sweeping.{first_for}
-use Rattle.range_scan.specs.Walk.{after_walk}
+use Rattle.range_scan.specs.Sweeping.{first_for, last_for}
+use Rattle.range_scan.specs.Walk.{after_walk, after_walk_back}
 
 -- where a store has its region, and what it keeps of it: the height, and the count of each segment
 pub record KeptRegion : Type 0 where
@@ -27,6 +29,12 @@ abbrev pub later : Option Bytes → Option Bytes → Option Bytes
 later None past = past
 later (Some low) None = Some low
 later (Some low) (Some past) = if is_lt (key_cmp past low) then Some low else Some past
+
+-- the earlier of two bounds, below which a look back ends: a key that is below both is below it
+abbrev pub earlier : Option Bytes → Option Bytes → Option Bytes
+earlier None high = high
+earlier (Some past) None = Some past
+earlier (Some past) (Some high) = if is_lt (key_cmp past high) then Some past else Some high
 
 -- whether a key is this one, where there is one
 abbrev pub is_at : Option Bytes → Bytes → Bool
@@ -55,6 +63,25 @@ pub record ReadsNear {A : Type 0} (start : Option Bytes) (k : KeptRegion) (resul
   -- damage is that of the segment that was read last, by the count that is kept for it
   pub causes : IfErr result (IsDamageAt (to - 1) k.counts)
 
+-- One segment was read, and maybe behind it the one before it, each once, and nothing was written: also where no bytes are told.
+pub record ReadsBehind {A : Type 0} (end : Option Bytes) (k : KeptRegion) (result : Result A StoreFault) (a b : View) : Type 0 where
+  pub last : ℕ
+  pub count : ℕ
+  pub travel : b.travel ≡ after_walk_back k.layout k.region last count a.travel
+  pub some : 0 < count
+  pub two : count ≤ 2
+  -- by one call each
+  pub calls : b.calls ≤ a.calls + count
+  -- they are segments of the store, so that in one of height 0 it is one
+  pub within : last < 2 ^ k.height
+  pub inside : count ≤ last + 1
+  -- the first is that to which the bound belongs
+  pub own : Told a → last ≡ last_for end (array_of a.held)
+  -- the other one is read only where no record of the first is below the bound
+  pub needed : 1 < count → Told a → T (are_behind end (segment_at (array_of a.held) last))
+  -- damage is that of the segment that was read last, by the count that is kept for it
+  pub causes : IfErr result (IsDamageAt (last + 1 - count) k.counts)
+
 -- The first of ascending records that isn't below a bound and has another key than `past` stands at this place: those before
 -- it are below the bound, but for one with that key.
 pub record PlacedPast (start past : Option Bytes) (records : List Record) (place : ℕ) : Type 0 where
@@ -72,7 +99,17 @@ abbrev pub first_below : Option Bytes → List Record → Option Record
 first_below high [] = None
 first_below high (r ∷ rs) = if is_below high r.0 then Some r else None
 
--- A reader amid such a look: it reads in the region from the first segment on, to an end at two segments further at most.
+-- a record, where it isn't below a bound
+abbrev pub if_from : Option Bytes → Option Record → Option Record
+if_from low None = None
+if_from low (Some r) = if is_from low r.0 then Some r else None
+
+-- the last record, where it isn't below a bound
+abbrev pub last_from : Option Bytes → List Record → Option Record
+last_from low records = if_from low (last_or None records)
+
+-- A reader amid a look for the next record: it reads in the region from the first segment on, to an end at two segments further at
+-- most.
 pub record IsNear (layout : Layout) (region height first : ℕ) (r : ReaderView) : Type 0 where
   pub layout_is : r.layout ≡ layout
   pub region_is : r.region ≡ region

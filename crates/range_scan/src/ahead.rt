@@ -6,6 +6,7 @@ ghost use Rattle.std.specs.FinMap.{entries};
 ghost use Rattle.station.specs.Bytes.{Same};
 ghost use Rattle.station.specs.View.{Told, Rose};
 ghost use Rattle.station.specs.Steps.{Steps};
+ghost use Rattle.header_gate.specs.InPlace.{IsRecovered};
 ghost use Rattle.header_gate.specs.Places.{IsLayout, file_length, height_limit};
 ghost use Rattle.key_slot.specs.Row.{record_of};
 ghost use Rattle.key_slot.specs.Record.{Bytes};
@@ -57,6 +58,7 @@ pub fn first_ahead_in<S: Station>(
     requires first { first < 2 ^ tally.now.height }
     requires reach { file_length layout ≤ (S.view station.old).fixed.reach }
     requires stands { Told (S.view station.old) → StandsBalanced layout region tally.now.height tally.now.counts (S.view station.old).held }
+    requires readable { Told (S.view station.old) → IsRecovered layout (S.view station.old).held }
     requires begins { Told (S.view station.old) → first ≡ first_for start.now (array_of (S.view station.old).held) }
     ensures row { IfOk result (λ row. Told (S.view station.old) → (low : Option Bytes) → start.now ≡ later low past.now → option_map record_of row ≡ first_ahead low past.now high.now (entries (map_of (S.view station.old).held))) }
     ensures damaged { IfErr result (λ fault. Told (S.view station.old) → fault ≡ StoreFault.Failed) }

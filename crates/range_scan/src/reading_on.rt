@@ -3,6 +3,7 @@
 ghost use Rattle.std.specs.Prelude.{◌≡◌, ◌+◌, ◌-◌, ◌<◌, ◌≤◌, ◌⊎◌, [], true, false, T, length, OnOk, IfOk, IfErr, is_some};
 ghost use Rattle.std.specs.FinMap.{entries};
 ghost use Rattle.station.specs.View.{Told};
+ghost use Rattle.header_gate.specs.InPlace.{IsRecovered};
 ghost use Rattle.header_gate.specs.Places.{file_length};
 ghost use Rattle.map_model.specs.Image.{map_of};
 ghost use Rattle.map_model.specs.Array.{cut, segment_at};
@@ -28,6 +29,7 @@ impl<'a> Sweep<'a> {
         requires open { self.old.faulted ≡ false }
         requires wanting { self.old.given < self.old.limit }
         requires sweeping { Told (S.view station.old) → IsSweeping self.old (S.view station.old).held }
+        requires readable { Told (S.view station.old) → IsRecovered self.old.reader.layout (S.view station.old).held }
         requires reach { file_length self.old.reader.layout ≤ (S.view station.old).fixed.reach }
         ensures kept { OnOk result (Told (S.view station.old) → self.new.kept ≡ [] → scanned self.new.low self.new.high (self.new.limit - self.new.given) (ahead self.new (entries (map_of (S.view station.old).held))) ≡ []) }
         ensures given { self.new.given ≡ self.old.given }
@@ -50,6 +52,7 @@ impl<'a> Sweep<'a> {
         requires wanting { self.old.given < self.old.limit }
         requires none { self.old.kept ≡ [] }
         requires sweeping { Told (S.view station.old) → IsSweeping self.old (S.view station.old).held }
+        requires readable { Told (S.view station.old) → IsRecovered self.old.reader.layout (S.view station.old).held }
         requires reach { file_length self.old.reader.layout ≤ (S.view station.old).fixed.reach }
         ensures more { IfOk result (λ more. more ≡ true → judged self.new ≡ judged self.old + 1) }
         ensures step { judged self.new ≤ judged self.old + 1 }

@@ -1,22 +1,22 @@
-//! The next record of a store behind a key: all that a cursor asks of it.
+//! The records of a store next to a key: all that a cursor asks of it.
 
 ghost use Rattle.std.specs.Prelude.{◌≡◌, ◌≤◌, false, is_err, IfOk, IfErr, OnOk, IsErrOf};
 ghost use Rattle.std.specs.Option.{option_map};
 ghost use Rattle.std.specs.FinMap.{entries};
 ghost use Rattle.station.specs.Bytes.{Same};
-ghost use Rattle.station.specs.View.{Told, EachHeld, NothingPending, Rose};
+ghost use Rattle.station.specs.View.{View, Told, EachHeld, Rose};
 ghost use Rattle.station.specs.Steps.{Steps};
 ghost use Rattle.header_gate.specs.Places.{file_length};
 ghost use Rattle.key_slot.specs.Row.{record_of};
 ghost use Rattle.map_model.specs.Image.{map_of};
-ghost use Rattle.map_model.specs.Cursors.{first_ahead};
-ghost use Rattle.range_scan.specs.Seeking.{later, ReadsNear};
+ghost use Rattle.map_model.specs.Cursors.{first_ahead, last_behind};
+ghost use Rattle.range_scan.specs.Seeking.{later, earlier, ReadsNear, ReadsBehind};
 
 use key_slot::{Key, Row};
 use segment::StoreFault;
 use station::Station;
 
-/// A store in which the next record behind a key can be looked for.
+/// A store in which the record next to a key can be looked for.
 pub trait Seek {
     ghost use Rattle.std.specs.Prelude.{ℕ, Bool, List};
     ghost use Rattle.range_scan.specs.Seeking.{KeptRegion};
@@ -26,6 +26,9 @@ pub trait Seek {
 
     /// That it stands for the bytes of a file.
     ghost stands: { Self → List ℕ → Type 0 };
+
+    /// That a station is as the store needs it between calls.
+    ghost rests: { Self → View → Type 0 };
 
     /// Where its region lies, with the height and the counts that it keeps.
     ghost kept: { Self → KeptRegion };
@@ -47,7 +50,7 @@ pub trait Seek {
     ) -> Result<Option<Row>, StoreFault>
         requires open { closed self.old ≡ false }
         requires store { EachHeld (stands self.old) (S.view station.old) }
-        requires nothing { NothingPending (S.view station.old) }
+        requires rests { rests self.old (S.view station.old) }
         requires reach { file_length (kept self.old).layout ≤ (S.view station.old).fixed.reach }
         ensures row { IfOk result (λ row. Told (S.view station.old) → option_map record_of row ≡ first_ahead low past high (entries (map_of (S.view station.old).held))) }
         ensures damaged { IfErr result (λ fault. Told (S.view station.old) → fault ≡ StoreFault.Failed) }
@@ -56,7 +59,33 @@ pub trait Seek {
         ensures kept { kept self.new ≡ kept self.old }
         ensures state { state self.new ≡ state self.old }
         ensures store { OnOk result (EachHeld (stands self.new) (S.view station.new)) }
-        ensures settled { OnOk result (NothingPending (S.view station.new)) }
+        ensures rests { OnOk result (rests self.new (S.view station.new)) }
         ensures steps { Steps Same (S.view station.old) (S.view station.new) }
         ensures reads { ReadsNear (later low past) (kept self.old) result (S.view station.old) (S.view station.new) };
+
+    /// The record with the greatest key that isn't below `low`, is below `past` and is below `high`, or None where there is none.
+    ///
+    /// It reads at most two segments, and in a store of one segment that one: the one to which the lesser of `past` and `high`
+    /// belongs, and the one before it. After a fault it is closed.
+    fn last_row<S: Station>(
+        &mut self,
+        station: &mut S,
+        low: Option<Key>,
+        past: Option<Key>,
+        high: Option<Key>,
+    ) -> Result<Option<Row>, StoreFault>
+        requires open { closed self.old ≡ false }
+        requires store { EachHeld (stands self.old) (S.view station.old) }
+        requires rests { rests self.old (S.view station.old) }
+        requires reach { file_length (kept self.old).layout ≤ (S.view station.old).fixed.reach }
+        ensures row { IfOk result (λ row. Told (S.view station.old) → option_map record_of row ≡ last_behind low past high (entries (map_of (S.view station.old).held))) }
+        ensures damaged { IfErr result (λ fault. Told (S.view station.old) → fault ≡ StoreFault.Failed) }
+        ensures failed { IsErrOf result StoreFault.Failed → Rose (S.view station.old).disk_faults (S.view station.new).disk_faults }
+        ensures closed { closed self.new ≡ is_err result }
+        ensures kept { kept self.new ≡ kept self.old }
+        ensures state { state self.new ≡ state self.old }
+        ensures store { OnOk result (EachHeld (stands self.new) (S.view station.new)) }
+        ensures rests { OnOk result (rests self.new (S.view station.new)) }
+        ensures steps { Steps Same (S.view station.old) (S.view station.new) }
+        ensures reads { ReadsBehind (earlier past high) (kept self.old) result (S.view station.old) (S.view station.new) };
 }

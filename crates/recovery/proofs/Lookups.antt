@@ -3,6 +3,7 @@ use Rattle.std.proofs.Common.{◌≡◌, ℕ, ◌+◌, ◌^◌, ◌<◌, Bool, t
 use Rattle.std.specs.FinMap.{contains_key, entries, find, len}
 use Rattle.std.specs.Ordering.{eq_by_cmp}
 use Rattle.density_rule.specs.Windows.{count_in}
+use Rattle.header_gate.specs.InPlace.{IsRecovered}
 use Rattle.header_gate.specs.declared.layout.Layout.{Layout}
 use Rattle.key_slot.specs.Record.{Bytes, Record, key_cmp}
 use Rattle.key_slot.specs.Segment.{IsSegment, segment_of}
@@ -47,26 +48,26 @@ more_there items format page i old new there also = record {
 }
 
 module _ (layout : Layout) (region height : ℕ) (counts image : List ℕ) (stands : StandsWith layout region height counts image) where
-  rows_are : rows (array_from layout.format (page_in layout region image) (2 ^ height)) ≡ entries (map_of image)
-  rows_are =
-      ap rows (same_arrays layout.format (page_in layout region image) (live_segment image) (2 ^ height) (λ i lt. page_is layout region height counts image stands i lt))
+  rows_are : IsRecovered layout image → rows (array_from layout.format (page_in layout region image) (2 ^ height)) ≡ entries (map_of image)
+  rows_are readable =
+      ap rows (same_arrays layout.format (page_in layout region image) (live_segment image) (2 ^ height) (λ i lt. page_is layout region height counts image stands readable i lt))
       ∙ ap (λ (f : ℕ). rows (array_from f (live_segment image) (2 ^ height))) (sym (format_is layout region height counts image stands))
       ∙ ap rows (sym (array_is image height))
       ∙ own_rows image (map_of image) height (own layout region height counts image stands)
 
   -- behind the last segment the keys that were found are those of the map
-  pub all_there : (items : List Update) (there : List Bool) → AreThere items there (in_front layout.format (page_in layout region image) (2 ^ height)) → AreThere items there (contains_key (map_of image))
-  all_there items there are = record { each = λ k d lt. are.each k d lt ∙ find-rows (rows (array_from layout.format (page_in layout region image) (2 ^ height))) (map_of image) rows_are (key_of (get_or items k d)) }
+  pub all_there : IsRecovered layout image → (items : List Update) (there : List Bool) → AreThere items there (in_front layout.format (page_in layout region image) (2 ^ height)) → AreThere items there (contains_key (map_of image))
+  all_there readable items there are = record { each = λ k d lt. are.each k d lt ∙ find-rows (rows (array_from layout.format (page_in layout region image) (2 ^ height))) (map_of image) (rows_are readable) (key_of (get_or items k d)) }
 
   -- a segment that is read again isn't damaged
-  pub undamaged : (i : ℕ) → i < 2 ^ height → damage_of layout.format (page_in layout region image i) (count_in counts 0 i) ≡ None
-  undamaged i lt =
+  pub undamaged : IsRecovered layout image → (i : ℕ) → i < 2 ^ height → damage_of layout.format (page_in layout region image i) (count_in counts 0 i) ≡ None
+  undamaged readable i lt =
       let f = layout.format in
       let rows = segment_of f (live_segment image i) in
       let there : IsSegment f rows (live_segment image i) =
       subst (λ (g : ℕ). IsSegment g (segment_of g (live_segment image i)) (live_segment image i)) (format_is layout region height counts image stands) (own_segments image (map_of image) height (own layout region height counts image stands) i lt) in
-      let live : IsSegment f rows (page_in layout region image i) = subst (IsSegment f rows) (sym (page_is layout region height counts image stands i lt)) there in
-      (λ t. damage_by (segment_sound f rows (page_in layout region image i) live t) (count_kept layout region height counts image stands i lt t) (count_in counts 0 i))
+      let live : IsSegment f rows (page_in layout region image i) = subst (IsSegment f rows) (sym (page_is layout region height counts image stands readable i lt)) there in
+      (λ t. damage_by (segment_sound f rows (page_in layout region image i) live t) (count_kept layout region height counts image stands readable i lt t) (count_in counts 0 i))
       ∙ ap (λ (b : Bool). cond b None (Some (OtherCount (count_in counts 0 i) (count_in counts 0 i)))) (eq-eqb (count_in counts 0 i) (count_in counts 0 i) refl)
 
   -- the map has as many records as the segments have

@@ -13,7 +13,8 @@ use Rattle.header_gate.specs.declared.header.Header.{Header}
 use Rattle.header_gate.specs.declared.header.HeaderFault.{HeaderFault}
 use Rattle.header_gate.specs.declared.header.HeaderFault.TheVariants as header
 use Rattle.header_gate.specs.declared.reason.Reason.{Reason}
-use Rattle.header_gate.specs.Header.{gate, layout_in}
+use Rattle.header_gate.specs.Header.{layout_in}
+use Rattle.header_gate.specs.InPlace.{IsBare}
 use Rattle.header_gate.specs.Places.{page_size, height_limit, file_length}
 use Rattle.header_gate.specs.Reasons.{or_else, header_reason, IsSoundHeader}
 use Rattle.header_gate.proofs.Soundness.{none_of_sound}
@@ -26,6 +27,7 @@ use Rattle.map_model.specs.Repairing.{repair as repair_of}
 use Rattle.batch_intent.specs.Means.{Means, opening_reason}
 use Rattle.batch_intent.proofs.OpeningReasons.{none_of_means}
 use Rattle.redo_journal.specs.declared.place.Place.{Place}
+use Rattle.redo_journal.specs.Rest.{RestsAt}
 use Rattle.segment_frames.specs.Lists.{most_segments}
 use Rattle.recovery.specs.Costs.{repair_cost, opening_cost, mending_calls, back_reads, opening_reads}
 use Rattle.recovery.specs.Faults.{fault_of, IsNoDamage, IsReadFault, IsRepairFault, IsRereadFault}
@@ -73,7 +75,7 @@ no_header {T = T} fault a b ab written read refused settled failed = record {
   steps = opens_now ab;
   late = λ r is. restores_now ab;
   early = λ r is early. same_leaves ab written;
-  even = λ r is told even. same_leaves ab written;
+  bare = λ r is told bare. same_leaves ab written;
   refused_settled = λ r is. settled r (refused_back fault r is);
   memory = λ is. same_leaves ab written;
   memory_last = λ is. absurd (other fault is);
@@ -110,7 +112,7 @@ no_memory {T = T} a nothing sound = record {
   steps = opens_now (no_steps a);
   late = λ r is. absurd cc;
   early = λ r is. absurd cc;
-  even = λ r is. absurd cc;
+  bare = λ r is. absurd cc;
   refused_settled = λ r is. nothing;
   memory = λ is. same_leaves (no_steps a) refl;
   memory_last = λ is. (nothing, λ told. none_of_sound a.held (sound told));
@@ -133,7 +135,7 @@ opens_later result a b c ab written read opens =
       steps = on_same ab opens.steps (λ d. opens_restored d d (restores_same d d refl));
       late = IfErr-weaker result _ _ (λ e late r is. on_same ab (late r is) (λ d. restores_same d d refl)) opens.late;
       early = IfErr-weaker result _ _ (λ e untouched r is early. leaves_on leaves (untouched r is early)) opens.early;
-      even = IfErr-weaker result _ _ (λ e untouched r is told even. leaves_on leaves (untouched r is (told_on ab.frame told) (ap gate (ab.held told) ∙ even))) opens.even;
+      bare = IfErr-weaker result _ _ (λ e untouched r is told bare. leaves_on leaves (untouched r is (told_on ab.frame told) (subst (λ (f : List ℕ). IsBare (layout_in f) f) (sym (ab.held told)) bare))) opens.bare;
       refused_settled = opens.refused_settled;
       memory = λ is. leaves_on leaves (opens.memory is);
       memory_last = λ is. ((opens.memory_last is).0, λ told. sym (ap header_reason (ab.held told)) ∙ (opens.memory_last is).1 (told_on ab.frame told));
@@ -154,7 +156,7 @@ module _ {A B : Type 0} (reads : List ℕ → ℕ) (a b : View) where
     steps = opens.steps;
     late = tt;
     early = tt;
-    even = tt;
+    bare = tt;
     refused_settled = tt;
     memory = λ is. absurd cc;
     memory_last = λ is. absurd cc;
@@ -172,7 +174,7 @@ module _ {A B : Type 0} (reads : List ℕ → ℕ) (a b : View) where
     steps = opens.steps;
     late = opens.late;
     early = opens.early;
-    even = opens.even;
+    bare = opens.bare;
     refused_settled = opens.refused_settled;
     memory = λ is. opens.memory (back is);
     memory_last = λ is. opens.memory_last (back is);
@@ -199,12 +201,12 @@ not_back {T = T} e head old new a b back sound failed = record {
   steps = weaken back.steps (λ d i left step. opens_restored d i step);
   late = λ r is. back.steps;
   early = back.early;
-  even = λ r is told even. back.kept told even;
+  bare = λ r is told bare. back.kept told bare;
   refused_settled = back.refused_settled;
   memory = λ is. absurd (other is);
   memory_last = λ is. absurd (other is);
-  kept = λ told rest. back.kept told rest.gate_even;
-  one_pass = λ told rest. back.one_pass told rest.gate_even;
+  kept = λ told rest. back.kept told rest.bare;
+  one_pass = λ told rest. back.one_pass told rest.bare;
   unsound = λ told no. absurd (no (none_of_sound a.held (sound told)));
   damaged = back.damaged;
 }
@@ -264,12 +266,12 @@ module _ (result : Result (Unit {0}) OpenFault) (x : Unit {0}) (head : Header) (
     steps = steps_at;
     late = IfErr-weaker result _ _ (λ e cause r is. absurd (not_reason e r cause is)) repairs.causes;
     early = IfErr-weaker result _ _ (λ e cause r is. absurd (not_reason e r cause is)) repairs.causes;
-    even = IfErr-weaker result _ _ (λ e cause r is. absurd (not_reason e r cause is)) repairs.causes;
+    bare = IfErr-weaker result _ _ (λ e cause r is. absurd (not_reason e r cause is)) repairs.causes;
     refused_settled = IfErr-weaker result _ _ (λ e cause r is. absurd (not_reason e r cause is)) repairs.causes;
     memory = λ is. absurd (other result repairs.causes is);
     memory_last = λ is. absurd (other result repairs.causes is);
-    kept = λ told rest. leaves_on (back.kept told rest.gate_even) (kept (balanced told rest));
-    one_pass = λ told rest. omega (arith, back.one_pass told rest.gate_even, unread (balanced told rest));
+    kept = λ told rest. leaves_on (back.kept told rest.bare) (kept (balanced told rest));
+    one_pass = λ told rest. omega (arith, back.one_pass told rest.bare, unread (balanced told rest));
     unsound = λ told no. absurd (no (none_of_sound a.held (awaits.header_is told).sound));
     damaged = fine;
   }
@@ -293,10 +295,10 @@ module _ (result : Result (Unit {0}) OpenFault) (x : Unit {0}) (head : Header) (
       λ t. mending_calls (most_segments (sym (layout_at a.held (inl (told, refl))) t)) (repair_window (height_at told t) (counts t))
 
   -- the parts of the opened store
-  pub opened : OnOk result (NothingPending c) → OnOk result (IsOpened new a c)
-  opened settled = by_result result repairs settled
+  pub opened : OnOk result (RestsAt new.place.layout new.frames.turn c) → OnOk result (IsOpened new a c)
+  opened rests = by_result result repairs rests
     where
-      by_result : (r : Result (Unit {0}) OpenFault) → Repairs r mid new b c → OnOk r (NothingPending c) → OnOk r (IsOpened new a c)
+      by_result : (r : Result (Unit {0}) OpenFault) → Repairs r mid new b c → OnOk r (RestsAt new.place.layout new.frames.turn c) → OnOk r (IsOpened new a c)
       by_result (Err e) done quiet = tt
       by_result (Ok y) done quiet = record {
         agrees = done.agrees;
@@ -306,7 +308,7 @@ module _ (result : Result (Unit {0}) OpenFault) (x : Unit {0}) (head : Header) (
         array = λ told. done.array (told_on back.steps.frame told) ∙ (λ t. repair_of (height_at told t) (back.array told t));
         waits = λ told. done.intent ∙ back.waits told;
         items = subst (IsIntentFor new.place.layout.format) (sym done.intent) (subst (λ (p : Place). IsIntentFor p.layout.format mid.intent) (sym done.place) back.items);
-        settled = quiet;
+        rests = quiet;
         calls = λ told. omega (arith, back.calls_asked told, done.calls, mended told);
       }
 

@@ -3,10 +3,10 @@ use Rattle.std.specs.Prelude.{if◌then◌else◌, nat_le, ◌==◌, ℕ, ◌+�
 use Rattle.density_rule.specs.declared.Window.{Window}
 use Rattle.density_rule.specs.Repair.{repair_window}
 use Rattle.header_gate.specs.declared.layout.Layout.{Layout}
-use Rattle.header_gate.specs.declared.layout.TheConstants.{GREATEST_HEIGHT, INDEXED}
-use Rattle.header_gate.specs.Header.{gate, layout_in}
+use Rattle.header_gate.specs.declared.layout.TheConstants.{GREATEST_HEIGHT, INDEXED, PAIRED}
+use Rattle.header_gate.specs.Header.{layout_in}
 use Rattle.header_gate.specs.Places.{page_size, height_limit, segment_size}
-use Rattle.header_gate.specs.Recovered.{table_numbers}
+use Rattle.header_gate.specs.Recovered.{live_table, names_some}
 use Rattle.map_model.specs.Array.{counts_of}
 use Rattle.map_model.specs.Image.{array_of, height_of}
 use Rattle.range_scan.specs.declared.held_page.TheConstants.{RUN_SIZE}
@@ -48,14 +48,18 @@ behind_calls l height = replay_calls l + region_calls l height + (2 + 2 ^ height
 abbrev pub opening_calls : Layout → ℕ → ℕ
 opening_calls l height = 3 + behind_calls l height
 
--- behind the header of a file to which nothing is to be done: its segments, and the intent
-abbrev pub back_calls : List ℕ → ℕ
-back_calls image = region_calls (layout_in image) (height_of image) + intent_calls image
+-- where no page is to be laid: of two journals the live one's count is read
+abbrev pub bare_calls : Layout → ℕ
+bare_calls l = if l.version == PAIRED then 2 else 0
 
--- The calls that a file asks for. A journal that is to be laid over the live region: those of a replay, a write for each run of
--- neighbouring pages that its table names
+-- behind the header of a file to which nothing is to be done: this count, its segments, and the intent
+abbrev pub back_calls : List ℕ → ℕ
+back_calls image = bare_calls (layout_in image) + region_calls (layout_in image) (height_of image) + intent_calls image
+
+-- The calls that a file asks for. A journal that is to be laid over the live region, and names some page: those of a replay, a
+-- write for each run of neighbouring pages that its table names
 abbrev pub laying_calls : List ℕ → ℕ
-laying_calls image = if gate image == 1 then 6 + run_count (table_numbers image) else 0
+laying_calls image = if names_some (layout_in image) image then 6 + run_count (live_table (layout_in image) image) else 0
 
 -- a repair, with frames for so many segments: those of the window that is spread, if one is
 abbrev pub mending_calls : ℕ → Option Window → ℕ
@@ -74,9 +78,13 @@ asked_opening image = 3 + asked_behind image
 abbrev pub greatest_layout : Layout
 greatest_layout = record { hmax = GREATEST_HEIGHT; journal = 2 ^ GREATEST_HEIGHT; version = INDEXED; format = 1 }
 
--- What is read behind the header: the live region, and the intent.
+-- where no page is to be laid, that count
+abbrev pub bare_reads : Layout → ℕ
+bare_reads l = if l.version == PAIRED then 4 else 0
+
+-- What is read behind the header: this count, the live region, and the intent.
 abbrev pub back_reads : List ℕ → ℕ
-back_reads image = region_reads image + intent_reads image
+back_reads image = bare_reads (layout_in image) + region_reads image + intent_reads image
 
 -- and in all, with the header page
 abbrev pub opening_reads : List ℕ → ℕ

@@ -7,13 +7,15 @@ use Rattle.density_rule.specs.Marks.{no_marks}
 use Rattle.density_rule.specs.Repair.{repair_window}
 use Rattle.header_gate.specs.declared.header.Header.{Header}
 use Rattle.header_gate.specs.declared.reason.Reason.{Reason}
-use Rattle.header_gate.specs.Header.{gate}
+use Rattle.header_gate.specs.Header.{layout_in}
+use Rattle.header_gate.specs.InPlace.{IsBare}
 use Rattle.header_gate.specs.Places.{file_length}
 use Rattle.header_gate.specs.Reasons.{header_reason}
 use Rattle.map_model.specs.Store.{Map}
 use Rattle.map_model.specs.Image.{array_of, height_of}
 use Rattle.map_model.specs.Repairing.{repair as repair_of}
 use Rattle.redo_journal.specs.declared.place.Place.{Place}
+use Rattle.redo_journal.specs.Rest.{RestsAt}
 use Rattle.segment_frames.specs.Lists.{most_segments}
 use Rattle.segment_frames.specs.Standing.{StandsFor}
 use Rattle.veb_index.specs.View.{IndexView}
@@ -41,7 +43,7 @@ pub record OpensFile {T : Type 0} (opens : List ℕ → List ℕ → Type 0) (re
   -- what becomes of a file that is refused
   pub late : IfErr result (λ e. (r : Reason) → e ≡ NotStore r → Steps Restores a b)
   pub early : IfErr result (λ e. (r : Reason) → e ≡ NotStore r → IsEarly r → LeavesFile a b)
-  pub even : IfErr result (λ e. (r : Reason) → e ≡ NotStore r → Told a → gate a.held ≡ 0 → LeavesFile a b)
+  pub bare : IfErr result (λ e. (r : Reason) → e ≡ NotStore r → Told a → IsBare (layout_in a.held) a.held → LeavesFile a b)
   pub refused_settled : IfErr result (λ e. (r : Reason) → e ≡ NotStore r → NothingPending b)
   -- want of memory comes behind the sync and a sound header, and nothing is written then
   pub memory : IsErrOf result Memory → LeavesFile a b
@@ -62,7 +64,7 @@ pub record IsOpened (parts : Parts) (a b : View) : Type 0 where
   pub array : Told a → array_of b.held ≡ repair_of (height_of a.held) (array_of a.held)
   pub waits : Told a → parts.intent ≡ intent_of a.held
   pub items : IsIntentFor parts.place.layout.format parts.intent
-  pub settled : NothingPending b
+  pub rests : RestsAt parts.place.layout parts.frames.turn b
   -- the calls that the file asked for
   pub calls : Told a → b.calls ≤ a.calls + asked_behind a.held
 
@@ -73,22 +75,24 @@ pub record Awaits (head : Header) (parts : Parts) (v : View) : Type 0 where
   pub unrested : parts.tally.marks ≡ no_marks parts.tally.height
   pub reach : file_length parts.place.layout ≤ v.fixed.reach
   pub nothing : NothingPending v
+  pub turn : parts.frames.turn ≡ 0
   pub header_is : Told v → HasHeader parts.place head.height head.gate v.held
 
 -- The file was read: each image stands for the tally, whose records are within the bounds of its height, and the index has
--- the fences of the segments that aren't empty.
-pub record IsReadBack (place : Place) (tally : TallyView) (index : IndexView) (journal : ℕ) (v : View) : Type 0 where
+-- the fences of the segments that aren't empty. The journal lies in place, and nothing is pending.
+pub record IsReadBack (place : Place) (tally : TallyView) (index : IndexView) (journal turn : ℕ) (v : View) : Type 0 where
   pub parts_are : AreParts place tally index journal
   pub unrested : tally.marks ≡ no_marks tally.height
   pub reach : file_length place.layout ≤ v.fixed.reach
   pub root : IsInBounds tally.height tally.height (sum tally.counts)
   pub stands : EachHeld (StandsFor place tally) v
   pub fenced : Told v → HasFences index (array_of v.held)
+  pub rests : RestsAt place.layout turn v
   pub nothing : NothingPending v
 
 -- What came of the reading of a file, before a repair.
 pub record ReadsBack (head : Header) (result : Result (Unit {0}) OpenFault) (old new : Parts) (a b : View) : Type 0 where
-  pub back : OnOk result (IsReadBack new.place new.tally new.index new.frames.journal b)
+  pub back : OnOk result (IsReadBack new.place new.tally new.index new.frames.journal new.frames.turn b)
   pub height_is : OnOk result (new.tally.height ≡ head.height)
   pub place : new.place ≡ old.place
   pub array : OnOk result (Told a → array_of b.held ≡ array_of a.held)
@@ -101,12 +105,12 @@ pub record ReadsBack (head : Header) (result : Result (Unit {0}) OpenFault) (old
   pub steps : Steps Restores a b
   pub early : IfErr result (λ e. (r : Reason) → e ≡ NotStore r → IsEarly r → LeavesFile a b)
   pub refused_settled : IfErr result (λ e. (r : Reason) → e ≡ NotStore r → NothingPending b)
-  -- where the gate is even nothing changes
-  pub kept : Told a → gate a.held ≡ 0 → LeavesFile a b
-  pub one_pass : Told a → gate a.held ≡ 0 → b.travel.read ≤ a.travel.read + back_reads a.held
+  -- where no page is to be laid nothing changes
+  pub kept : Told a → IsBare (layout_in a.held) a.held → LeavesFile a b
+  pub one_pass : Told a → IsBare (layout_in a.held) a.held → b.travel.read ≤ a.travel.read + back_reads a.held
   pub cost : b.travel.written ≤ a.travel.written + replay_cost old.place.layout
   pub calls : b.calls ≤ a.calls + (replay_calls old.place.layout + region_calls old.place.layout head.height + (2 + 2 ^ head.height))
-  pub calls_even : Told a → gate a.held ≡ 0 → b.calls ≤ a.calls + back_calls a.held
+  pub calls_bare : Told a → IsBare (layout_in a.held) a.held → b.calls ≤ a.calls + back_calls a.held
   pub calls_asked : OnOk result (Told a → b.calls ≤ a.calls + (laying_calls a.held + back_calls a.held))
   pub damaged : IfErr result (λ e. Told a → IsNoDamage e)
   pub causes : IfErr result IsReadFault

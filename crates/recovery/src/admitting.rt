@@ -29,7 +29,7 @@ pub(crate) fn take_intent<S: Station>(
     station: &mut S,
     parts: &Parts,
 ) -> Result<Option<Intent>, OpenFault>
-    requires back { IsReadBack parts.now.place parts.now.tally parts.now.index parts.now.frames.journal (S.view station.old) }
+    requires back { IsReadBack parts.now.place parts.now.tally parts.now.index parts.now.frames.journal parts.now.frames.turn (S.view station.old) }
     ensures intent { IfOk result (λ intent. Told (S.view station.old) → intent ≡ intent_of (S.view station.old).held) }
     ensures items { IfOk result (λ intent. IsIntentFor parts.now.place.layout.format intent) }
     ensures sound { OnOk result (Told (S.view station.old) → intent_reason (S.view station.old).held ≡ None) }
@@ -55,7 +55,7 @@ pub(crate) fn take_intent<S: Station>(
 
 // Sees that none of the items meets a full store, and names the first that does.
 fn admit<S: Station>(station: &mut S, parts: &Parts, intent: &Intent) -> Result<(), OpenFault>
-    requires back { IsReadBack parts.now.place parts.now.tally parts.now.index parts.now.frames.journal (S.view station.old) }
+    requires back { IsReadBack parts.now.place parts.now.tally parts.now.index parts.now.frames.journal parts.now.frames.turn (S.view station.old) }
     ensures room { OnOk result (Told (S.view station.old) → first_full (height_limit parts.now.place.layout) (map_of (S.view station.old).held) intent.now ≡ None) }
     ensures full { IfErr result (λ e. (r : Reason) → e ≡ OpenFault.NotStore r → Told (S.view station.old) →
         reason_at (place_among intent.now (first_full (height_limit parts.now.place.layout) (map_of (S.view station.old).held) intent.now)) ≡ Some r) }

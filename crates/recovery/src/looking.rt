@@ -31,7 +31,7 @@ pub(crate) fn find_keys<S: Station>(
     parts: &Parts,
     intent: &Intent,
 ) -> Result<[bool; FLAGS], StoreFault>
-    requires back { IsReadBack parts.now.place parts.now.tally parts.now.index parts.now.frames.journal (S.view station.old) }
+    requires back { IsReadBack parts.now.place parts.now.tally parts.now.index parts.now.frames.journal parts.now.frames.turn (S.view station.old) }
     ensures found { IfOk result (λ there. Told (S.view station.old) → AreThere intent.now there (contains_key (map_of (S.view station.old).held))) }
     ensures steps { Steps Same (S.view station.old) (S.view station.new) }
     ensures unwritten { (S.view station.new).travel.written ≡ (S.view station.old).travel.written }
@@ -66,7 +66,7 @@ fn look_in<S: Station>(
     intent: &Intent,
     there: &mut [bool; FLAGS],
 ) -> Result<(), StoreFault>
-    requires back { IsReadBack parts.now.place parts.now.tally parts.now.index parts.now.frames.journal (S.view station.old) }
+    requires back { IsReadBack parts.now.place parts.now.tally parts.now.index parts.now.frames.journal parts.now.frames.turn (S.view station.old) }
     requires in_store { segment < 2 ^ parts.now.tally.height }
     requires size { length page.old ≡ segment_size parts.now.place.layout }
     ensures found { OnOk result (Told (S.view station.old) → AlsoIn intent.now (segment_of parts.now.place.layout.format (page_in parts.now.place.layout parts.now.place.region (S.view station.old).held segment)) there.old there.new) }

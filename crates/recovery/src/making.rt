@@ -23,6 +23,7 @@ pub fn make_parts(alloc: Global, header: &Header) -> Result<Parts, AllocError>
     requires height { header.now.height ≤ height_limit header.now.layout }
     ensures parts { IfOk result (λ parts. AreParts parts.place parts.tally parts.index parts.frames.journal) }
     ensures place { IfOk result (λ parts. parts.place ≡ record { layout = header.now.layout; region = header.now.live }) }
+    ensures turn { IfOk result (λ parts. parts.frames.turn ≡ 0) }
     ensures intent { IfOk result (λ parts. parts.intent ≡ None) }
     ensures tally { IfOk result (λ parts. parts.tally ≡ empty_tally (height_limit header.now.layout) header.now.height) }
 {

@@ -36,3 +36,4 @@ pub record ReadsOnly (most pieces : ℕ) (f g : Batch) (a b : View) : Type 0 whe
   pub reads : b.travel.read ≤ a.travel.read + most
   pub calls : b.calls ≤ a.calls + pieces
   pub journal : g.journal ≡ f.journal
+  pub turn : g.turn ≡ f.turn

@@ -5,6 +5,7 @@ ghost use Rattle.station.specs.Bytes.{Same};
 ghost use Rattle.station.specs.View.{Told, EachHeld, Rose};
 ghost use Rattle.station.specs.Steps.{Steps};
 ghost use Rattle.header_gate.specs.Places.{IsSlotFormat, IsLayout, file_length, height_limit, segment_size};
+ghost use Rattle.header_gate.specs.InPlace.{IsRecovered};
 ghost use Rattle.map_model.specs.Image.{array_of};
 ghost use Rattle.redo_journal.specs.Frames.{IsFrames};
 ghost use Rattle.header_gate.specs.Paged.{pages_of_all};
@@ -39,8 +40,10 @@ pub(crate) fn load<S: Station, P: Plan>(
     requires inside { first + length (P.plan plan.now).counts ≤ 2 ^ height_limit place.now.layout }
     requires room { runs.low_len + runs.high_len ≤ most_segments place.now.layout }
     requires window { EachHeld (HasWindow place.now first (P.plan plan.now).counts) (S.view station.old) }
+    requires readable { Told (S.view station.old) → IsRecovered place.now.layout (S.view station.old).held }
     ensures numbers { segments_in place.now.layout.format frames.new.numbers ≡ numbers_of runs }
     ensures journal { frames.new.journal ≡ frames.old.journal }
+    ensures turn { frames.new.turn ≡ frames.old.turn }
     ensures held { OnOk result (IsHeld place.now.layout.format frames.new) }
     ensures counts { OnOk result (HasCounts place.now.layout.format first (P.plan plan.now).counts frames.new) }
     ensures shown { OnOk result (Told (S.view station.old) →

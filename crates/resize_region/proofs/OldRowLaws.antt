@@ -24,7 +24,9 @@ use Rattle.range_scan.proofs.Standing.{cut_is, cut_size, read_is, page_fine}
 use Rattle.range_scan.proofs.Walks.{walk_on}
 use Rattle.segment.specs.declared.fault.StoreFault.{StoreFault}
 use Rattle.segment.specs.declared.fault.StoreFault.TheVariants.{Failed}
-use Rattle.segment_frames.specs.Standing.{StandsFor}
+use Rattle.resize_region.specs.Shares.{StandsBare}
+use Rattle.header_gate.specs.InPlace.{IsRecovered}
+use Rattle.header_gate.proofs.Journals.{bare_recovered}
 use Rattle.window_tally.specs.View.{TallyView}
 use Rattle.resize_region.specs.declared.old_rows.OldRows.{OldRows}
 use Rattle.resize_region.specs.OldRows.{ReadsRows, rows_ahead}
@@ -47,27 +49,30 @@ never_failed {T = T} v is = false≢true (ap (is_err {T = T} {E = StoreFault}) i
 pub rose_on : (a b : View) (now : ℕ) → a.disk_faults ≤ b.disk_faults → Rose b.disk_faults now → Rose a.disk_faults now
 rose_on a b now le rose = omega (arith, le, rose)
 
-module _ (place : Place) (t : TallyView) (image : List ℕ) (stands : StandsFor place t image) where
+module _ (place : Place) (t : TallyView) (image : List ℕ) (has : StandsBare place t image) where
+  done : IsRecovered place.layout image
+  done = bare_recovered place.layout image has.bare
+
   -- the array of the image, by its records and the counts
   pub own_cut : cut t.counts (entries (map_of image)) ≡ array_of image
-  own_cut = cut_is place.layout place.region t.height t.counts image stands ∙ ap (array_in image) (sym stands.height_is)
+  own_cut = cut_is place.layout place.region t.height t.counts image has.stands ∙ ap (array_in image) (sym has.stands.height_is)
 
   pub own_size : length (array_of image) ≡ 2 ^ t.height
-  own_size = ap length (sym own_cut) ∙ cut_size place.layout place.region t.height t.counts image stands
+  own_size = ap length (sym own_cut) ∙ cut_size place.layout place.region t.height t.counts image has.stands
 
   -- what is read of a segment are its records
   pub own_read : (i : ℕ) (rs : List Record) → i < 2 ^ t.height → IsSegment place.layout.format rs (page_in place.layout place.region image i) → rs ≡ get_or (array_of image) i []
-  own_read i rs lt is = read_is place.layout place.region t.height t.counts image stands i rs lt is ∙ ap (λ (a : Array). get_or a i []) own_cut
+  own_read i rs lt is = read_is place.layout place.region t.height t.counts image has.stands done i rs lt is ∙ ap (λ (a : Array). get_or a i []) own_cut
 
   -- nothing is wrong with it
   pub own_fine : (r : ReaderView) → r.next < 2 ^ t.height → LieAbove r (array_of image) → page_fault place.layout.format r.next r.last (page_in place.layout place.region image r.next) ≡ None
   own_fine r lt lies =
-      page_fine place.layout place.region t.height t.counts image stands r.next r.last lt
+      page_fine place.layout place.region t.height t.counts image has.stands done r.next r.last lt
       (ap (λ (a : Array). begins_above r.last (get_or a r.next [])) own_cut ∙ above_next r (array_of image) lies (omega (arith, lt, own_size)))
 
   -- the start
   pub own_start : (r : ReaderView) → r.next ≡ 0 → r.last ≡ None → LieAbove r (array_of image)
-  own_start r start none = subst (LieAbove r) own_cut (above_start place.layout place.region t.height t.counts image stands r start none)
+  own_start r start none = subst (LieAbove r) own_cut (above_start place.layout place.region t.height t.counts image has.stands r start none)
 
 -- the records ahead stay while the next segment is read, once those of the last one were taken
 pub ahead_read : (segments : Array) (n : ℕ) (old new : List Record) → n < length segments → new ≡ get_or segments n [] → drop 0 new ++ rows (drop (n + 1) segments) ≡ drop (length old) old ++ rows (drop n segments)

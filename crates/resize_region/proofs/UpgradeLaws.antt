@@ -74,6 +74,7 @@ pub spreads_err : (place after : Place) (t : TallyView) (a b : View) {U : Type 0
 spreads_err place after t a b {U = U} result fault is steps kept cost reads calls damaged cause failed = subst (λ (x : Result U StoreFault). SpreadsWide {T = U} x place after t a b) (sym is) (record {
   steps = steps;
   settled = tt;
+  rests = tt;
   array = tt;
   stands = tt;
   place_is = tt;

@@ -5,7 +5,7 @@ use Rattle.key_slot.specs.Record.{Record}
 use Rattle.key_slot.specs.Segment.{FitsSegment}
 use Rattle.segment.proofs.Filling.{all_wider}
 use Rattle.header_gate.specs.declared.layout.Layout.{Layout}
-use Rattle.header_gate.specs.Places.{IsLayout, file_length, area_size}
+use Rattle.header_gate.specs.Places.{IsLayout, file_length, area_size, journal_shift}
 use Rattle.map_model.specs.Regions.{Spares}
 use Rattle.redo_journal.specs.declared.place.Place.{Place}
 use Rattle.redo_journal.specs.Commit.{IsAt}
@@ -22,7 +22,7 @@ wide_layout l is some = record {
 }
 
 pub wide_length : (l : Layout) → file_length (widened l) ≡ file_length l
-unfolding area_size
+unfolding area_size journal_shift
 wide_length l = refl
 
 pub wide_at : (place : Place) (image : List ℕ) → IsAt place image → IsAt (in_wide place) image
@@ -30,6 +30,7 @@ wide_at place image is = record { size = is.size ∙ sym (wide_length place.layo
 
 -- what differs beside the live parts does so at either format
 pub wide_spares : (l : Layout) (region : ℕ) (old new : List ℕ) → Spares (widened l) region old new → Spares l region old new
+unfolding journal_shift
 wide_spares l region old new spares = record { live_is = spares.live_is; touched = spares.touched }
 
 -- what fits a segment of format 1 fits one of format 2

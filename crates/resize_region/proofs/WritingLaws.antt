@@ -39,7 +39,7 @@ on n t f = ap (λ (k : ℕ). n * k) {x = t - f} {y = t + 1 - (f + 1)} (omega ari
 pub total : (n start mid now t f m : ℕ) → mid ≤ start + n * (t - f) → now ≤ mid + n * (f + 1) → f ≤ t → t < m → now ≤ start + n * m
 total n start mid now t f m one two le lt = omega (arith, one, two, spent n t f le, times_up n (t + 1 - 0) m (omega (arith, lt)))
 
-module _ (place : Place) (t : TallyView) (segments : ℕ) (f g : Batch) (a b c : View) {U V : Type 0} (result : Result U StoreFault) (fault : StoreFault) (is : result ≡ Err fault) (steps : Steps (Spares place.layout place.region) a c) (journal : g.journal ≡ f.journal)
+module _ (place : Place) (t : TallyView) (segments : ℕ) (f g : Batch) (a b c : View) {U V : Type 0} (result : Result U StoreFault) (fault : StoreFault) (is : result ≡ Err fault) (steps : Steps (Spares place.layout place.region) a c) (journal : g.journal ≡ f.journal) (turn : g.turn ≡ f.turn)
     (cost : c.travel.written ≤ a.travel.written + segment_size (widened place.layout) * segments) where
   -- a fault of what is read
   pub writes_err : (Told a → fault ≡ Failed) → IsDamageIn place t a c fault → a.disk_faults ≤ b.disk_faults → (IsErrOf {T = V} {E = StoreFault} (Err fault) Failed → Rose b.disk_faults c.disk_faults) → WritesWide {T = U} result place t segments f g a c
@@ -47,6 +47,7 @@ module _ (place : Place) (t : TallyView) (segments : ℕ) (f g : Batch) (a b c :
     steps = steps;
     written = tt;
     journal = journal;
+    turn = turn;
     cost = cost;
     damaged = damaged;
     cause = cause;
@@ -80,6 +81,7 @@ module _ (place : Place) (t : TallyView) (segments : ℕ) (f g : Batch) (r s : O
     written = always result (λ told i lt.
         subst (λ (held : List ℕ). HasWritten (in_wide place) (spread_over segments (rows (array_of a.held))) segments held) (sym (read.steps.held (told_on wrote.steps.frame told))) (wrote.written told) i lt);
     journal = wrote.journal;
+    turn = wrote.turn;
     cost = omega (arith, wrote.cost, ap (λ (x : Travel). x.written) read.reads, walk_written place.layout place.region r.reader.next s.reader.next b.travel);
     damaged = told_before result read.damaged;
     cause = last_read result read.cause;

@@ -4,12 +4,14 @@ use Rattle.station.specs.View.{View, Told, EachHeld, NothingPending, Rose}
 use Rattle.station.specs.Steps.{Steps}
 use Rattle.density_rule.specs.Spread.{resized_counts}
 use Rattle.density_rule.specs.Marks.{resized_marks}
+use Rattle.header_gate.specs.InPlace.{IsBare}
 use Rattle.header_gate.specs.Places.{IsLayout, file_length, height_limit, segment_size}
 use Rattle.key_slot.specs.Record.{Bytes}
 use Rattle.map_model.specs.Array.{segment_at, resized}
 use Rattle.map_model.specs.Image.{array_of}
 use Rattle.redo_journal.specs.declared.place.Place.{Place}
 use Rattle.redo_journal.specs.Frames.{Batch}
+use Rattle.redo_journal.specs.Rest.{RestsAt}
 use Rattle.segment.specs.Rows.{key_at}
 use Rattle.segment.specs.declared.fault.StoreFault.{StoreFault}
 use Rattle.segment.specs.declared.fault.StoreFault.TheVariants.{Failed}
@@ -20,7 +22,8 @@ use Rattle.resize_region.specs.Shares.{HasCause}
 use Rattle.segment_frames.specs.Lists.{most_segments}
 use Rattle.resize_region.specs.Source.{Walks, copy_calls}
 
--- a place and a tally that stand for a settled file as far as which the station reaches, and frames for its journal
+-- a place and a tally that stand for a settled file as far as which the station reaches, over which nothing is to be laid,
+-- and frames for its journal
 pub record CanResize (place : Place) (t : TallyView) (frames : Batch) (v : View) : Type 0 where
   pub layout : IsLayout place.layout
   pub region : place.region < 2
@@ -29,11 +32,13 @@ pub record CanResize (place : Place) (t : TallyView) (frames : Batch) (v : View)
   pub hmax : t.hmax ≡ height_limit place.layout
   pub stands : EachHeld (StandsFor place t) v
   pub nothing : NothingPending v
+  pub bare : Told v → IsBare place.layout v.held
 
 -- A resize to a height, whatever it answered.
 pub record ResizesTo {T : Type 0} (height : ℕ) (result : Result T StoreFault) (place after : Place) (t u : TallyView) (fence : ℕ → Option Bytes) (frames : Batch) (a b : View) : Type 0 where
   pub steps : Steps (Resizes place height) a b
   pub settled : OnOk result (NothingPending b)
+  pub rests : OnOk result ((turn : ℕ) → RestsAt place.layout turn a → RestsAt after.layout turn b)
   pub array : OnOk result (Told a → array_of b.held ≡ resized (array_of a.held) height)
   pub stands : OnOk result (EachHeld (StandsFor after u) b)
   pub tally_is : OnOk result (u ≡ record t { height = height; counts = resized_counts t.counts height; marks = resized_marks height })

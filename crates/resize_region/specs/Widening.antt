@@ -12,18 +12,20 @@ use Rattle.map_model.specs.Regions.{Spares}
 use Rattle.map_model.specs.Standing.{StandsWith}
 use Rattle.redo_journal.specs.declared.place.Place.{Place}
 use Rattle.redo_journal.specs.Frames.{Batch}
+use Rattle.redo_journal.specs.Rest.{RestsAt}
 use Rattle.segment.specs.declared.fault.StoreFault.{StoreFault}
 use Rattle.segment.specs.declared.fault.StoreFault.TheVariants.{Failed}
-use Rattle.segment_frames.specs.Standing.{StandsFor}
 use Rattle.window_tally.specs.View.{TallyView}
 use Rattle.resize_region.specs.Aside.{HasWritten}
 use Rattle.resize_region.specs.OldRows.{IsDamageIn}
+use Rattle.resize_region.specs.Shares.{StandsBare}
 use Rattle.resize_region.specs.Source.{Walks}
 use Rattle.resize_region.specs.Upgraded.{Upgrades, widened, in_wide, upgraded, upgraded_height}
 use Rattle.segment_frames.specs.Lists.{most_segments}
 use Rattle.segment_frames.specs.Parts.{parts}
 
--- a store of format 1 on a station, frames for its journal, and so many segments of format 2 with room for its records
+-- a store of format 1 on a station, over whose file nothing is to be laid, frames for its journal, and so many segments of
+-- format 2 with room for its records
 pub record CanWiden (place : Place) (t : TallyView) (segments : ℕ) (frames : Batch) (v : View) : Type 0 where
   pub layout : IsLayout place.layout
   pub narrow_is : place.layout.format ≡ narrow
@@ -31,7 +33,7 @@ pub record CanWiden (place : Place) (t : TallyView) (segments : ℕ) (frames : B
   pub region : place.region < 2
   pub reach : file_length place.layout ≤ v.fixed.reach
   pub journal : frames.journal ≡ place.layout.journal
-  pub stands : EachHeld (StandsFor place t) v
+  pub stands : EachHeld (StandsBare place t) v
   pub some : 1 ≤ segments
   pub room : sum t.counts ≤ SEGMENT_SLOTS * segments
   pub fits : segments ≤ 2 ^ height_limit (widened place.layout)
@@ -41,6 +43,7 @@ pub record WritesWide {T : Type 0} (result : Result T StoreFault) (place : Place
   pub steps : Steps (Spares place.layout place.region) a b
   pub written : OnOk result (Told a → HasWritten (in_wide place) (spread_over segments (rows (array_of a.held))) segments b.held)
   pub journal : g.journal ≡ f.journal
+  pub turn : g.turn ≡ f.turn
   pub cost : b.travel.written ≤ a.travel.written + segment_size (widened place.layout) * segments
   -- where bytes are told only the disk stops it
   pub damaged : IfErr result (λ fault. Told a → fault ≡ Failed)
@@ -55,6 +58,7 @@ widen_calls place height = 2 ^ height + parts (most_segments (widened place.layo
 pub record SpreadsWide {T : Type 0} (result : Result T StoreFault) (place after : Place) (t : TallyView) (a b : View) : Type 0 where
   pub steps : Steps (Upgrades place (upgraded_height place.layout t.height)) a b
   pub settled : OnOk result (NothingPending b)
+  pub rests : OnOk result ((turn : ℕ) → RestsAt place.layout turn a → RestsAt after.layout turn b)
   pub array : OnOk result (Told a → array_of b.held ≡ resized (array_of a.held) (upgraded_height place.layout t.height))
   -- the place, and the height and the counts of the new array, stand for the file
   pub stands : OnOk result (EachHeld (StandsWith after.layout after.region (upgraded_height place.layout t.height) (resized_counts t.counts (upgraded_height place.layout t.height))) b)

@@ -6,8 +6,7 @@ ghost use Rattle.header_gate.specs.Places.{file_length};
 ghost use Rattle.key_slot.specs.Format.{wide};
 ghost use Rattle.key_slot.specs.declared.sizes.TheConstants.{SEGMENT_SLOTS};
 ghost use Rattle.map_model.specs.Image.{array_of};
-ghost use Rattle.segment_frames.specs.Standing.{StandsFor};
-ghost use Rattle.resize_region.specs.Shares.{places, HasShares, share_in};
+ghost use Rattle.resize_region.specs.Shares.{places, HasShares, StandsBare, share_in};
 ghost use Rattle.resize_region.specs.OldRows.{IsAmongRows, IsInOrder, ReadsRows, rows_left, rows_ahead};
 
 use crate::putting::put_row;
@@ -47,7 +46,7 @@ pub(crate) fn gather<S: Station>(
     requires among { IsAmongRows place.now tally.now rows.old }
     requires enough { share ≤ rows_left tally.now.counts rows.old }
     requires order { Told (S.view station.old) → IsInOrder (array_of (S.view station.old).held) rows.old }
-    requires stands { EachHeld (StandsFor place.now tally.now) (S.view station.old) }
+    requires stands { EachHeld (StandsBare place.now tally.now) (S.view station.old) }
     ensures shares { OnOk result (HasShares wide frames.new) }
     ensures among { OnOk result (IsAmongRows place.now tally.now rows.new) }
     ensures order { OnOk result (Told (S.view station.old) → IsInOrder (array_of (S.view station.old).held) rows.new) }
@@ -84,7 +83,7 @@ pub(crate) fn read_rest<S: Station>(
     requires among { IsAmongRows place.now tally.now rows.old }
     requires none { rows_left tally.now.counts rows.old ≡ 0 }
     requires order { Told (S.view station.old) → IsInOrder (array_of (S.view station.old).held) rows.old }
-    requires stands { EachHeld (StandsFor place.now tally.now) (S.view station.old) }
+    requires stands { EachHeld (StandsBare place.now tally.now) (S.view station.old) }
     ensures whole { OnOk result (rows.new.reader.next ≡ 2 ^ tally.now.height) }
     ensures reads { ReadsRows place.now tally.now result rows.old rows.new (S.view station.old) (S.view station.new) }
 {
@@ -103,7 +102,7 @@ fn read_on<S: Station>(
     requires among { IsAmongRows place.now tally.now rows.old }
     requires used_up { rows.old.place ≡ length rows.old.page.rows }
     requires order { Told (S.view station.old) → IsInOrder (array_of (S.view station.old).held) rows.old }
-    requires stands { EachHeld (StandsFor place.now tally.now) (S.view station.old) }
+    requires stands { EachHeld (StandsBare place.now tally.now) (S.view station.old) }
     ensures more { IfOk result (λ more. (more ≡ true) ↔ (rows.old.reader.next < 2 ^ tally.now.height)) }
     ensures next { IfOk result (λ more. more ≡ true → rows.new.reader.next ≡ rows.old.reader.next + 1) }
     ensures among { OnOk result (IsAmongRows place.now tally.now rows.new) }

@@ -6,12 +6,14 @@ ghost use Rattle.station.specs.Steps.{Steps};
 ghost use Rattle.density_rule.specs.Bounds.{upper_of};
 ghost use Rattle.density_rule.specs.Spread.{resized_counts};
 ghost use Rattle.header_gate.specs.declared.layout.Layout.{Layout};
+ghost use Rattle.header_gate.specs.InPlace.{IsBare};
 ghost use Rattle.header_gate.specs.Places.{IsLayout, file_length, height_limit, segment_size};
 ghost use Rattle.key_slot.specs.Format.{narrow, wide};
 ghost use Rattle.map_model.specs.Array.{resized};
 ghost use Rattle.map_model.specs.Image.{array_of};
 ghost use Rattle.map_model.specs.Standing.{StandsWith};
 ghost use Rattle.range_scan.specs.Faults.{IsDamageAt};
+ghost use Rattle.redo_journal.specs.Rest.{RestsAt};
 ghost use Rattle.segment_frames.specs.Standing.{StandsFor};
 ghost use Rattle.resize_region.specs.Source.{Walks};
 ghost use Rattle.resize_region.specs.Upgraded.{Upgrades, TooManyFor, widened, upgraded, upgraded_height};
@@ -50,6 +52,8 @@ pub fn upgrade<S: Station>(
     requires hmax { tally.now.hmax ≡ height_limit place.old.layout }
     requires stands { EachHeld (StandsFor place.old tally.now) (S.view station.old) }
     requires nothing { NothingPending (S.view station.old) }
+    requires bare { Told (S.view station.old) → IsBare place.old.layout (S.view station.old).held }
+    requires rests { RestsAt place.old.layout frames.old.turn (S.view station.old) }
 
     // Three answers, each exactly where it is due, for which no call of the station is made.
     ensures already { (result ≡ Ok Upgrade.Already) ↔ (place.old.layout.format ≡ wide) }
@@ -60,6 +64,7 @@ pub fn upgrade<S: Station>(
     // The same map at every moment.
     ensures steps { Steps (Upgrades place.old (upgraded_height place.old.layout tally.now.height)) (S.view station.old) (S.view station.new) }
     ensures settled { OnOk result (NothingPending (S.view station.new)) }
+    ensures rests { OnOk result (RestsAt place.new.layout frames.new.turn (S.view station.new)) }
 
     // Done.
     ensures array { result ≡ Ok Upgrade.Done → Told (S.view station.old) → array_of (S.view station.new).held ≡
@@ -69,6 +74,7 @@ pub fn upgrade<S: Station>(
     ensures place { result ≡ Ok Upgrade.Done → place.new ≡ upgraded place.old }
     ensures place_kept { (result ≡ Ok Upgrade.Done → ⊥) → place.new ≡ place.old }
     ensures same_journal { frames.new.journal ≡ frames.old.journal }
+    ensures same_turn { frames.new.turn ≡ frames.old.turn }
     ensures cost { (S.view station.new).travel.written ≤ (S.view station.old).travel.written +
         (segment_size (widened place.old.layout) * 2 ^ upgraded_height place.old.layout tally.now.height + 9) }
     ensures reads { (n : ℕ) × (n ≤ 2 ^ tally.now.height) × Walks place.old 0 n (S.view station.old).travel (S.view station.new).travel }
@@ -138,7 +144,9 @@ fn widen<S: Station>(
     requires few { records ≤ upper_of (place.old.layout.hmax - 1) }
     requires stands { EachHeld (StandsFor place.old tally.now) (S.view station.old) }
     requires nothing { NothingPending (S.view station.old) }
+    requires bare { Told (S.view station.old) → IsBare place.old.layout (S.view station.old).held }
     ensures same_journal { frames.new.journal ≡ frames.old.journal }
+    ensures same_turn { frames.new.turn ≡ frames.old.turn }
     ensures spread { SpreadsWide result place.old place.new tally.now (S.view station.old) (S.view station.new) }
 {
     let height = tally.height().min(place.layout.hmax - 1);

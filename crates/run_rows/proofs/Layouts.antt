@@ -1,6 +1,7 @@
 -- The longest file of the tests.
 use Rattle.std.proofs.Common.{◌≡◌, ℕ, ◌^◌, ◌≤◌, Option, Some, sym, ap, subst, ◌∙◌, arith}
 use Rattle.std.proofs.Math.Pow.{pow_mono}
+use Rattle.header_gate.proofs.Shifts.{shift_single}
 use Rattle.header_gate.specs.Places.{area_size, file_length}
 use Rattle.header_gate.specs.declared.layout.Layout.{Layout}
 use Rattle.pma_engine.specs.Words.{layout_of, indexed_layout, made_by}
@@ -12,7 +13,7 @@ pub short_file : (height journal : ℕ) → height ≤ 4 → journal ≤ 16 → 
 unfolding area_size
 short_file height journal low few =
     let power : 2 ^ height ≤ 2 ^ 4 = pow_mono {i = height} {j = 4} low in
-    omega (arith, few, power)
+    omega (arith, few, power, shift_single (layout_of height journal) 1 (λ paired. omega (arith, paired)))
 
 -- the same of what words ask for, where its height and journal were read
 pub short_made : (job : Option Job) (h j : ℕ) (l : Layout) → job ≡ Some (Create h j) → made_by job ≡ Some l → h ≤ 4 → j ≤ 16 → file_length l ≤ 204800
@@ -26,7 +27,7 @@ pub short_indexed : (height journal : ℕ) → height ≤ 3 → journal ≤ 8 �
 unfolding area_size
 short_indexed height journal low few =
     let power : 2 ^ height ≤ 2 ^ 3 = pow_mono {i = height} {j = 3} low in
-    omega (arith, few, power)
+    omega (arith, few, power, shift_single (indexed_layout height journal) 1 (λ paired. omega (arith, paired)))
 
 pub short_indexed_made : (job : Option Job) (h j : ℕ) (l : Layout) → job ≡ Some (CreateIndexed h j) → made_by job ≡ Some l → h ≤ 3 → j ≤ 8 → file_length l ≤ 204800
 short_indexed_made job h j l is made low few =

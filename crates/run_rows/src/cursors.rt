@@ -1,8 +1,9 @@
 //! Worked sessions with cursors: what they give while records come and go, what their names are, and how many there may be.
 
-use super::rows::{Part, answered, push_lines};
+use super::rows::{Part, answered, answered_on, push_lines};
 use super::sessions::{SMOOTH, created, push_key, see_kept, see_session};
-use Part::Lines;
+use super::upgrades::see_upgraded;
+use Part::{Back, Lines, Put};
 use std::test::Fail;
 
 // A script on a new store of height limit 2, and its replies.
@@ -39,6 +40,31 @@ const WALKS: &[Row] = &[
     ),
 ];
 
+// Walks back, on a new store of either slot format.
+const WALKS_BACK: &[&[Part]] = &[
+    // the manual's: back, on, and back again, past a record that was removed
+    &[Lines(
+        b"put a\nput b\nput c\nput d\nopen x * *\nprev x\nprev x\nnext x\nprev x\nremove b\nprev x\nprev x\nprev x\n",
+        b"stored\nstored\nstored\nstored\nopened\nrecord d\nrecord c\nrecord d\nrecord c\nremoved\nrecord a\nend\nno cursor\n",
+    )],
+    // bounds, and records that are put on the way and behind it
+    &[Lines(
+        b"put a\nput b 1\nput c\nput d\nopen x b d\nput b 2\nprev x\nput bz 3\nput cc\nprev x\nprev x\nprev x\n",
+        b"stored\nstored\nstored\nstored\nopened\nreplaced\nrecord c\nstored\nstored\nrecord bz 3\nrecord b 2\nend\n",
+    )],
+    // the 97th record spreads the two segments, and the 127th grows the store
+    &[
+        Put(1, 65),
+        Lines(b"open x * *\n", b"opened\n"),
+        Back(65, 60),
+        Put(66, 97),
+        Back(59, 40),
+        Put(98, 127),
+        Back(39, 1),
+        Lines(b"prev x\ncheck\n", b"end\ncheck ok records=127 height=2\n"),
+    ],
+];
+
 // Names of cursors, and lines that are no commands.
 const NAMES: &[Row] = &[
     (
@@ -53,6 +79,10 @@ const NAMES: &[Row] = &[
         b"open abcdefghijklmnopqrstuvwxy * *\nopen x * abcdefghijklmnopqrstuvwxy\nnext abcdefghijklmnopqrstuvwxy\nopen x *\nopen x * * 1\nnext\nclose x y\nnext x\n",
         b"oversized key 24\noversized key 24\noversized key 24\nbad words\nbad words\nbad words\nbad words\nno cursor\n",
     ),
+    (
+        b"open x * *\nprev x\nprev x\nprev abcdefghijklmnopqrstuvwxy\nprev\nprev x y\n",
+        b"opened\nend\nno cursor\noversized key 24\nbad words\nbad words\n",
+    ),
 ];
 
 #[test]
@@ -61,6 +91,17 @@ fn cursors_are_answered(rt: HostRuntime) -> Result<(), Fail> {
         for (script, want) in rows {
             answered(&rt, rt.alloc(), "2", None, &[Lines(script, want)])?;
         }
+    }
+    Ok(())
+}
+
+#[test]
+fn cursors_go_back(rt: HostRuntime) -> Result<(), Fail> {
+    let narrow = answered(&rt, rt.alloc(), "3", None, &[])?;
+    let wide = see_upgraded(&rt, rt.alloc(), &narrow, (0, b""))?;
+    for parts in WALKS_BACK {
+        answered_on(&rt, rt.alloc(), &narrow, parts)?;
+        answered_on(&rt, rt.alloc(), &wide, parts)?;
     }
     Ok(())
 }

@@ -14,11 +14,13 @@ pub(super) enum Part {
     Put(u32, u32),
     // They are removed, and each is `removed`.
     Remove(u32, u32),
+    // The cursor x steps back over them, from the first number down to the second, and gives each with the empty value.
+    Back(u32, u32),
     // Lines, and their replies.
     Lines(&'static [u8], &'static [u8]),
 }
 
-use Part::{Lines, Put, Remove};
+use Part::{Back, Lines, Put, Remove};
 
 // A line for each key from the first number to the last: a word, a space if there is one, and the key.
 pub(super) fn push_lines(
@@ -43,6 +45,22 @@ fn push_replies(want: &mut Vec<u8>, reply: &[u8], first: u32, last: u32) -> Resu
     Ok(())
 }
 
+// Adds steps back of a cursor to a script, and to its replies the records that they give.
+fn push_steps_back(
+    script: &mut Vec<u8>,
+    want: &mut Vec<u8>,
+    first: u32,
+    last: u32,
+) -> Result<(), Fail> {
+    for step in 0..=first.saturating_sub(last) {
+        script.extend_from_slice(b"prev x\n")?;
+        want.extend_from_slice(b"record ")?;
+        push_key(want, first.saturating_sub(step))?;
+        want.push(b'\n')?;
+    }
+    Ok(())
+}
+
 // Adds a part to a script and to its replies.
 fn push_part(script: &mut Vec<u8>, want: &mut Vec<u8>, part: Part) -> Result<(), Fail> {
     match part {
@@ -54,6 +72,7 @@ fn push_part(script: &mut Vec<u8>, want: &mut Vec<u8>, part: Part) -> Result<(),
             push_lines(script, b"remove ", first, last)?;
             push_replies(want, b"removed\n", first, last)
         }
+        Back(first, last) => push_steps_back(script, want, first, last),
         Lines(lines, replies) => {
             script.extend_from_slice(lines)?;
             want.extend_from_slice(replies)?;

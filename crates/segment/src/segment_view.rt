@@ -7,19 +7,18 @@ ghost use Rattle.key_slot.specs.Record.{Bytes, key_cmp, IsAscending};
 ghost use Rattle.key_slot.specs.Row.{record_of};
 ghost use Rattle.key_slot.specs.Segment.{IsSegment, first_bad_slot, segment_of};
 ghost use Rattle.segment.specs.Judged.{damage_of};
+ghost use Rattle.segment.specs.Fields.{IsWhole, row_in};
 ghost use Rattle.segment.specs.Rows.{key_at, value_at, value_of, IsGap, BeginsAt};
 
 use super::counted::count_rows;
 use super::fault::{BadSegment, Damage, StoreFault};
 use super::judging::judge_kept;
 use super::segment::Segment;
+use super::slot::{Slot, narrow_fields, wide_fields};
 use key_slot::{
-    Key, Row, SEGMENT_SIZE, SEGMENT_SLOTS, SLOT_SIZE, compare_key, key_bytes, key_of, row_of,
-    value_bytes,
+    Key, Row, SEGMENT_SIZE, SEGMENT_SLOTS, SLOT_SIZE, compare_key, key_of, row_of, value_bytes,
 };
-use slot_wide::{
-    WIDE_SIZE, compare_wide_key, wide_key_bytes, wide_key_of, wide_row_of, wide_value_bytes,
-};
+use slot_wide::{WIDE_SIZE, compare_wide_key, wide_key_of, wide_row_of, wide_value_bytes};
 use std::cmp::Ordering;
 use std::marker::Model;
 
@@ -106,19 +105,20 @@ impl<'a> SegmentView<'a> {
         self.len as u32
     }
 
-    /// The bytes of the key at place `i`, where they lie.
+    /// The slot of the row at place `i`, by its whole fields.
     #[inline(always)]
-    pub fn key_bytes(&self, i: u32) -> &'a [u8]
+    pub fn slot(&self, i: u32) -> Slot<'a>
         requires { i < length self.now }
-        ensures { key_at self.now i ≡ Some result.now }
+        ensures whole { IsWhole result }
+        ensures row { slice_get self.now i ≡ Some (row_in result) }
     {
         let bytes = self.bytes;
         if bytes.len() == SEGMENT_SIZE {
             let (slots, _) = bytes.as_chunks::<SLOT_SIZE>();
-            key_bytes(&slots[i as usize])
+            Slot::Narrow(narrow_fields(&slots[i as usize]))
         } else {
             let (slots, _) = bytes.as_chunks::<WIDE_SIZE>();
-            wide_key_bytes(&slots[i as usize])
+            Slot::Wide(wide_fields(&slots[i as usize]))
         }
     }
 
@@ -232,9 +232,9 @@ impl<'a> SegmentView<'a> {
         Some(self.key(self.len as u32 - 1))
     }
 
-    // How the key at a place compares with a key.
+    /// How the key at a place compares with a key.
     #[inline(always)]
-    fn compare(&self, place: u32, key: &Key) -> Ordering
+    pub fn compare(&self, place: u32, key: &Key) -> Ordering
         requires { place < length self.now }
         ensures { (there : Bytes) → key_at self.now place ≡ Some there → result ≡ key_cmp there key.now }
     {

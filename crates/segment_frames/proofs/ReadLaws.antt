@@ -21,6 +21,8 @@ use Rattle.map_model.proofs.Headers.{even_segment}
 use Rattle.raw_slots.specs.Slots.{bytes_of, slots_in}
 use Rattle.raw_slots.proofs.SlotLists.{length-slots_in}
 use Rattle.raw_slots.proofs.Runs.{run_bytes, length-splice}
+use Rattle.header_gate.specs.declared.layout.Layout.{Layout}
+use Rattle.header_gate.specs.InPlace.{IsRecovered}
 use Rattle.redo_journal.specs.declared.place.Place.{Place}
 use Rattle.redo_journal.specs.Commit.{IsAt}
 use Rattle.redo_journal.specs.Frames.{Batch, IsFrames}
@@ -145,14 +147,14 @@ all_held format b known is pages each = record {
 -- Segments of a settled image.
 
 module _ (place : Place) (image : List ℕ) (is : IsSettledAt place image) where
-  -- the bytes at its place are the segment's
-  pub settled_segment : (n : ℕ) → n < 2 ^ height_of image → segment_bytes_at place image n ≡ live_segment image n
-  settled_segment n lt =
+  -- the bytes at its place are the segment's, where the journal lies in place
+  pub settled_segment : IsRecovered place.layout image → (n : ℕ) → n < 2 ^ height_of image → segment_bytes_at place image n ≡ live_segment image n
+  settled_segment done n lt =
       let inner : n < 2 ^ height_limit (layout_in image) = omega (arith, lt, pow-le-pow_right {n = 2} (omega arith) is.represents.header.height) in
       let layout : place.layout ≡ layout_in image = sym is.layout_is in
       let region : place.region ≡ live_copy image = sym is.region_is in
       (λ t. slice_range image (segment_place (layout t) (region t) n) (segment_place (layout t) (region t) n + segment_size (layout t)))
-      ∙ sym (even_segment image is.represents.header is.gate_even n inner)
+      ∙ sym (even_segment image is.represents.header (subst (λ (l : Layout). IsRecovered l image) layout done) n inner)
 
   pub length-array_of : length (array_of image) ≡ 2 ^ height_of image
   unfolding array_in

@@ -3,7 +3,7 @@
 use Rattle.std.specs.Prelude.{ℕ, zero, suc, ◌+◌, ◌-◌, ◌*◌, ◌/◌, ◌%◌, ◌^◌, nat_lt, ◌==◌, if◌then◌else◌, List, [], ◌∷◌, ◌++◌, length, replicate, decimal, Some, None}
 use Rattle.key_slot.specs.Record.{Bytes}
 use Rattle.command_text.specs.declared.command.Command.{Command}
-use Rattle.command_text.specs.declared.command.Command.TheVariants.{Nothing, Put, Remove, Batch, Get, Range, Check, Probe, Cost, Open, Next, Close, OversizedKey, OversizedValue, RepeatedKey, Bad}
+use Rattle.command_text.specs.declared.command.Command.TheVariants.{Nothing, Put, Remove, Batch, Get, Range, Check, Probe, Cost, Open, Next, Prev, Close, OversizedKey, OversizedValue, RepeatedKey, Bad}
 
 -- the number that the generator holds after this one
 unfoldable pub next_draw : ℕ → ℕ
@@ -54,6 +54,7 @@ AsksForRecords Check = ⊥
 AsksForRecords Cost = ⊥
 AsksForRecords (Open name low high) = ⊥
 AsksForRecords (Next name) = ⊥
+AsksForRecords (Prev name) = ⊥
 AsksForRecords (Close name) = ⊥
 AsksForRecords (Probe key block) = ⊥
 AsksForRecords OversizedKey = ⊥

@@ -52,6 +52,7 @@ returns-in-Ok-clause-frames g c =
     let is = c.requires.frames in
     record {
       journal = is.journal;
+      turn = is.turn;
       frames = length-written b.slots 0 (SEGMENT_SLOTS * c.args.place.now.layout.format * c.args.count) c.read_at.new.buf (omega (arith, room g at)) ∙ is.frames;
       few = is.few;
       ascends = is.ascends;
@@ -71,6 +72,7 @@ returns-in-Err-clause-frames g c =
     let is = c.requires.frames in
     record {
       journal = is.journal;
+      turn = is.turn;
       frames = length-written b.slots 0 (SEGMENT_SLOTS * c.args.place.now.layout.format * c.args.count) c.read_at.new.buf (omega (arith, room g at)) ∙ is.frames;
       few = is.few;
       ascends = is.ascends;

@@ -9,10 +9,13 @@ use Rattle.map_model.specs.Image.{Represents}
 use Rattle.map_model.proofs.Spreading.{counts-spread_over}
 use Rattle.segment_frames.specs.Standing.{IsSettledAt, StandsFor}
 use Rattle.map_model.specs.Regions.{Spares}
-use Rattle.resize_region.proofs.ResizeLaws.{leaves_all}
+use Rattle.redo_journal.specs.Rest.{RestsAt}
+use Rattle.station.specs.Steps.{Steps}
+use Rattle.resize_region.specs.Shares.{StandsBare}
+use Rattle.resize_region.proofs.ResizeLaws.{leaves_all, bare_of, rests_new}
 use Rattle.resize_region.proofs.SettledLaws.{stands_kept}
 use Rattle.bulk_load.specs.Loads.{most_records, TextFor, Loads}
-use Rattle.bulk_load.proofs.LoadLaws.{tall_limit, spare_loads, loads_same, flips_load, represents, array_new, settled_new, enough, at_of, no_records_fault, file_fault, file_no_damage}
+use Rattle.bulk_load.proofs.LoadLaws.{tall_limit, bare_new, spare_loads, loads_same, flips_load, represents, array_new, settled_new, enough, at_of, no_records_fault, file_fault, file_no_damage}
 use Rattle.bulk_load.specs.Faults.{IsLoadFault, IsNoDamage, IsNoDisk, IsShownBy, load_fault_of}
 use Rattle.bulk_load.proofs.CauseLaws.{file_shown}
 use Rattle.bulk_load.proofs.ReadLaws.{takes_none}
@@ -43,7 +46,7 @@ both g c d e i left one two =
     let same : d ≡ a.held = only_held a c.requires.nothing d left in
     let w = c.in_ok-loaded.ensures.written in
     subst (λ (x : List ℕ). Loads place (Text g c) x i) (sym same)
-    (flips_load place c.in_ok-loaded.loaded.height w.0 a.held b.held c.requires.region (c.requires.stands a.held (inl (told, refl))).settled (c.write_text.ensures.steps.held told) c.requires.layout w.1.limit
+    (flips_load place c.in_ok-loaded.loaded.height w.0 a.held b.held c.requires.region (c.requires.stands a.held (inl (told, refl))).settled (c.requires.bare told) (c.write_text.ensures.steps.held told) c.requires.layout w.1.limit
     w.1.are_rows w.1.least (w.1.written (told_on c.write_text.ensures.steps.frame told)) (Text g c) w.1.text i e (subst (λ (x : List ℕ). Spares place.layout place.region x e) same one) two)
 
 -- The store holds records.
@@ -51,7 +54,7 @@ both g c d e i left one two =
 pub returns-then-records-gt0-clause-steps : goal.returns-then-records-gt0-clause-steps
 returns-then-records-gt0-clause-steps g c =
     let T = TextFor c.args.place.now.layout c.args.reader.now (g.I.Source.view c.args.source.now) in
-    weaken (no_steps (g.S.Station.view c.args.station.now)) (λ d i left same. subst (λ (x : List ℕ). Loads c.args.place.now T d x) (sym same) (loads_same c.args.place.now T d (c.requires.stands d left).settled))
+    weaken (no_steps (g.S.Station.view c.args.station.now)) (λ d i left same. subst (λ (x : List ℕ). Loads c.args.place.now T d x) (sym same) (loads_same c.args.place.now T d (c.requires.stands d left).settled (bare_of c.args.place.now (g.met.S.Station.lawful c.args.station.now) c.requires.nothing c.requires.bare d left)))
 
 pub returns-then-records-gt0-clause-fault : goal.returns-then-records-gt0-clause-fault
 returns-then-records-gt0-clause-fault g c =
@@ -74,13 +77,13 @@ write_text-requires-clause-can g c = record {
 
 pub returns-in_err-loaded-clause-steps : goal.returns-in_err-loaded-clause-steps
 returns-in_err-loaded-clause-steps g c =
-    weaken c.write_text.ensures.steps (λ d i left step. spare_loads c.args.place.now (TextFor c.args.place.now.layout c.args.reader.now (g.I.Source.view c.args.source.now)) d i (c.requires.stands d left).settled step)
+    weaken c.write_text.ensures.steps (λ d i left step. spare_loads c.args.place.now (TextFor c.args.place.now.layout c.args.reader.now (g.I.Source.view c.args.source.now)) d i (c.requires.stands d left).settled (bare_of c.args.place.now (g.met.S.Station.lawful c.args.station.now) c.requires.nothing c.requires.bare d left) step)
 
 pub returns-in_err-loaded-clause-kept : goal.returns-in_err-loaded-clause-kept
 returns-in_err-loaded-clause-kept g c =
     let p = err_from_is_err_and c.from_residual.result c.from_residual.ensures.1 in
     let Stands = StandsFor c.args.place.now c.args.tally.now in
-    rw (p.1, p.2) (λ no_disk. each_on Stands Stands c.write_text.ensures.steps c.requires.stands (λ d i is step. stands_kept c.args.place.now c.args.tally.now d i is step))
+    rw (p.1, p.2) (λ no_disk. each_on (StandsBare c.args.place.now c.args.tally.now) Stands c.write_text.ensures.steps (λ d left. record { stands = c.requires.stands d left; bare = bare_of c.args.place.now (g.met.S.Station.lawful c.args.station.now) c.requires.nothing c.requires.bare d left }) (λ d i is step. (stands_kept c.args.place.now c.args.tally.now d i is step).stands))
 
 pub returns-in_err-loaded-clause-fault : goal.returns-in_err-loaded-clause-fault
 returns-in_err-loaded-clause-fault g c =
@@ -99,12 +102,12 @@ make_live-requires-clause-other g c =
 pub returns-in-Ok-clause-steps : goal.returns-in-Ok-clause-steps
 returns-in-Ok-clause-steps g c =
     let at = (goal.at.returns-in-Ok-clause-steps g c).In_ok-loaded in
-    andthen c.write_text.ensures.steps c.make_live.ensures.steps (λ d i left step. spare_loads c.args.place.now (Text g at) d i (c.requires.stands d left).settled step) (λ d e i left one mid two. both g at d e i left one two)
+    andthen c.write_text.ensures.steps c.make_live.ensures.steps (λ d i left step. spare_loads c.args.place.now (Text g at) d i (c.requires.stands d left).settled (bare_of c.args.place.now (g.met.S.Station.lawful c.args.station.now) c.requires.nothing c.requires.bare d left) step) (λ d e i left one mid two. both g at d e i left one two)
 
 pub returns-in-Err-clause-steps : goal.returns-in-Err-clause-steps
 returns-in-Err-clause-steps g c =
     let at = (goal.at.returns-in-Err-clause-steps g c).In_ok-loaded in
-    andthen c.write_text.ensures.steps c.make_live.ensures.steps (λ d i left step. spare_loads c.args.place.now (Text g at) d i (c.requires.stands d left).settled step) (λ d e i left one mid two. both g at d e i left one two)
+    andthen c.write_text.ensures.steps c.make_live.ensures.steps (λ d i left step. spare_loads c.args.place.now (Text g at) d i (c.requires.stands d left).settled (bare_of c.args.place.now (g.met.S.Station.lawful c.args.station.now) c.requires.nothing c.requires.bare d left) step) (λ d e i left one mid two. both g at d e i left one two)
 
 pub returns-in-Err-clause-fault : goal.returns-in-Err-clause-fault
 returns-in-Err-clause-fault g c =
@@ -140,18 +143,33 @@ returns-in-Ok-clause-loaded g c =
         array = λ told_n.
             let told_b = told_back c.make_live.ensures.steps.frame told_n in
             let told = told_back c.write_text.ensures.steps.frame told_b in
-            array_new place loaded.height w.0 a.held b.held c.requires.region (c.requires.stands a.held (inl (told, refl))).settled (c.write_text.ensures.steps.held told) c.requires.layout w.1.limit w.1.are_rows w.1.least (w.1.written told_b) n.held (c.in-Ok.ensures.flipped told_b);
+            array_new place loaded.height w.0 a.held b.held c.requires.region (c.requires.stands a.held (inl (told, refl))).settled (c.requires.bare told) (c.write_text.ensures.steps.held told) c.requires.layout w.1.limit w.1.are_rows w.1.least (w.1.written told_b) n.held (c.in-Ok.ensures.flipped told_b);
         balanced = subst (IsBalanced loaded.height) (sym counts) (balanced_spread (length w.0) loaded.height (omega (arith, w.1.limit, tall_limit place.layout c.requires.layout)) (enough (length w.0) loaded.height (omega (arith, w.1.limit, tall_limit place.layout c.requires.layout)) w.1.least) w.1.least.holds);
         represents = each_held n (λ image. Represents image (from_sorted w.0) loaded.height) lawful c.in-Ok.ensures.settled (λ told_n.
             let told_b = told_back c.make_live.ensures.steps.frame told_n in
             let told = told_back c.write_text.ensures.steps.frame told_b in
-            represents place loaded.height w.0 a.held b.held c.requires.region (c.requires.stands a.held (inl (told, refl))).settled (c.write_text.ensures.steps.held told) c.requires.layout w.1.limit w.1.are_rows w.1.least (w.1.written told_b) n.held (c.in-Ok.ensures.flipped told_b));
+            represents place loaded.height w.0 a.held b.held c.requires.region (c.requires.stands a.held (inl (told, refl))).settled (c.requires.bare told) (c.write_text.ensures.steps.held told) c.requires.layout w.1.limit w.1.are_rows w.1.least (w.1.written told_b) n.held (c.in-Ok.ensures.flipped told_b));
         settled = each_held n (IsSettledAt (record place { region = 1 - place.region })) lawful c.in-Ok.ensures.settled (λ told_n.
             let told_b = told_back c.make_live.ensures.steps.frame told_n in
             let told = told_back c.write_text.ensures.steps.frame told_b in
-            settled_new place loaded.height w.0 a.held b.held c.requires.region (c.requires.stands a.held (inl (told, refl))).settled (c.write_text.ensures.steps.held told) c.requires.layout w.1.limit w.1.are_rows w.1.least (w.1.written told_b) n.held (c.in-Ok.ensures.flipped told_b));
+            settled_new place loaded.height w.0 a.held b.held c.requires.region (c.requires.stands a.held (inl (told, refl))).settled (c.requires.bare told) (c.write_text.ensures.steps.held told) c.requires.layout w.1.limit w.1.are_rows w.1.least (w.1.written told_b) n.held (c.in-Ok.ensures.flipped told_b));
       },
     )
+
+pub returns-in-Ok-clause-rests : goal.returns-in-Ok-clause-rests
+returns-in-Ok-clause-rests g c =
+    let at = (goal.at.returns-in-Ok-clause-rests g c).In_ok-loaded in
+    let place = c.args.place.now in
+    let loaded = c.in_ok-loaded.loaded in
+    let a = g.S.Station.view c.args.station.now in
+    let b = g.S.Station.view c.write_text.new.station in
+    let n = g.S.Station.view c.make_live.new.station in
+    let w = c.in_ok-loaded.ensures.written in
+    let steps : Steps (Loads place (Text g at)) a n = andthen c.write_text.ensures.steps c.make_live.ensures.steps (λ d i left step. spare_loads place (Text g at) d i (c.requires.stands d left).settled (bare_of c.args.place.now (g.met.S.Station.lawful c.args.station.now) c.requires.nothing c.requires.bare d left) step) (λ d e i left one mid two. both g at d e i left one two) in
+    subst (λ (turn : ℕ). RestsAt place.layout turn n) (sym c.write_text.ensures.turn)
+    (rests_new place.layout place.layout c.args.frames.now.turn (g.met.S.Station.lawful c.make_live.new.station) c.in-Ok.ensures.settled steps.frame refl (λ told. (steps.held told).gate_is) (λ told.
+    let told_b = told_on c.write_text.ensures.steps.frame told in
+    bare_new place loaded.height w.0 a.held b.held c.requires.region (c.requires.stands a.held (inl (told, refl))).settled (c.requires.bare told) (c.write_text.ensures.steps.held told) c.requires.layout w.1.limit w.1.are_rows w.1.least (w.1.written told_b) n.held (c.in-Ok.ensures.flipped told_b)) c.requires.rests)
 
 -- What shows the damage.
 

@@ -20,6 +20,7 @@ returns-clause-writes g c =
           (λ i lt. is.held i (omega (arith, lt, c.requires.few, room))) (λ i lt fits. c.in_ok-write_shares.ensures.written told i lt fits) (c.write_shares.ensures.others told) packed;
       same = refl;
       journal = ap (λ (b : Batch). b.journal) c.clear_shares.ensures.rest;
+      turn = ap (λ (b : Batch). b.turn) c.clear_shares.ensures.rest;
       steps = c.write_shares.ensures.steps;
       fault = tt;
       failed = λ is. absurd (never_failed {T = Unit {0}} tt is);

@@ -47,6 +47,7 @@ loop-line-init g c = record {
   steps = none_spares c.args.place.now (g.S.Station.view c.args.station.now) c.requires.can.live;
   can = record { layout = c.requires.can.layout; region = c.requires.can.region; reach = c.requires.can.reach; journal = c.start_shares.ensures.journal ∙ c.requires.can.journal; live = c.requires.can.live };
   journal = c.start_shares.ensures.journal;
+  turn = c.start_shares.ensures.turn;
   cost = omega arith;
   calls = (0, omega arith, omega arith);
 }
@@ -97,6 +98,7 @@ loop-line-preserved g c =
       steps = spares_on c.args.place.now here.steps c.take_line.ensures.steps;
       can = fill_on c.args.place.now c.loop-line.frames c.take_line.new.frames here.can c.take_line.ensures.journal c.take_line.ensures.steps;
       journal = c.take_line.ensures.journal ∙ here.journal;
+      turn = c.take_line.ensures.turn ∙ here.turn;
       cost = cost_on (segment_size c.args.place.now.layout) c.loop-line.taken.written c.take_line.new.taken.written (g.S.Station.view c.args.station.now).travel.written (g.S.Station.view c.loop-line.station).travel.written (g.S.Station.view c.take_line.new.station).travel.written
           c.in-Ok.ensures.onward here.cost c.in-Ok.ensures.cost;
       calls = runs_on _ 0 c.loop-line.taken.written c.take_line.new.taken.written _ _ _ (omega arith) c.in-Ok.ensures.onward here.calls c.in-Ok.ensures.calls;

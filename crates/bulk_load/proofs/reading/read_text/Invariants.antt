@@ -27,6 +27,7 @@ invariant-loop-line g l = record {
   steps : Steps (Spares l.place.layout l.place.region) (g.S.Station.view l.fn.station) (g.S.Station.view l.station);
   can : CanFill l.place l.frames (g.S.Station.view l.station);
   journal : l.frames.journal ≡ l.fn.frames.journal;
+  turn : l.frames.turn ≡ l.fn.frames.turn;
   cost : (g.S.Station.view l.station).travel.written ≤ (g.S.Station.view l.fn.station).travel.written + segment_size l.place.layout * l.taken.written;
   calls : WritesRuns (room_in l.place.layout) 0 l.taken.written (g.S.Station.view l.fn.station).calls (g.S.Station.view l.station).calls;
 }

@@ -29,6 +29,7 @@ returns-else-not-ends g c =
       faulty = tt;
       onward = omega arith;
       journal = refl;
+      turn = refl;
       steps = none_spares c.args.place.now (g.S.Station.view c.args.station.now) c.requires.can.live;
       cost = omega arith;
       calls = (0, omega arith, omega arith);

@@ -43,6 +43,7 @@ loop-end-init g c =
       steps = none_spares c.args.place.now (g.S.Station.view c.args.station.now) c.requires.can.live;
       can = c.requires.can;
       journal = refl;
+      turn = refl;
       cost = omega arith;
       calls = copy_none _ _ _ _ _ _ _;
       are = λ told rows are long packed. are_first c.args.place.now c.args.records rows c.args.frames.now (record { room = c.room_of-all.result / 2; rest = c.args.records; unread = c.used_by.result }) (g.S.Station.view c.args.station.now).held are long half refl c.used_by.ensures packed c.requires.empty;
@@ -150,6 +151,7 @@ loop-end-preserved g c =
       steps = spares_on place (spares_on place inv.steps (same_spares place inv.can.live fill.reads.steps)) c.write_aside.ensures.steps;
       can = fill_on place c.fill_places.new.frames c.clear_places.new.frames middle (ap (λ (b : Batch). b.journal) clear.rest) c.write_aside.ensures.steps;
       journal = ap (λ (b : Batch). b.journal) clear.rest ∙ ap (λ (b : Batch). b.journal) fill.reads.rest ∙ inv.journal;
+      turn = ap (λ (b : Batch). b.turn) clear.rest ∙ ap (λ (b : Batch). b.turn) fill.reads.rest ∙ inv.turn;
       cost = spent (segment_size place.layout) low n c.loop-end.end (g.S.Station.view c.loop-end.station).travel.written (g.S.Station.view c.write_aside.new.station).travel.written ((g.S.Station.view c.args.station.now).travel.written + segment_size place.layout * c.args.segments) (next g at)
           (omega (arith, c.write_aside.ensures.cost, fill.reads.unwritten)) inv.cost;
       calls =

@@ -44,6 +44,7 @@ returns-in-Ok-load_area-clause-opened g c =
       indexed = ap (λ (l : Layout). l.version) layout ∙ c.requires.indexed;
       unrested = loaded_marks parts.tally c.load_area.new.tally kept (ap (λ (t : TallyView). t.marks) c.in-Ok.ensures.tally ∙ ap (λ (t : TallyView). no_marks t.height) (sym c.in-Ok.ensures.tally));
       no_intent = c.in-Ok.ensures.intent;
+      turn = c.in-Ok.ensures.turn;
       travel = c.in-Ok-load_area.ensures.travel ∙ ap (λ (h : ℕ). after_area c.in-Ok.parts.place.layout h (g.S.Station.view c.args.station.now).travel) (sym next);
       calls = omega (arith, c.load_area.ensures.calls, ap area_calls next);
     }

@@ -17,7 +17,7 @@ returns-in-Ok-clause-takes g c =
     let b = g.S.Station.view c.close_clean.new.station in
     record {
       store = c.from_parts.ensures.store;
-      on = subst (λ (s : StoreView). IsOpenOn s b) (sym c.from_parts.ensures.store) (opens_parts c.args.parts a b (g.met.S.Station.lawful c.close_clean.new.station) c.requires.agrees c.requires.quick c.requires.reach closing.steps c.in-Ok.ensures.settled);
+      on = subst (λ (s : StoreView). IsOpenOn s b) (sym c.from_parts.ensures.store) (opens_parts c.args.parts a b (g.met.S.Station.lawful c.close_clean.new.station) c.requires.agrees c.requires.quick c.requires.indexed c.requires.turn c.requires.reach closing.steps c.in-Ok.ensures.settled);
       steps = closing.steps;
       closed = c.in-Ok.ensures.closed;
       cost = closing.cost;

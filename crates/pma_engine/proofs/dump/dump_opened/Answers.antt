@@ -1,9 +1,14 @@
 -- What was said of all records, by the parts of the store, and how it was ended.
-use Rattle.std.proofs.Common.{inl, ap, refl, subst, sym}
+use Rattle.std.proofs.Common.{◌≡◌, inl, ap, refl, subst, sym, ◌∙◌}
 use Rattle.station.specs.View.{Told}
+use Rattle.header_gate.specs.declared.layout.Layout.{Layout}
+use Rattle.header_gate.specs.InPlace.{IsRecovered}
 use Rattle.map_model.specs.Standing.{StandsBalanced}
+use Rattle.redo_journal.specs.declared.place.Place.{Place}
+use Rattle.pma_store.proofs.Resting.{readable_held}
 use Rattle.pma_engine.specs.Dumping.{DumpsOpened}
 use Rattle.pma_engine.proofs.Dumping.{dumped_of}
+use Rattle.pma_engine.proofs.StoreLaws.{nothing_yet}
 use Rattle.pma_engine.proofs.dump.dump_opened.Goals as goal
 use Rattle.pma_engine.proofs.dump.dump_opened.Goals.{After-sweep_all-sweep}
 
@@ -20,6 +25,11 @@ say_sweep-said-requires-clause-sweeping g c told =
     let here = (goal.at.say_sweep-said-requires-clause-sweeping g c).After-sweep_all-sweep in
     c.sweep_all-sweep.ensures.sweeping (g.S.Station.view c.args.station.now).held (stands_by g here told)
 
+pub say_sweep-said-requires-clause-readable : goal.say_sweep-said-requires-clause-readable
+say_sweep-said-requires-clause-readable g c told =
+    let layout : c.sweep_all-sweep.result.reader.layout ≡ c.args.store.place.layout = c.sweep_all-sweep.ensures.layout ∙ ap (λ (p : Place). p.layout) c.into_parts-parts.ensures.place in
+    subst (λ (l : Layout). IsRecovered l (g.S.Station.view c.args.station.now).held) (sym layout) (readable_held c.args.store c.requires.open.on told)
+
 pub returns : goal.returns
 returns g c =
     let here = (goal.at.returns g c).After-sweep_all-sweep in
@@ -27,6 +37,6 @@ returns g c =
     let b = g.S.Station.view c.say_sweep-said.new.station in
     let d = g.S.Station.view c.end_served.new.station in
     subst (λ n. DumpsOpened n a d) (sym c.end_served.ensures.status)
-    (dumped_of c.sweep_all-sweep.result c.say_sweep-said.new.sweep a b (g.met.S.Station.lawful c.args.station.now) (g.met.S.Station.lawful c.say_sweep-said.new.station) c.requires.open.on.settled
+    (dumped_of c.sweep_all-sweep.result c.say_sweep-said.new.sweep a b (g.met.S.Station.lawful c.args.station.now) (g.met.S.Station.lawful c.say_sweep-said.new.station) (nothing_yet c.args.store c.requires.open.on)
     (λ told. c.sweep_all-sweep.ensures.all a.held (stands_by g here told)) c.say_sweep-said.result c.say_sweep-said.ensures d c.end_served.ensures.says
     (λ none. ap g.S.Station.view (c.end_served.ensures.silent none)) c.end_served.ensures.line)

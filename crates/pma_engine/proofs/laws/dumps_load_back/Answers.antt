@@ -21,4 +21,4 @@ returns-clause-map c l s m image format records few told is text =
     let second : loading l.format most (raw_lines s.left) ≡ reads (entries m) true = c.texts_are_read_by_lines.ensures.read l.format most (raw_lines s.left) (entries m) own (omega arith) in
     let both : reads text.rows true ≡ reads (entries m) true = sym first ∙ second in
     let same : text.rows ≡ entries m = cc in
-    (text.height, subst (λ (n : Map). Means image n text.height) (ap from_sorted same ∙ c.dumps_are_load_texts.ensures.map m) text.means)
+    (text.layout, (text.height, subst (λ (n : Map). Means image n text.height) (ap from_sorted same ∙ c.dumps_are_load_texts.ensures.map m) text.means))

@@ -6,17 +6,18 @@ use Rattle.redo_journal.specs.declared.place.Place.{Place}
 use Rattle.pma_store.specs.Store.{StoreView, IsOpenOn}
 use Rattle.pma_engine.specs.Closing.{LeavesIndex}
 use Rattle.pma_engine.proofs.LeftIndexes.{leaves_by, leaves_none, ready_of}
+use Rattle.pma_engine.proofs.StoreLaws.{nothing_yet}
 use Rattle.pma_engine.proofs.leaving.leave_file.Goals as goal
 use Rattle.pma_engine.proofs.leaving.leave_file.Goals.{After-into_parts-parts}
 
 -- the store that has the parts
 abbrev same_store : (g : _) (c : After-into_parts-parts g) → StoreView
 same_store g c =
-    let parts = c.into_parts-parts.result in record { place = parts.place; tally = parts.tally; index = parts.index; journal = parts.frames.journal; closed = c.args.store.closed }
+    let parts = c.into_parts-parts.result in record { place = parts.place; tally = parts.tally; index = parts.index; journal = parts.frames.journal; turn = parts.frames.turn; closed = c.args.store.closed }
 
 same : (g : _) (c : After-into_parts-parts g) → same_store g c ≡ c.args.store
 same g c =
-    let is = c.into_parts-parts.ensures in λ t. record { place = is.place t; tally = is.tally t; index = is.index t; journal = is.journal t; closed = c.args.store.closed }
+    let is = c.into_parts-parts.ensures in λ t. record { place = is.place t; tally = is.tally t; index = is.index t; journal = is.journal t; turn = is.turn t; closed = c.args.store.closed }
 
 open_on : (g : _) (c : After-into_parts-parts g) → IsOpenOn (same_store g c) (g.S.Station.view c.args.station.now)
 open_on g c = subst (λ (s : StoreView). IsOpenOn s (g.S.Station.view c.args.station.now)) (sym (same g c)) c.requires.open
@@ -32,6 +33,9 @@ leave_index-requires-clause-ready g c =
     let here = (goal.at.leave_index-requires-clause-ready g c).After-into_parts-parts in
     let is : c.into_parts-parts.result.place.layout.version ≡ INDEXED = grind (arith, nat_tests, c.if-parts-ne-INDEXED.false) in
     ready_of (same_store g here) (g.S.Station.view c.args.station.now) (open_on g here) c.requires.shut is
+
+pub leave_index-requires-clause-nothing : goal.leave_index-requires-clause-nothing
+leave_index-requires-clause-nothing g c = nothing_yet c.args.store c.requires.open.on
 
 pub returns-in-Ok : goal.returns-in-Ok
 returns-in-Ok g c =

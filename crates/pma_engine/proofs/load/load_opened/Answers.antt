@@ -9,7 +9,8 @@ use Rattle.window_tally.specs.View.{TallyView}
 use Rattle.pma_engine.specs.Loading.{LoadsOpened}
 use Rattle.pma_engine.proofs.Closing.{spare_gate, stays_said}
 use Rattle.pma_engine.proofs.Loading.{Facts, Laws, facts_from, loaded_of}
-use Rattle.pma_engine.proofs.Parting.{parts_stand}
+use Rattle.pma_engine.proofs.StoreLaws.{nothing_yet}
+use Rattle.pma_engine.proofs.Parting.{parts_bare, parts_rest, parts_stand}
 use Rattle.pma_engine.proofs.load.load_opened.Goals as goal
 
 pub load_rows-loaded-requires-clause-stands : goal.load_rows-loaded-requires-clause-stands
@@ -17,6 +18,18 @@ load_rows-loaded-requires-clause-stands g c =
     let parts = c.into_parts-parts.result in
     let is = c.into_parts-parts.ensures in
     parts_stand c.args.store parts.place parts.tally (g.S.Station.view c.args.station.now) is.place is.tally c.requires.open
+
+pub load_rows-loaded-requires-clause-nothing : goal.load_rows-loaded-requires-clause-nothing
+load_rows-loaded-requires-clause-nothing g c = nothing_yet c.args.store c.requires.open.on
+
+pub load_rows-loaded-requires-clause-bare : goal.load_rows-loaded-requires-clause-bare
+load_rows-loaded-requires-clause-bare g c = parts_bare c.args.store c.into_parts-parts.result.place (g.S.Station.view c.args.station.now) c.into_parts-parts.ensures.place c.requires.open
+
+pub load_rows-loaded-requires-clause-rests : goal.load_rows-loaded-requires-clause-rests
+load_rows-loaded-requires-clause-rests g c =
+    let is = c.into_parts-parts.ensures in
+    let parts = c.into_parts-parts.result in
+    parts_rest c.args.store parts.place parts.frames.turn (g.S.Station.view c.args.station.now) is.place is.turn c.requires.open
 
 pub returns : goal.returns
 returns g c =
@@ -28,8 +41,8 @@ returns g c =
     let parts = c.into_parts-parts.result in
     let is = c.into_parts-parts.ensures in
     let does = c.load_rows-loaded.ensures in
-    let s : StoreView = record { place = parts.place; tally = parts.tally; index = parts.index; journal = parts.frames.journal; closed = c.args.store.closed } in
-    let same : s ≡ c.args.store = (λ t. record { place = is.place t; tally = is.tally t; index = is.index t; journal = is.journal t; closed = c.args.store.closed }) in
+    let s : StoreView = record { place = parts.place; tally = parts.tally; index = parts.index; journal = parts.frames.journal; turn = parts.frames.turn; closed = c.args.store.closed } in
+    let same : s ≡ c.args.store = (λ t. record { place = is.place t; tally = is.tally t; index = is.index t; journal = is.journal t; turn = is.turn t; closed = c.args.store.closed }) in
     let laws : Laws = record {
       text = c.texts_are_read_by_lines.ensures.text;
       few = c.texts_are_read_by_lines.ensures.few;

@@ -11,10 +11,11 @@ joined start a b c d =
     ∙ append_assoc start (a ++ (b ++ c)) d
 
 pub returns-clause-behind : goal.returns-clause-behind
-returns-clause-behind c =
+returns-clause-behind g c =
     let start = take c.args.len c.args.bytes.now in
-    let value = value_word c.args.value.now in
-    c.copy_behind.ensures.behind
-    ∙ ap (λ (l : List ℕ). l ++ 10 ∷ []) (c.copy_value-with_value.ensures.behind ∙ ap (λ (l : List ℕ). l ++ value) (c.copy_behind-with_key.ensures.behind ∙ ap (λ (l : List ℕ). l ++ c.args.key.now) c.copy_behind-begun.ensures.behind))
-    ∙ joined start (codes "record ") c.args.key.now value (10 ∷ [])
-    ∙ ap (λ (k : List ℕ). start ++ ((codes "record " ++ (k ++ value)) ++ 10 ∷ [])) (sym c.requires.key)
+    let key = take c.args.fields.key_len c.args.fields.key.now in
+    let value = value_word (take c.args.fields.value_len c.args.fields.value.now) in
+    c.copy_whole.ensures.behind
+    ∙ ap (λ (l : List ℕ). l ++ 10 ∷ []) (c.copy_value-with_value.ensures.behind ∙ ap (λ (l : List ℕ). l ++ value) (c.copy_whole-with_key.ensures.behind ∙ ap (λ (l : List ℕ). l ++ key) c.copy_whole-begun.ensures.behind))
+    ∙ joined start (codes "record ") key value (10 ∷ [])
+    ∙ ap (λ (k : List ℕ). start ++ ((codes "record " ++ (k ++ value)) ++ 10 ∷ [])) (sym c.requires.plain_key)

@@ -2,7 +2,8 @@
 use Rattle.std.proofs.Common.{◌≡◌, ◌-◌, ap, refl, subst, sym, arith}
 use Rattle.pma_engine.specs.Upgrading.{UpgradesOpened}
 use Rattle.pma_engine.proofs.Closing.{spare_gate, stays_said}
-use Rattle.pma_engine.proofs.Parting.{parts_stand}
+use Rattle.pma_engine.proofs.StoreLaws.{nothing_yet}
+use Rattle.pma_engine.proofs.Parting.{parts_bare, parts_rest, parts_stand}
 use Rattle.pma_engine.proofs.Upgrading.{seen, upgraded_from}
 use Rattle.pma_engine.proofs.upgrade.upgrade_opened.Goals as goal
 use Rattle.pma_store.specs.Store.{StoreView, IsOpenOn}
@@ -13,6 +14,18 @@ upgrade-upgraded-requires-clause-stands g c =
     let is = c.into_parts-parts.ensures in
     parts_stand c.args.store parts.place parts.tally (g.S.Station.view c.args.station.now) is.place is.tally c.requires.open
 
+pub upgrade-upgraded-requires-clause-nothing : goal.upgrade-upgraded-requires-clause-nothing
+upgrade-upgraded-requires-clause-nothing g c = nothing_yet c.args.store c.requires.open.on
+
+pub upgrade-upgraded-requires-clause-bare : goal.upgrade-upgraded-requires-clause-bare
+upgrade-upgraded-requires-clause-bare g c = parts_bare c.args.store c.into_parts-parts.result.place (g.S.Station.view c.args.station.now) c.into_parts-parts.ensures.place c.requires.open
+
+pub upgrade-upgraded-requires-clause-rests : goal.upgrade-upgraded-requires-clause-rests
+upgrade-upgraded-requires-clause-rests g c =
+    let is = c.into_parts-parts.ensures in
+    let parts = c.into_parts-parts.result in
+    parts_rest c.args.store parts.place parts.frames.turn (g.S.Station.view c.args.station.now) is.place is.turn c.requires.open
+
 pub returns-clause-upgrades : goal.returns-clause-upgrades
 returns-clause-upgrades g c =
     let a = g.S.Station.view c.args.station.now in
@@ -21,8 +34,8 @@ returns-clause-upgrades g c =
     let parts = c.into_parts-parts.result in
     let is = c.into_parts-parts.ensures in
     let does = c.upgrade-upgraded.ensures in
-    let s : StoreView = record { place = parts.place; tally = parts.tally; index = parts.index; journal = parts.frames.journal; closed = c.args.store.closed } in
-    let same : s ≡ c.args.store = (λ t. record { place = is.place t; tally = is.tally t; index = is.index t; journal = is.journal t; closed = c.args.store.closed }) in
+    let s : StoreView = record { place = parts.place; tally = parts.tally; index = parts.index; journal = parts.frames.journal; turn = parts.frames.turn; closed = c.args.store.closed } in
+    let same : s ≡ c.args.store = (λ t. record { place = is.place t; tally = is.tally t; index = is.index t; journal = is.journal t; turn = is.turn t; closed = c.args.store.closed }) in
     subst (λ (x : StoreView). UpgradesOpened c.end_upgraded.result x.place.layout x.tally.height a d) same
     (subst (λ n. UpgradesOpened n s.place.layout s.tally.height a d) (sym c.end_upgraded.ensures.status)
     (upgraded_from a s (subst (λ (x : StoreView). IsOpenOn x a) (sym same) c.requires.open) c.upgrade-upgraded.new.place b d s.place.region refl c.upgrade-upgraded.result (record {

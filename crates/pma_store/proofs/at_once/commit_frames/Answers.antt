@@ -1,10 +1,10 @@
-use Rattle.std.proofs.Common.{◌≡◌, ℕ, ◌*◌, ◌%◌, List, [], refl, sym, ap, ◌∙◌, arith, inl}
+use Rattle.std.proofs.Common.{◌≡◌, ℕ, ◌*◌, List, [], ◌<◌, refl, sym, ap, subst, ◌∙◌, arith, inl, inr}
 use Rattle.std.proofs.lemmas.List.{nil_from_length}
-use Rattle.std.proofs.lemmas.Result.{on_ok_weaker}
 use Rattle.station.proofs.Composition.{no_steps, weaken}
-use Rattle.header_gate.specs.Header.{gate}
-use Rattle.header_gate.specs.Recovered.{recovered, laid_over}
+use Rattle.header_gate.specs.Recovered.{is_laid, laid_over, live_table, recovered}
 use Rattle.redo_journal.specs.Commit.{frame_byte}
+use Rattle.std.proofs.lemmas.Result.{on_ok_weaker}
+use Rattle.redo_journal.proofs.Live.{next_small}
 use Rattle.pma_store.proofs.FittingLaws.{laid_nothing}
 use Rattle.pma_store.proofs.Touching.{untouched}
 use Rattle.pma_store.proofs.at_once.commit_frames.Goals as goal
@@ -19,14 +19,13 @@ returns-then-count-eq0-clause-committed g c =
       steps = weaken (no_steps a) (λ d i left same. record {
         commits = record {
           whole = inl (ap (recovered place.layout) same);
-          table = λ odd. absurd (omega (arith, odd, ap gate same, (c.requires.settled d left).gate_even));
+          table = λ laid. inr (ap (is_laid place.layout) (sym same) ∙ laid, ap (live_table place.layout) same);
           touched = untouched d i same;
         };
-        some = λ odd. absurd (omega (arith, odd, ap gate same, (c.requires.settled d left).gate_even));
+        none = λ zero. same;
       });
       laid = λ told. sym (ap (λ (l : List ℕ). laid_over place.layout place.region l (frame_byte frames.slots) (recovered place.layout a.held)) none ∙ laid_nothing place.layout place.region (frame_byte frames.slots) (recovered place.layout a.held));
-      closed = λ told. (c.requires.settled a.held (inl (told, refl))).gate_even;
-      settled = c.requires.nothing;
+      rests = c.requires.rests;
       none = λ zero. refl;
       cost = omega arith;
       unread = refl;
@@ -38,13 +37,25 @@ pub returns-clause-committed : goal.returns-clause-committed
 returns-clause-committed g c =
     let place = c.args.place.now in
     record {
-      steps = weaken c.commit.ensures.steps (λ d i left step. record { commits = step; some = λ odd. omega (arith, c.if-count-eq0.false) });
+      steps = weaken c.commit.ensures.steps (λ d i left step. record { commits = step; none = λ zero. absurd (omega (arith, zero, c.if-count-eq0.false)) });
       laid = c.commit.ensures.laid;
-      closed = on_ok_weaker c.commit.result (λ zero told. ap (λ (n : ℕ). n % 2) (zero told)) c.commit.ensures.closed;
-      settled = c.commit.ensures.settled;
+      rests = c.commit.ensures.rests;
       none = λ zero. absurd (omega (arith, zero, c.if-count-eq0.false));
       cost = omega (arith, c.commit.ensures.cost, c.requires.pages);
       unread = c.commit.ensures.no_reads;
       calls = c.commit.ensures.calls;
       cause = c.commit.ensures.cause;
     }
+
+pub commit-requires-clause-single : goal.commit-requires-clause-single
+commit-requires-clause-single g c = c.requires.rests.single
+
+pub commit-requires-clause-gate : goal.commit-requires-clause-gate
+commit-requires-clause-gate g c = c.requires.rests.gates
+
+pub commit-requires-clause-rest : goal.commit-requires-clause-rest
+commit-requires-clause-rest g c paired = c.requires.rests.rest
+
+pub returns-clause-turn : goal.returns-clause-turn
+returns-clause-turn g c =
+    on_ok_weaker c.commit.result (λ turn small. subst (λ (n : ℕ). n < 2) (sym turn) (next_small c.args.place.now.layout c.args.frames.now.turn)) c.commit.ensures.turn

@@ -18,7 +18,7 @@ push_pages-requires-clause-room c =
 
 -- the batch with these slots
 abbrev put : (format f : ℕ) → List ℕ → Batch → Batch
-put format f written x = record { journal = x.journal; numbers = x.numbers; slots = splice x.slots (SEGMENT_SLOTS * format * f) (SEGMENT_SLOTS * format * f + SEGMENT_SLOTS * format) (slots_in (SEGMENT_SLOTS * format) written) }
+put format f written x = record { journal = x.journal; turn = x.turn; numbers = x.numbers; slots = splice x.slots (SEGMENT_SLOTS * format * f) (SEGMENT_SLOTS * format * f + SEGMENT_SLOTS * format) (slots_in (SEGMENT_SLOTS * format) written) }
 
 written : (c : After-encode_into) → IsSegment c.args.format c.args.rows.now c.encode_into.new.bytes
 written c = subst (λ (f : ℕ). IsSegment f c.args.rows.now c.encode_into.new.bytes) (format_is c.args.format c.bytes_mut.result.now c.requires.held.known c.bytes_mut.ensures.len).1 c.encode_into.ensures

@@ -1,9 +1,11 @@
-use Rattle.std.proofs.Common.{ℕ, ◌+◌, ◌^◌, ◌<◌, List, length, refl, ap, ◌∙◌, arith}
+use Rattle.std.proofs.Common.{ℕ, ◌+◌, ◌^◌, ◌<◌, List, length, refl, sym, ap, subst, ◌∙◌, arith}
 use Rattle.std.proofs.Math.Pow.{pow_mono}
 use Rattle.std.proofs.lemmas.Nat.{pow_pos}
 use Rattle.station.specs.declared.travel.Travel.{Travel}
-use Rattle.station.proofs.Composition.{no_steps, same_on, told_on}
+use Rattle.station.specs.View.{Told}
+use Rattle.station.proofs.Composition.{no_steps, same_on, told_back, told_on}
 use Rattle.header_gate.proofs.PagedSegments.{known_format}
+use Rattle.header_gate.specs.InPlace.{IsRecovered}
 use Rattle.header_gate.specs.Places.{height_limit}
 use Rattle.map_model.specs.Array.{segment_at}
 use Rattle.map_model.specs.Image.{array_of}
@@ -27,10 +29,11 @@ loop-segment-init g c =
       loaded = loads_none layout.format c.start.new.self c.args.look.now known c.start.ensures.batch none c.requires.fresh;
       looked = λ told. looks_none layout.format (array_of (g.S.Station.view c.args.station.now).held) c.args.segments.now c.args.intent.now c.start.new.self c.args.look.now known none;
       journal = ap (λ (b : Batch). b.journal) c.start.ensures.after ∙ c.requires.journal;
+      turn = ap (λ (b : Batch). b.turn) c.start.ensures.after;
     }
 
-pub returns-in-Err : goal.returns-in-Err
-returns-in-Err g c =
+pub returns-in-Err-clause-looks : goal.returns-in-Err-clause-looks
+returns-in-Err-clause-looks g c =
     let is = c.loop-segment.invariant in
     let more = reads_more c.args.place.now c.args.segments.now c.loop-segment.from c.in-Some.segment (g.S.Station.view c.args.station.now) (g.S.Station.view c.loop-segment.station) (g.S.Station.view c.read_rows.new.station) is.reads.0 c.in-Some.ensures c.read_rows.ensures.reads c.read_rows.ensures.calls in
     record {
@@ -86,10 +89,11 @@ loop-segment-preserved g c =
           c.take_in.ensures.looked array some ascends (c.requires.belong told) own
           (looks_later place.layout.format array c.args.segments.now c.args.intent.now some ascends c.requires.intent.distinct c.requires.segments (c.requires.belong told) c.loop-segment.from c.in-Some.segment c.loop-segment.frames c.loop-segment.look (λ k lt le. least.lowest k lt le) (is.looked told));
       journal = c.take_in.ensures.journal ∙ is.journal;
+      turn = c.take_in.ensures.turn ∙ is.turn;
     }
 
-pub returns : goal.returns
-returns g c =
+pub returns-clause-looks : goal.returns-clause-looks
+returns-clause-looks g c =
     let a = g.S.Station.view c.args.station.now in
     let place = c.args.place.now in
     let tally = c.args.tally.now in
@@ -114,3 +118,9 @@ returns g c =
       damaged = tt;
       failed = no_fault tt;
     }
+
+pub read_rows-requires-clause-readable : goal.read_rows-requires-clause-readable
+read_rows-requires-clause-readable g c told =
+    let steps = c.loop-segment.invariant.steps in
+    let told_a : Told (g.S.Station.view c.args.station.now) = told_back steps.frame told in
+    subst (IsRecovered c.args.place.now.layout) (sym (steps.held told_a)) (c.requires.readable told_a)

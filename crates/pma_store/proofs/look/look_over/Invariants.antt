@@ -15,6 +15,7 @@ invariant-loop-segment g l = record {
   looked : Told (g.S.Station.view l.fn.station) → HasLooked l.place.layout.format (array_of (g.S.Station.view l.fn.station).held) l.segments l.intent l.frames l.look l.from;
   reads : (reads : ReadsOnce l.place l.segments l.from (g.S.Station.view l.fn.station) (g.S.Station.view l.station)) × (l.look.count ≤ length reads.read);
   journal : l.frames.journal ≡ l.place.layout.journal;
+  turn : l.frames.turn ≡ l.fn.frames.turn;
 }
 
 abbrev pub decreases-loop-segment : goal.decreases-loop-segment

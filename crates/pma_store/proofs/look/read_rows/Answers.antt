@@ -13,14 +13,14 @@ pub returns-in-Err-clause-damaged : goal.returns-in-Err-clause-damaged
 returns-in-Err-clause-damaged g c =
     let place = c.args.place.now in
     let tally = c.args.tally.now in
-    only_failed place.layout place.region tally.height tally.counts c.args.segment c.kept_count-kept.result c.in-Err.fault (g.S.Station.view c.args.station.now) (g.S.Station.view c.read.new.station) c.requires.stands c.requires.segment c.kept_count-kept.ensures c.in-Err.ensures.damaged
+    only_failed place.layout place.region tally.height tally.counts c.args.segment c.kept_count-kept.result c.in-Err.fault (g.S.Station.view c.args.station.now) (g.S.Station.view c.read.new.station) c.requires.stands c.requires.readable c.requires.segment c.kept_count-kept.ensures c.in-Err.ensures.damaged
 
 pub returns-clause-rows : goal.returns-clause-rows
 returns-clause-rows g c = λ told.
     let place = c.args.place.now in
     let tally = c.args.tally.now in
     c.copy_into.ensures ∙ c.rows.ensures ∙ c.in-Ok.ensures.rows told
-    ∙ segment_is place.layout place.region tally.height tally.counts (g.S.Station.view c.args.station.now).held (c.requires.stands told) c.args.segment c.requires.segment
+    ∙ segment_is place.layout place.region tally.height tally.counts (g.S.Station.view c.args.station.now).held (c.requires.stands told) (c.requires.readable told) c.args.segment c.requires.segment
 
 pub returns-in-Err-clause-met : goal.returns-in-Err-clause-met
 returns-in-Err-clause-met g c =

@@ -75,8 +75,8 @@ returns-in_err-next_counted-clause-damaged g c =
     let small : c.loop-page.reader.next < 2 ^ a.tally.now.height = omega (arith, c.next_counted.ensures.is_reader.within, over.next_is, over.end_is, inv.near.within) in
     let inside : c.loop-page.reader.next < length segments = omega (arith, small, cut_size a.layout a.region a.tally.now.height a.tally.now.counts held stands) in
     let page = sym (page_held g here told) in
-    let fine = page_fine a.layout a.region a.tally.now.height a.tally.now.counts held stands c.loop-page.reader.next c.loop-page.reader.last small (above_next c.loop-page.reader segments (inv.above told) inside) in
-    let count = count_kept a.layout a.region a.tally.now.height a.tally.now.counts held stands c.loop-page.reader.next small in
+    let fine = page_fine a.layout a.region a.tally.now.height a.tally.now.counts held stands (c.requires.readable told) c.loop-page.reader.next c.loop-page.reader.last small (above_next c.loop-page.reader segments (inv.above told) inside) in
+    let count = count_kept a.layout a.region a.tally.now.height a.tally.now.counts held stands (c.requires.readable told) c.loop-page.reader.next small in
     c.in_err-next_counted.ensures.damaged (told_on inv.steps.frame told)
     ((λ t. page_fault (inv.near.layout_is t).format c.loop-page.reader.next c.loop-page.reader.last (sym page t)) ∙ fine)
     ((λ t. length (segment_of (inv.near.layout_is t).format (sym page t))) ∙ count))
@@ -147,7 +147,7 @@ own_rows g c below told read =
     let inv = c.loop-page.invariant in
     let held = (g.S.Station.view a.station.now).held in
     let is = subst (IsSegment a.layout.format c.next_counted.new.page.rows) (page_held g c told) (subst (λ (l : Layout). IsSegment l.format c.next_counted.new.page.rows (next_page c.loop-page.reader (g.S.Station.view c.loop-page.station).held)) inv.near.layout_is (read (told_on inv.steps.frame told))) in
-    read_is a.layout a.region a.tally.now.height a.tally.now.counts held (c.requires.stands told).stands c.loop-page.reader.next c.next_counted.new.page.rows (omega (arith, below, inv.near.within)) is
+    read_is a.layout a.region a.tally.now.height a.tally.now.counts held (c.requires.stands told).stands (c.requires.readable told) c.loop-page.reader.next c.next_counted.new.page.rows (omega (arith, below, inv.near.within)) is
 
 pub loop-page-preserved : goal.loop-page-preserved
 loop-page-preserved g c =

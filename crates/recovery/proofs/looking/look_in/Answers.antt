@@ -9,6 +9,7 @@ use Rattle.key_slot.specs.Record.{Record}
 use Rattle.key_slot.specs.Segment.{segment_of}
 use Rattle.key_slot.proofs.SegmentLaws.{segment_rows}
 use Rattle.range_scan.proofs.Pages.{format_is, read_as}
+use Rattle.redo_journal.proofs.Live.{rest_held}
 use Rattle.segment.specs.Judged.{damage_of}
 use Rattle.segment.specs.declared.fault.StoreFault.{StoreFault}
 use Rattle.recovery.specs.Faults.{IsRepairFault, repair_fault}
@@ -50,7 +51,7 @@ returns-in-Err-clause-damaged g c told =
     let page = c.read_page.new.page in
     let shows = c.in-Err.ensures.damage in
     let format : format_of page ≡ parts.place.layout.format = format_is parts.place.layout.format page (size g (goal.at.returns-in-Err-clause-damaged g c).After-read_page) in
-    let none = undamaged parts.place.layout parts.place.region parts.tally.height parts.tally.counts image (c.requires.back.stands image (inl (told, refl))) c.args.segment c.requires.in_store in
+    let none = undamaged parts.place.layout parts.place.region parts.tally.height parts.tally.counts image (c.requires.back.stands image (inl (told, refl))) (rest_held parts.place.layout (g.S.Station.view c.args.station.now) c.requires.back.rests.rest told) c.args.segment c.requires.in_store in
     let some : Some shows.0 ≡ None = sym shows.1 ∙ (λ t. damage_of (format t) (c.in-Ok.ensures.bytes told t) (c.count-kept.ensures t)) ∙ none in
     absurd (true≢false (ap is_some some))
 

@@ -1,9 +1,11 @@
-use Rattle.std.proofs.Common.{◌≡◌, ◌*◌, ◌^◌, ℕ, Option, None, Some, subst, sym, ap, ◌∙◌, arith}
+use Rattle.std.proofs.Common.{◌≡◌, ◌*◌, ◌^◌, ℕ, Option, None, Some, inl, refl, subst, sym, ap, ◌∙◌, arith}
 use Rattle.std.proofs.lemmas.Result.{on_ok_weaker, IfErr-weaker}
 use Rattle.station.specs.View.{Told}
 use Rattle.station.proofs.Composition.{same_on, each_held, nothing_on, told_on, told_back}
 use Rattle.header_gate.specs.declared.reason.Reason.{Reason}
+use Rattle.header_gate.specs.InPlace.{IsRecovered}
 use Rattle.header_gate.specs.Places.{segment_size}
+use Rattle.redo_journal.proofs.Live.{rest_held, rests_still}
 use Rattle.header_gate.specs.Recovered.{journal_reason}
 use Rattle.map_model.specs.Image.{array_of}
 use Rattle.map_model.specs.Reasons.{array_reason, reason_of}
@@ -40,13 +42,17 @@ header g c told = subst (λ (h : ℕ). HasHeader c.args.parts.now.place h c.args
 journal : (g : _) (c : After-load_region g) → Told (g.S.Station.view c.args.station.now) → journal_reason c.args.parts.now.place.layout c.args.parts.now.tally.height (g.S.Station.view c.args.station.now).held ≡ None
 journal g c told = subst (λ (h : ℕ). journal_reason c.args.parts.now.place.layout h (g.S.Station.view c.args.station.now).held ≡ None) (sym c.requires.awaits.height_is) (c.in-Ok.ensures.sound told)
 
+-- behind a replay the journal lies in place
+readable : (g : _) (c : After-load_region g) → Told (g.S.Station.view c.args.station.now) → IsRecovered c.args.parts.now.place.layout (g.S.Station.view c.recover.new.station).held
+readable g c told = rest_held c.args.parts.now.place.layout (g.S.Station.view c.recover.new.station) c.in-Ok.ensures.rests.rest (told_on c.recover.ensures.steps.frame told)
+
 -- what is found wrong with it is what is wrong with the file at entry
 answered : (g : _) (c : After-load_region g) → Told (g.S.Station.view c.args.station.now) → (answer : Option Reason)
     → array_reason c.args.parts.now.place.layout.format (page_in c.args.parts.now.place.layout c.args.parts.now.place.region (g.S.Station.view c.recover.new.station).held) c.args.parts.now.tally.height ≡ answer → reason_of (g.S.Station.view c.args.station.now).held ≡ answer
 answered g c told answer is =
     let parts = c.args.parts.now in
     reason_restored parts.place parts.tally.height c.args.header.now.gate (g.S.Station.view c.args.station.now).held (header g c told) (g.S.Station.view c.recover.new.station).held (c.recover.ensures.steps.held told)
-    (c.in-Ok.ensures.closed told) c.requires.awaits.parts_are.region c.requires.awaits.parts_are.height answer (journal g c told) is
+    (readable g c told) c.requires.awaits.parts_are.region c.requires.awaits.parts_are.height answer (journal g c told) is
 
 height_is : (g : _) (c : After-load_region g) → c.load_region.new.tally.height ≡ c.args.parts.now.tally.height
 height_is g c = ap (λ (t : TallyView). t.height) c.load_region.ensures.kept
@@ -66,13 +72,17 @@ pub returns-in-Ok-clause-settled : goal.returns-in-Ok-clause-settled
 returns-in-Ok-clause-settled g c =
     on_ok_weaker c.load_region.result (λ root. nothing_on (g.met.S.Station.lawful c.recover.new.station) c.in-Ok.ensures.settled c.load_region.ensures.steps) c.load_region.ensures.root
 
+pub returns-in-Ok-clause-rests : goal.returns-in-Ok-clause-rests
+returns-in-Ok-clause-rests g c =
+    on_ok_weaker c.load_region.result (λ root. rests_still _ _ (g.S.Station.view c.recover.new.station) (g.S.Station.view c.load_region.new.station) (g.met.S.Station.lawful c.recover.new.station) c.in-Ok.ensures.rests c.load_region.ensures.steps) c.load_region.ensures.root
+
 pub returns-in-Ok-clause-refused_settled : goal.returns-in-Ok-clause-refused_settled
 returns-in-Ok-clause-refused_settled g c =
     IfErr-weaker c.load_region.result _ _ (λ e refused r is. nothing_on (g.met.S.Station.lawful c.recover.new.station) c.in-Ok.ensures.settled c.load_region.ensures.steps) c.load_region.ensures.refused
 
 pub returns-in-Ok-clause-kept : goal.returns-in-Ok-clause-kept
-returns-in-Ok-clause-kept g c told even =
-    let kept = c.recover.ensures.kept told even in
+returns-in-Ok-clause-kept g c told bare =
+    let kept = c.recover.ensures.kept told bare in
     record { steps = same_on kept.steps c.load_region.ensures.steps; unwritten = c.load_region.ensures.unwritten ∙ kept.unwritten }
 
 pub returns-in-Ok-clause-refused : goal.returns-in-Ok-clause-refused
@@ -101,7 +111,7 @@ returns-in-Ok-clause-fenced g c =
     let told_b = told_on c.recover.ensures.steps.frame told in
     subst (λ image. HasFences c.load_region.new.fences (array_of image)) (sym (c.load_region.ensures.steps.held told_b))
     (fenced parts.place parts.tally.height c.args.header.now.gate (g.S.Station.view c.args.station.now).held (header g here told) (g.S.Station.view c.recover.new.station).held (c.recover.ensures.steps.held told)
-    (c.in-Ok.ensures.closed told) c.requires.awaits.parts_are.region c.requires.awaits.parts_are.height c.load_region.new.fences (set told_b))) c.load_region.ensures.fenced
+    (readable g here told) c.requires.awaits.parts_are.region c.requires.awaits.parts_are.height c.load_region.new.fences (set told_b))) c.load_region.ensures.fenced
 
 pub returns-in-Ok-clause-stands : goal.returns-in-Ok-clause-stands
 returns-in-Ok-clause-stands g c =
@@ -116,13 +126,14 @@ returns-in-Ok-clause-stands g c =
     subst (StandsFor parts.place tally) (sym (c.load_region.ensures.steps.held told_b))
     (subst (λ (h : ℕ). StandsFor parts.place (record tally { height = h }) (g.S.Station.view c.recover.new.station).held) (sym (height_is g here))
     (stands parts.place parts.tally.height c.args.header.now.gate (g.S.Station.view c.args.station.now).held (header g here told) (g.S.Station.view c.recover.new.station).held (c.recover.ensures.steps.held told)
-    (c.in-Ok.ensures.closed told) c.requires.awaits.parts_are.region c.requires.awaits.parts_are.height tally.counts (counted told_b) (answered g here told None (sound told_b)))))) c.load_region.ensures.sound c.load_region.ensures.counted
+    (readable g here told) c.requires.awaits.parts_are.region c.requires.awaits.parts_are.height
+    (λ single. c.in-Ok.ensures.rests.gates (g.S.Station.view c.recover.new.station).held (inl (told_b, refl)) ∙ c.in-Ok.ensures.rests.single single) tally.counts (counted told_b) (answered g here told None (sound told_b)))))) c.load_region.ensures.sound c.load_region.ensures.counted
 
 pub returns-in-Ok-clause-one_pass : goal.returns-in-Ok-clause-one_pass
-returns-in-Ok-clause-one_pass g c told even =
+returns-in-Ok-clause-one_pass g c told bare =
     let parts = c.args.parts.now in
     let layout = parts.place.layout in
     let region =
     one_pass c.load_region.result layout parts.place.region (2 ^ parts.tally.height) (g.S.Station.view c.recover.new.station).travel (g.S.Station.view c.load_region.new.station).travel
     c.load_region.ensures.whole c.load_region.ensures.part in
-    omega (arith, region, c.recover.ensures.unread told even, ap (λ (h : ℕ). segment_size layout * 2 ^ h) c.requires.awaits.height_is)
+    omega (arith, region, c.recover.ensures.reads_bare told bare, ap (λ (h : ℕ). segment_size layout * 2 ^ h) c.requires.awaits.height_is)

@@ -25,7 +25,7 @@ returns-in-Ok-clause-shown g c = on_ok_weaker c.judge_frames.result (λ held tol
     let here = (goal.at.returns-in-Ok-clause-shown g c).In-Ok in
     let a = g.S.Station.view c.args.station.now in
     let b = c.read_batch.new.frames in
-    shown_read c.args.place.now a.held c.args.runs c.requires.within.order (window_segments c.args.place.now c.args.first (g.P.Plan.plan c.args.plan.now).counts a.held (window g here told) c.args.runs c.requires.within) b.slots (c.in-Ok.ensures.low told) (c.in-Ok.ensures.high told)
+    shown_read c.args.place.now a.held c.args.runs c.requires.within.order (window_segments c.args.place.now c.args.first (g.P.Plan.plan c.args.plan.now).counts a.held (window g here told) c.args.runs c.requires.within) (c.requires.readable told) b.slots (c.in-Ok.ensures.low told) (c.in-Ok.ensures.high told)
     b (named g (goal.at.returns-in-Ok-clause-shown g c).After-read_batch) refl) c.judge_frames.ensures.held
 
 pub returns-in-Ok-clause-damaged : goal.returns-in-Ok-clause-damaged
@@ -35,7 +35,7 @@ returns-in-Ok-clause-damaged g c = IfErr-weaker c.judge_frames.result _ _ (λ fa
     let b = c.read_batch.new.frames in
     let counts = (g.P.Plan.plan c.args.plan.now).counts in
     let has = window g here told in
-    absurd (no_fault c.args.place.now a.held c.args.runs c.requires.within.order (window_segments c.args.place.now c.args.first counts a.held has c.args.runs c.requires.within) b.slots (c.in-Ok.ensures.low told) (c.in-Ok.ensures.high told)
+    absurd (no_fault c.args.place.now a.held c.args.runs c.requires.within.order (window_segments c.args.place.now c.args.first counts a.held has c.args.runs c.requires.within) (c.requires.readable told) b.slots (c.in-Ok.ensures.low told) (c.in-Ok.ensures.high told)
     b (kept_in c.args.first counts) fault (named g (goal.at.returns-in-Ok-clause-damaged g c).After-read_batch) refl (λ f lt. window_count c.args.place.now c.args.first counts a.held has c.args.runs c.requires.within f lt) shows)) c.judge_frames.ensures.fault
 
 pub returns-in-Ok-clause-cause : goal.returns-in-Ok-clause-cause

@@ -9,7 +9,7 @@ use Rattle.key_slot.specs.Row.{record_of}
 use Rattle.map_model.specs.Array.{rows}
 use Rattle.map_model.specs.Image.{array_of}
 use Rattle.redo_journal.specs.Frames.{Batch}
-use Rattle.segment_frames.specs.Standing.{StandsFor}
+use Rattle.resize_region.specs.Shares.{StandsBare}
 use Rattle.resize_region.specs.OldRows.{IsInOrder, rows_ahead}
 use Rattle.resize_region.specs.Shares.{places, share_in}
 use Rattle.resize_region.proofs.OldRowLaws.{walked_on, reads_err, ahead_taken}
@@ -36,7 +36,7 @@ loop-have-preserved-in_ok-read_on g c =
     let inv = c.loop-have.invariant in
     let done = c.in_ok-read_on.ensures in
     let a = g.S.Station.view c.args.station.now in
-    let Stands = StandsFor c.args.place.now c.args.tally.now in
+    let Stands = StandsBare c.args.place.now c.args.tally.now in
     let share = share_in wide c.args.f c.loop-have.frames in
     record {
       within = inv.within;

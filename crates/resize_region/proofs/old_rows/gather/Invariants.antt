@@ -6,7 +6,7 @@ use Rattle.header_gate.specs.Places.{file_length}
 use Rattle.key_slot.specs.Format.{wide}
 use Rattle.map_model.specs.Image.{array_of}
 use Rattle.range_scan.specs.Walk.{after_walk}
-use Rattle.segment_frames.specs.Standing.{StandsFor}
+use Rattle.resize_region.specs.Shares.{StandsBare}
 use Rattle.resize_region.specs.OldRows.{IsAmongRows, IsInOrder, rows_left, rows_ahead}
 use Rattle.resize_region.specs.Shares.{places, HasShares, share_in}
 use Rattle.resize_region.proofs.old_rows.gather.Given as goal
@@ -27,7 +27,7 @@ invariant-loop-have g l = record {
   calls : (g.S.Station.view l.station).calls ≤ (g.S.Station.view l.fn.station).calls + (l.rows.reader.next - l.fn.rows.reader.next);
   onward : l.fn.rows.reader.next ≤ l.rows.reader.next;
   reach : file_length l.place.layout ≤ (g.S.Station.view l.station).fixed.reach;
-  stands : EachHeld (StandsFor l.place l.tally) (g.S.Station.view l.station);
+  stands : EachHeld (StandsBare l.place l.tally) (g.S.Station.view l.station);
 }
 
 -- each segment is read once, and each record taken once

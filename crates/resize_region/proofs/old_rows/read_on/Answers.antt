@@ -11,6 +11,7 @@ use Rattle.range_scan.specs.Reading.{behind, page_in, page_fault, next_page}
 use Rattle.range_scan.specs.Walk.{after_walk}
 use Rattle.range_scan.proofs.Checks.{above_more}
 use Rattle.range_scan.proofs.Standing.{count_kept}
+use Rattle.header_gate.proofs.Journals.{bare_recovered}
 use Rattle.resize_region.proofs.OldRowLaws.{own_size, own_read, own_fine, ahead_read}
 use Rattle.resize_region.proofs.StreamLaws.{next_count}
 use Rattle.resize_region.proofs.old_rows.read_on.Goals as goal
@@ -81,7 +82,7 @@ returns-in-Err-clause-reads g c =
           let stands = c.requires.stands a.held (inl (told, refl)) in
           c.in-Err.ensures.damaged told
           ((λ i. page_fault (among.layout_is i).format old.next old.last (page i)) ∙ own_fine place t a.held stands old lt (c.requires.order told))
-          ((λ i. length (segment_of (among.layout_is i).format (page i))) ∙ count_kept place.layout place.region t.height t.counts a.held stands old.next lt);
+          ((λ i. length (segment_of (among.layout_is i).format (page i))) ∙ count_kept place.layout place.region t.height t.counts a.held stands.stands (bare_recovered place.layout a.held stands.bare) old.next lt);
       cause = (old.next, over.next_is, c.in-Err.ensures.causes);
       failed = c.in-Err.ensures.failed;
     }

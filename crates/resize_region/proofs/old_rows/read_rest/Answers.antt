@@ -3,7 +3,7 @@ use Rattle.std.proofs.lemmas.Result.{err_from_is_err_and}
 use Rattle.station.specs.View.{Fixed}
 use Rattle.station.proofs.Composition.{each_on, same_on, told_on}
 use Rattle.map_model.specs.Image.{array_of}
-use Rattle.segment_frames.specs.Standing.{StandsFor}
+use Rattle.resize_region.specs.Shares.{StandsBare}
 use Rattle.resize_region.specs.OldRows.{IsInOrder}
 use Rattle.resize_region.proofs.OldRowLaws.{walked_on, reads_err, reads_ok}
 use Rattle.resize_region.proofs.old_rows.read_rest.Goals as goal
@@ -20,7 +20,7 @@ loop-preserved g c =
     let inv = c.loop.invariant in
     let done = c.in_ok-read_on.ensures in
     let a = g.S.Station.view c.args.station.now in
-    let Stands = StandsFor c.args.place.now c.args.tally.now in
+    let Stands = StandsBare c.args.place.now c.args.tally.now in
     record {
       among = done.among;
       none = omega (arith, done.left, inv.none);

@@ -2,6 +2,7 @@ use Rattle.std.proofs.Common.{arith, ◌≡◌, inl, inr, ℕ, ◌+◌, ◌*◌,
 use Rattle.std.specs.Prelude.{Result, Ok, Err, Option, Some, None}
 use Rattle.std.proofs.lemmas.Bool.{false≢true}
 use Rattle.std.proofs.lemmas.Nat.{pow_pos}
+use Rattle.redo_journal.specs.Rest.{RestsAt}
 use Rattle.range_scan.specs.Faults.{IsDamageAt}
 use Rattle.segment.specs.declared.fault.StoreFault.{StoreFault}
 use Rattle.resize_region.specs.declared.outcome.Upgrade.{Upgrade}
@@ -43,6 +44,9 @@ returns-in-Ok-clause-too_many g c n =
       λ is. absurd (false≢true (ap is_done (sym (ap answer_in is)))),
       λ for. absurd (omega (arith, for.above, same, c.refusal.ensures.few c.in_default.is)),
     )
+
+pub returns-in-Ok-clause-rests : goal.returns-in-Ok-clause-rests
+returns-in-Ok-clause-rests g c = subst (λ (turn : ℕ). RestsAt c.widen.new.place.layout turn (g.S.Station.view c.widen.new.station)) (sym c.widen.ensures.same_turn) (c.in-Ok.ensures.spread.rests c.args.frames.now.turn c.requires.rests)
 
 -- Why it failed.
 

@@ -3,6 +3,7 @@ use Rattle.std.proofs.lemmas.Nat.{pow_pos}
 use Rattle.std.proofs.lemmas.Result.{err_from_is_err_and}
 use Rattle.std.proofs.Math.Pow.{pow_mono}
 use Rattle.station.specs.View.{Told, MayHold}
+use Rattle.station.specs.Steps.{Steps}
 use Rattle.station.proofs.Composition.{andthen, weaken, told_of, told_on, told_back, only_held, each_held}
 use Rattle.density_rule.specs.Bounds.{IsInBounds}
 use Rattle.density_rule.specs.Spread.{resized_counts}
@@ -18,7 +19,7 @@ use Rattle.segment_frames.specs.Standing.{IsSettledAt}
 use Rattle.resize_region.specs.Aside.{HasWritten}
 use Rattle.resize_region.specs.Upgraded.{MayWiden, Upgrades, widened, in_wide, upgraded_height}
 use Rattle.resize_region.proofs.OldRowLaws.{rose_on, failed_as, never_failed}
-use Rattle.resize_region.proofs.ResizeLaws.{has_counts, spare_by, array_wide, stands_wide, flips_widen}
+use Rattle.resize_region.proofs.ResizeLaws.{has_counts, spare_by, array_wide, stands_wide, flips_widen, bare_of, bare_wide, rests_new}
 use Rattle.resize_region.proofs.UpgradeLaws.{upgraded_low, upgraded_room, upgraded_bounds, own_bounds, spreads_err}
 use Rattle.resize_region.proofs.WalkLaws.{walks_beside}
 use Rattle.segment_frames.specs.Lists.{most_segments}
@@ -52,14 +53,14 @@ copy_wide-requires-clause-can g c =
       region = c.requires.region;
       reach = c.requires.reach;
       journal = c.requires.journal;
-      stands = c.requires.stands;
+      stands = λ image left. record { stands = c.requires.stands image left; bare = bare_of c.args.place.now (g.met.S.Station.lawful c.args.station.now) c.requires.nothing c.requires.bare image left };
       some = omega (arith, wide_count g at, pow_pos h);
       room = omega (arith, wide_count g at, upgraded_room l t c.height.ensures.tally (omega (arith, c.requires.records, c.requires.few)));
       fits = omega (arith, wide_count g at, pow_mono {i = h} {j = height_limit (widened l)} (upgraded_low l t.height));
     }
 
 spare : (g : _) (c : After-copy_wide g) (d i : List ℕ) → MayHold (g.S.Station.view c.args.station.now) d → Spares c.args.place.now.layout c.args.place.now.region d i → Upgrades c.args.place.now (upgraded_height c.args.place.now.layout c.args.tally.now.height) d i
-spare g c d i left step = spare_by MayWiden c.args.place.now (upgraded_height c.args.place.now.layout c.args.tally.now.height) d i (λ l. inl refl) (c.requires.stands d left).settled step
+spare g c d i left step = spare_by MayWiden c.args.place.now (upgraded_height c.args.place.now.layout c.args.tally.now.height) d i (λ l. inl refl) (c.requires.stands d left).settled (bare_of c.args.place.now (g.met.S.Station.lawful c.args.station.now) c.requires.nothing c.requires.bare d left) step
 
 -- The file before the copy, and after it.
 
@@ -67,7 +68,7 @@ settled : (g : _) (c : In_ok-copy_wide g) → Told (g.S.Station.view c.args.stat
 settled g c told = (c.requires.stands (g.S.Station.view c.args.station.now).held (inl (told, refl))).settled
 
 counts : (g : _) (c : In_ok-copy_wide g) → Told (g.S.Station.view c.args.station.now) → counts_of (array_of (g.S.Station.view c.args.station.now).held) ≡ c.args.tally.now.counts
-counts g c told = (has_counts c.args.place.now c.args.tally.now (g.S.Station.view c.args.station.now).held (c.requires.stands (g.S.Station.view c.args.station.now).held (inl (told, refl)))).counts_are
+counts g c told = (has_counts c.args.place.now c.args.tally.now (g.S.Station.view c.args.station.now).held (c.requires.stands (g.S.Station.view c.args.station.now).held (inl (told, refl))) (c.requires.bare told)).counts_are
 
 bounds : (g : _) (c : In_ok-copy_wide g) → Told (g.S.Station.view c.args.station.now)
     → IsInBounds (upgraded_height c.args.place.now.layout c.args.tally.now.height) (upgraded_height c.args.place.now.layout c.args.tally.now.height) (length (rows (array_of (g.S.Station.view c.args.station.now).held)))
@@ -97,7 +98,7 @@ both g c d e i left one two =
     let same : d ≡ a.held = only_held a c.requires.nothing d left in
     let height_is : c.min-height.result ≡ h = omega (arith, c.min-height.ensures, c.height.ensures.height) in
     subst (λ (x : List ℕ). Upgrades place h x i) (sym same)
-    (flips_widen place h a.held b.held c.requires.region (settled g c told) (c.copy_wide.ensures.writes.steps.held told) (upgraded_low place.layout c.args.tally.now.height) c.requires.layout.hmax c.requires.limit (bounds g c told) (copied g c told) i e
+    (flips_widen place h a.held b.held c.requires.region (settled g c told) (c.requires.bare told) (c.copy_wide.ensures.writes.steps.held told) (upgraded_low place.layout c.args.tally.now.height) c.requires.layout.hmax c.requires.limit (bounds g c told) (copied g c told) i e
     (subst (λ (x : List ℕ). Spares place.layout place.region x e) same one) (subst (λ (k : ℕ). Flips (1 - place.region) k wide b.held e i) height_is two))
 
 pub returns-in_err-copy_wide-clause-spread : goal.returns-in_err-copy_wide-clause-spread
@@ -150,16 +151,21 @@ returns-clause-spread g c =
     let n = g.S.Station.view c.make_live.new.station in
     let wrote = c.copy_wide.ensures.writes in
     let read = c.copy_wide.ensures.reads in
+    let steps : Steps (Upgrades place h) a n = andthen wrote.steps c.make_live.ensures.steps (λ d i left step. spare g after d i left step) (λ d e i left one mid two. both g in_ok d e i left one two) in
+    let bare = λ (told : Told a).
+    bare_wide place h a.held b.held c.requires.region (settled g in_ok told) (c.requires.bare told) (wrote.steps.held told) (upgraded_low place.layout t.height) c.requires.layout.hmax c.requires.limit (bounds g in_ok told) (copied g in_ok told) n.held
+    (flipped g in_ok n.held (c.in_ok-make_live.ensures.flipped (told_on wrote.steps.frame told))) in
     record {
-      steps = andthen wrote.steps c.make_live.ensures.steps (λ d i left step. spare g after d i left step) (λ d e i left one mid two. both g in_ok d e i left one two);
+      steps = steps;
+      rests = λ turn rests. rests_new place.layout (widened place.layout) turn (g.met.S.Station.lawful c.make_live.new.station) c.in_ok-make_live.ensures.settled steps.frame refl (λ told. (steps.held told).gate_is) bare rests;
       settled = c.in_ok-make_live.ensures.settled;
       array = λ told.
-          array_wide place h a.held b.held c.requires.region (settled g in_ok told) (wrote.steps.held told) (upgraded_low place.layout t.height) c.requires.layout.hmax c.requires.limit (bounds g in_ok told) (copied g in_ok told) n.held
+          array_wide place h a.held b.held c.requires.region (settled g in_ok told) (c.requires.bare told) (wrote.steps.held told) (upgraded_low place.layout t.height) c.requires.layout.hmax c.requires.limit (bounds g in_ok told) (copied g in_ok told) n.held
           (flipped g in_ok n.held (c.in_ok-make_live.ensures.flipped (told_on wrote.steps.frame told)));
       stands = each_held n (StandsWith (widened place.layout) (1 - place.region) h (resized_counts t.counts h)) (g.met.S.Station.lawful c.make_live.new.station) c.in_ok-make_live.ensures.settled (λ told_n.
           let told_b = told_back c.make_live.ensures.steps.frame told_n in
           let told = told_back wrote.steps.frame told_b in
-          stands_wide place h a.held b.held c.requires.region (settled g in_ok told) (wrote.steps.held told) (upgraded_low place.layout t.height) c.requires.layout.hmax c.requires.limit (bounds g in_ok told) (copied g in_ok told) n.held
+          stands_wide place h a.held b.held c.requires.region (settled g in_ok told) (c.requires.bare told) (wrote.steps.held told) (upgraded_low place.layout t.height) c.requires.layout.hmax c.requires.limit (bounds g in_ok told) (copied g in_ok told) n.held
           (flipped g in_ok n.held (c.in_ok-make_live.ensures.flipped told_b)) t.counts (counts g in_ok told));
       place_is = refl;
       place_kept = tt;

@@ -6,7 +6,7 @@ use Rattle.header_gate.specs.Places.{height_limit}
 use Rattle.map_model.specs.Array.{Array}
 use Rattle.map_model.specs.Image.{array_of}
 use Rattle.range_scan.specs.ReaderView.{ReaderView}
-use Rattle.segment_frames.specs.Standing.{StandsFor}
+use Rattle.resize_region.specs.Shares.{StandsBare}
 use Rattle.resize_region.specs.OldRows.{IsInOrder}
 use Rattle.resize_region.specs.Source.{Walks}
 use Rattle.resize_region.proofs.OldRowLaws.{own_start}
@@ -32,12 +32,12 @@ read_rest-requires-clause-order g c told =
     let steps = c.write_wide.ensures.writes.steps in
     let before = told_back steps.frame told in
     let place = c.args.place.now in
-    let same : array_of b.held ≡ array_of a.held = array_kept place a.held b.held (c.requires.can.stands a.held (inl (before, refl))).settled (steps.held before) in
+    let same : array_of b.held ≡ array_of a.held = array_kept place a.held b.held (c.requires.can.stands a.held (inl (before, refl))).stands.settled (c.requires.can.stands a.held (inl (before, refl))).bare (steps.held before) in
     subst (λ (l : Array). IsInOrder l c.write_wide.new.rows) (sym same) (c.in_ok-write_wide.ensures.order before)
 
 pub read_rest-requires-clause-stands : goal.read_rest-requires-clause-stands
 read_rest-requires-clause-stands g c =
-    let Stands = StandsFor c.args.place.now c.args.tally.now in
+    let Stands = StandsBare c.args.place.now c.args.tally.now in
     each_on Stands Stands c.write_wide.ensures.writes.steps c.requires.can.stands (λ d i is step. stands_kept c.args.place.now c.args.tally.now d i is step)
 
 pub returns-clause-writes : goal.returns-clause-writes

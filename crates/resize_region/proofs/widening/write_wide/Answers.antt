@@ -18,7 +18,7 @@ use Rattle.map_model.specs.Regions.{Spares}
 use Rattle.map_model.proofs.Spreading.{sum-counts}
 use Rattle.redo_journal.specs.Frames.{Batch}
 use Rattle.range_scan.proofs.Walks.{walk_written}
-use Rattle.segment_frames.specs.Standing.{StandsFor}
+use Rattle.resize_region.specs.Shares.{StandsBare}
 use Rattle.spread_plan.proofs.Spreads.{share-le}
 use Rattle.resize_region.specs.Aside.{aside_bytes}
 use Rattle.resize_region.specs.OldRows.{IsInOrder, rows_ahead}
@@ -48,7 +48,7 @@ loop-t-init g c =
     let none : 0 ≡ 0 * c.args.records / c.args.segments = omega arith in
     let start = c.requires.start in
     record {
-      steps = weaken (no_steps (g.S.Station.view c.args.station.now)) (λ d i left same. subst (Spares place.layout place.region d) (sym same) (subst (λ (region : ℕ). Spares place.layout region d d) (can.stands d left).settled.region_is (free_same place.layout d)));
+      steps = weaken (no_steps (g.S.Station.view c.args.station.now)) (λ d i left same. subst (Spares place.layout place.region d) (sym same) (subst (λ (region : ℕ). Spares place.layout region d d) (can.stands d left).stands.settled.region_is (free_same place.layout d)));
       reach = can.reach;
       stands = can.stands;
       array = λ told. refl;
@@ -57,6 +57,7 @@ loop-t-init g c =
       upto = omega arith;
       flushed = λ _. refl;
       journal = c.start_shares.ensures.journal;
+      turn = c.start_shares.ensures.turn;
       shares = c.start_shares.ensures.shares;
       empty = λ i low lt. c.start_shares.ensures.empty i lt;
       kept = λ told i lt. absurd (omega (arith, lt));
@@ -100,9 +101,9 @@ parted g c one full =
     )
 
 -- the file after it
-stands : (g : _) (c : After-gather g) → EachHeld (StandsFor c.args.place.now c.args.tally.now) (g.S.Station.view c.gather.new.station)
+stands : (g : _) (c : After-gather g) → EachHeld (StandsBare c.args.place.now c.args.tally.now) (g.S.Station.view c.gather.new.station)
 stands g c =
-    let Stands = StandsFor c.args.place.now c.args.tally.now in
+    let Stands = StandsBare c.args.place.now c.args.tally.now in
     each_on Stands Stands c.gather.ensures.reads.steps c.loop-t.invariant.stands (λ d i is step. subst Stands (sym step) is)
 
 pub gather-requires-clause-frame : goal.gather-requires-clause-frame
@@ -130,7 +131,7 @@ returns-in_err-gather-clause-writes g c =
     let inv = c.loop-t.invariant in
     let read = c.in_err-gather.ensures.reads in
     writes_err c.args.place.now c.args.tally.now c.args.segments c.args.frames.now c.gather.new.frames (g.S.Station.view c.args.station.now) (g.S.Station.view c.loop-t.station) (g.S.Station.view c.gather.new.station)
-    c.from_residual.result c.in_err-gather.field-0.0 (rw p.2 at p.1) (same_on inv.steps read.steps) (ap (λ (b : Batch). b.journal) c.gather.ensures.rest ∙ inv.journal)
+    c.from_residual.result c.in_err-gather.field-0.0 (rw p.2 at p.1) (same_on inv.steps read.steps) (ap (λ (b : Batch). b.journal) c.gather.ensures.rest ∙ inv.journal) (ap (λ (b : Batch). b.turn) c.gather.ensures.rest ∙ inv.turn)
     (omega (arith, inv.cost, unwritten g at, times_up (segment_size (widened c.args.place.now.layout)) (c.loop-t.t - c.loop-t.f) c.args.segments (omega (arith, c.loop-t-test.true))))
     (λ told. read.damaged (told_on inv.steps.frame told))
     (inr (read.cause.0, omega (arith, read.cause.1, read.upto), read.cause.2, subst (λ (n : ℕ). Walks c.args.place.now 0 n (g.S.Station.view c.args.station.now).travel (g.S.Station.view c.gather.new.station).travel) read.cause.1 (walked g at)))
@@ -158,7 +159,7 @@ pub write_places-requires-clause-layout : goal.write_places-requires-clause-layo
 write_places-requires-clause-layout g c = wide_layout c.args.place.now.layout c.requires.can.layout c.requires.can.limit
 
 pub write_places-requires-clause-live : goal.write_places-requires-clause-live
-write_places-requires-clause-live g c image left = at_place c.args.place.now image (stands g (goal.at.write_places-requires-clause-live g c).After-gather image left).settled
+write_places-requires-clause-live g c image left = at_place c.args.place.now image (stands g (goal.at.write_places-requires-clause-live g c).After-gather image left).stands.settled
 
 pub returns-in_err-write_places-clause-writes : goal.returns-in_err-write_places-clause-writes
 returns-in_err-write_places-clause-writes g c =
@@ -173,7 +174,7 @@ returns-in_err-write_places-clause-writes g c =
     writes_failed place c.args.tally.now c.args.segments c.args.frames.now c.gather.new.frames (g.S.Station.view c.args.station.now) (g.S.Station.view c.gather.new.station) (g.S.Station.view c.write_places.new.station)
     c.from_residual-in_err-write_places.result c.in_err-write_places.field-0.0 (rw p.2 at p.1)
     (andthen steps c.write_places.ensures.steps (λ d i left step. step) (λ d e i left first mid second. free_on place.layout place.region d e i first second))
-    (ap (λ (b : Batch). b.journal) c.gather.ensures.rest ∙ inv.journal)
+    (ap (λ (b : Batch). b.journal) c.gather.ensures.rest ∙ inv.journal) (ap (λ (b : Batch). b.turn) c.gather.ensures.rest ∙ inv.turn)
     (total n (g.S.Station.view c.args.station.now).travel.written (g.S.Station.view c.gather.new.station).travel.written (g.S.Station.view c.write_places.new.station).travel.written c.loop-t.t c.loop-t.f c.args.segments one c.write_places.ensures.writes.cost inv.within c.loop-t-test.true)
     c.in_err-write_places.ensures.fault steps.frame.disk_faults c.in_err-write_places.ensures.failed
 
@@ -187,7 +188,7 @@ returns-in_err-write_places-clause-reads g c =
 many : (g : _) (c : In_ok-gather g) → Told (g.S.Station.view c.args.station.now) → length (rows (array_of (g.S.Station.view c.args.station.now).held)) ≡ c.args.records
 many g c told =
     let a = g.S.Station.view c.args.station.now in
-    sym (sum-counts (array_of a.held)) ∙ ap sum (has_counts c.args.place.now c.args.tally.now a.held (c.requires.can.stands a.held (inl (told, refl)))).counts_are ∙ sym c.requires.records
+    sym (sum-counts (array_of a.held)) ∙ ap sum (has_counts c.args.place.now c.args.tally.now a.held (c.requires.can.stands a.held (inl (told, refl))).stands (c.requires.can.stands a.held (inl (told, refl))).bare).counts_are ∙ sym c.requires.records
 
 whole : (g : _) (c : In_ok-gather g) → Told (g.S.Station.view c.args.station.now) → share_in wide c.loop-t.f c.gather.new.frames ++ rows_ahead (array_of (g.S.Station.view c.args.station.now).held) c.gather.new.rows
     ≡ drop (c.loop-t.t * c.args.records / c.args.segments) (rows (array_of (g.S.Station.view c.args.station.now).held))
@@ -251,7 +252,7 @@ fits g c told i lt =
     let rs = rows (array_of a.held) in
     let inside : k < m = omega (arith, c.loop-t-test.true, c.loop-t.invariant.within, lt) in
     let long : length (segment_at (spread_over m rs) k) ≤ SEGMENT_SLOTS = omega (arith, length-share n m k some inside rs (many g c told), few) in
-    let own = share_fits c.args.place.now a.held (c.requires.can.stands a.held (inl (told, refl))).settled m k some long in
+    let own = share_fits c.args.place.now a.held (c.requires.can.stands a.held (inl (told, refl))).stands.settled m k some long in
     subst (FitsSegment wide) (sym (kept g c told i lt)) (wide_fits (segment_at (spread_over m rs) k) (subst (λ (f : ℕ). FitsSegment f (segment_at (spread_over m rs) k)) c.requires.can.narrow_is own))
 
 pub loop-t-preserved-then-not-fits_more : goal.loop-t-preserved-then-not-fits_more
@@ -271,7 +272,7 @@ loop-t-preserved-then-not-fits_more g c =
     let before = g.S.Station.view c.gather.new.station in
     let w = g.S.Station.view c.write_places.new.station in
     let read = c.gather.ensures.reads in
-    let Stands = StandsFor place t in
+    let Stands = StandsBare place t in
     let all : places wide c.gather.new.frames ≡ place.layout.journal / 2 = ap (λ (b : Batch). b.journal / 2) c.gather.ensures.rest ∙ ap (λ (j : ℕ). j / 2) (inv.journal ∙ c.requires.can.journal) in
     record {
       steps = andthen (same_on inv.steps read.steps) c.write_places.ensures.steps (λ d i left step. step) (λ d e i left first mid second. free_on place.layout place.region d e i first second);
@@ -280,13 +281,14 @@ loop-t-preserved-then-not-fits_more g c =
       array = λ told.
           let told_l = told_on inv.steps.frame told in
           let told_f = told_on read.steps.frame told_l in
-          array_kept place before.held w.held (stands g after before.held (inl (told_f, refl))).settled (c.write_places.ensures.steps.held told_f)
+          array_kept place before.held w.held (stands g after before.held (inl (told_f, refl))).stands.settled (stands g after before.held (inl (told_f, refl))).bare (c.write_places.ensures.steps.held told_f)
           ∙ ap array_of (read.steps.held told_l) ∙ inv.array told;
       below = omega (arith, c.requires.can.layout.least);
       within = omega arith;
       upto = omega (arith, lt);
       flushed = λ e. refl;
       journal = ap (λ (x : Batch). x.journal) c.clear_shares.ensures.rest ∙ ap (λ (x : Batch). x.journal) c.gather.ensures.rest ∙ inv.journal;
+      turn = ap (λ (x : Batch). x.turn) c.clear_shares.ensures.rest ∙ ap (λ (x : Batch). x.turn) c.gather.ensures.rest ∙ inv.turn;
       shares = c.clear_shares.ensures.shares;
       empty = λ i le lt_i. elim (cases_lt i (f + 1)) [
         | inl in_run ↦ c.clear_shares.ensures.empty i in_run
@@ -337,6 +339,7 @@ loop-t-preserved g c =
       upto = omega (arith, lt);
       flushed = λ e. absurd (omega (arith, e, c.fits_more.ensures.more c.if-not-fits_more.false));
       journal = ap (λ (x : Batch). x.journal) c.gather.ensures.rest ∙ inv.journal;
+      turn = ap (λ (x : Batch). x.turn) c.gather.ensures.rest ∙ inv.turn;
       shares = c.in_ok-gather.ensures.shares;
       empty = λ i le lt_i. empty g at i le lt_i;
       kept = λ told i low. kept g at told i low;
@@ -368,6 +371,7 @@ returns-clause-writes g c =
       steps = inv.steps;
       written = λ told i lt. inv.written told i (omega (arith, lt, inv.flushed end, end));
       journal = inv.journal;
+      turn = inv.turn;
       cost = omega (arith, inv.cost, times_up (segment_size (widened c.args.place.now.layout)) (c.loop-t.t - c.loop-t.f) c.args.segments (omega (arith, inv.upto)));
       damaged = tt;
       cause = tt;

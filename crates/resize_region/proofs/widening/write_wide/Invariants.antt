@@ -6,7 +6,7 @@ use Rattle.key_slot.specs.Format.{wide}
 use Rattle.map_model.specs.Array.{rows, segment_at, spread_over}
 use Rattle.map_model.specs.Image.{array_of}
 use Rattle.map_model.specs.Regions.{Spares}
-use Rattle.segment_frames.specs.Standing.{StandsFor}
+use Rattle.resize_region.specs.Shares.{StandsBare}
 use Rattle.resize_region.specs.Aside.{HasWritten}
 use Rattle.resize_region.specs.OldRows.{IsAmongRows, IsInOrder, rows_left, rows_ahead}
 use Rattle.resize_region.specs.Shares.{HasShares, share_in}
@@ -20,13 +20,14 @@ abbrev pub invariant-loop-t : goal.invariant-loop-t
 invariant-loop-t g l = record {
   steps : Steps (Spares l.place.layout l.place.region) (g.S.Station.view l.fn.station) (g.S.Station.view l.station);
   reach : file_length l.place.layout ≤ (g.S.Station.view l.station).fixed.reach;
-  stands : EachHeld (StandsFor l.place l.tally) (g.S.Station.view l.station);
+  stands : EachHeld (StandsBare l.place l.tally) (g.S.Station.view l.station);
   array : Told (g.S.Station.view l.fn.station) → array_of (g.S.Station.view l.station).held ≡ array_of (g.S.Station.view l.fn.station).held;
   below : l.f < l.all;
   within : l.f ≤ l.t;
   upto : l.t ≤ l.segments;
   flushed : l.t ≡ l.segments → l.f ≡ 0;
   journal : l.frames.journal ≡ l.fn.frames.journal;
+  turn : l.frames.turn ≡ l.fn.frames.turn;
   shares : HasShares wide l.frames;
   empty : (i : ℕ) → l.f ≤ i → i < l.all → share_in wide i l.frames ≡ [];
   kept : Told (g.S.Station.view l.fn.station) → (i : ℕ) → i < l.f → share_in wide i l.frames ≡ segment_at (spread_over l.segments (rows (array_of (g.S.Station.view l.fn.station).held))) (l.t - l.f + i);

@@ -3,6 +3,7 @@ use Rattle.std.proofs.lemmas.Bool.{false≢true}
 use Rattle.station.specs.View.{View, MayHold}
 use Rattle.header_gate.specs.Places.{file_length}
 use Rattle.header_gate.specs.declared.layout.Layout.{Layout}
+use Rattle.redo_journal.specs.Rest.{RestsAt}
 use Rattle.pma_store.specs.Store.{StoreView}
 use Rattle.run_rows.specs.Untold.{untold_station}
 use Rattle.run_rows.proofs.untold.a_store_of_parts_goes_by_their_index.Goals as goal
@@ -13,7 +14,7 @@ get-requires g c = record {
   «open» = record {
     on = record {
       stands = λ image held. none image held;
-      settled = λ honest. absurd (false≢true honest);
+      rests = subst (λ (s : StoreView). RestsAt s.place.layout s.turn v) (sym c.from_parts-store.ensures.store) c.in_ok-parts.ensures.rests;
       reach = subst (λ (l : Layout). file_length l ≤ 2 ^ 40) (sym (ap (λ (s : StoreView). s.place.layout) c.from_parts-store.ensures.store)) c.in_ok-parts.ensures.reach;
     };
     opened = ap (λ (s : StoreView). s.closed) c.from_parts-store.ensures.store;

@@ -7,7 +7,7 @@ use Rattle.map_model.specs.Image.{map_of}
 use Rattle.cursor_set.specs.Slots.{found_in, cursor_of}
 use Rattle.cursor_set.specs.declared.answers.Step.TheVariants as step
 use Rattle.cursor_set.proofs.Places.{get-cursors_in}
-use Rattle.cursor_set.proofs.Changes.{after_is_next, cursor_there, step_answer, step_row, step_end, step_keeps}
+use Rattle.cursor_set.proofs.Changes.{after_is, cursor_there, step_answer, step_row, step_end, step_keeps}
 use Rattle.cursor_set.proofs.Looks.{near_for, not_both}
 use Rattle.cursor_set.proofs.set.CursorSet.next_row.Goals as goal
 use Rattle.cursor_set.proofs.set.CursorSet.next_row.Goals.{After-find_entry}
@@ -32,7 +32,7 @@ returns-in_default-clause-known g c =
 pub returns-in_default-clause-next : goal.returns-in_default-clause-next
 returns-in_default-clause-next g c told =
     let here = (goal.at.returns-in_default-clause-next g c).After-find_entry in
-    sym (ap (moved_if (map_of (g.S.Station.view c.args.station.now).held) c.args.self.now c.args.name.now) (absent g here c.in_default.is))
+    sym (ap (moved_if (next_of (map_of (g.S.Station.view c.args.station.now).held)) c.args.self.now c.args.name.now) (absent g here c.in_default.is))
 
 pub returns-in_default-clause-reads : goal.returns-in_default-clause-reads
 returns-in_default-clause-reads g c k at =
@@ -100,7 +100,7 @@ invariant_of-self-in-Ok-None g c =
 pub returns-in-Ok-Some-clause-answer : goal.returns-in-Ok-Some-clause-answer
 returns-in-Ok-Some-clause-answer g c told =
     step_answer c.self.inside.slots c.in-Some.place c.in-Some.entry c.args.name.now c.self.invariant c.in-Some.ensures.there c.in-Some.ensures.named c.args.self.now c.self.view_is
-    (map_of (g.S.Station.view c.args.station.now).held) (Some (record_of c.in-Ok-Some.row)) (sym (ap (option_map record_of) c.in-Ok-Some.field-0-is) ∙ c.in-Ok-Some.ensures.row told)
+    (next_of (map_of (g.S.Station.view c.args.station.now).held)) (Some (record_of c.in-Ok-Some.row)) (sym (ap (option_map record_of) c.in-Ok-Some.field-0-is) ∙ c.in-Ok-Some.ensures.row told)
 
 pub returns-in-Ok-Some-clause-known : goal.returns-in-Ok-Some-clause-known
 returns-in-Ok-Some-clause-known g c =
@@ -112,16 +112,16 @@ returns-in-Ok-Some-clause-after g c =
 
 pub returns-in-Ok-Some-clause-next : goal.returns-in-Ok-Some-clause-next
 returns-in-Ok-Some-clause-next g c told =
-    let m = map_of (g.S.Station.view c.args.station.now).held in
+    let gives = next_of (map_of (g.S.Station.view c.args.station.now).held) in
     step_row c.self.inside.slots c.in-Some.place c.in-Some.entry c.args.name.now c.self.invariant c.in-Some.ensures.there c.in-Some.ensures.named c.args.self.now c.self.view_is c.in-Ok-Some.row
-    ∙ after_is_next m c.args.self.now c.args.name.now (step.Row c.in-Ok-Some.row)
+    ∙ after_is gives c.args.self.now c.args.name.now (step.Row c.in-Ok-Some.row)
     (step_answer c.self.inside.slots c.in-Some.place c.in-Some.entry c.args.name.now c.self.invariant c.in-Some.ensures.there c.in-Some.ensures.named c.args.self.now c.self.view_is
-    m (Some (record_of c.in-Ok-Some.row)) (sym (ap (option_map record_of) c.in-Ok-Some.field-0-is) ∙ c.in-Ok-Some.ensures.row told))
+    gives (Some (record_of c.in-Ok-Some.row)) (sym (ap (option_map record_of) c.in-Ok-Some.field-0-is) ∙ c.in-Ok-Some.ensures.row told))
 
 pub returns-in-Ok-None-clause-answer : goal.returns-in-Ok-None-clause-answer
 returns-in-Ok-None-clause-answer g c told =
     step_answer c.self.inside.slots c.in-Some.place c.in-Some.entry c.args.name.now c.self.invariant c.in-Some.ensures.there c.in-Some.ensures.named c.args.self.now c.self.view_is
-    (map_of (g.S.Station.view c.args.station.now).held) None (sym (ap (option_map record_of) c.in-Ok-None.field-0-is) ∙ c.in-Ok-None.ensures.row told)
+    (next_of (map_of (g.S.Station.view c.args.station.now).held)) None (sym (ap (option_map record_of) c.in-Ok-None.field-0-is) ∙ c.in-Ok-None.ensures.row told)
 
 pub returns-in-Ok-None-clause-known : goal.returns-in-Ok-None-clause-known
 returns-in-Ok-None-clause-known g c =
@@ -133,8 +133,8 @@ returns-in-Ok-None-clause-after g c =
 
 pub returns-in-Ok-None-clause-next : goal.returns-in-Ok-None-clause-next
 returns-in-Ok-None-clause-next g c told =
-    let m = map_of (g.S.Station.view c.args.station.now).held in
+    let gives = next_of (map_of (g.S.Station.view c.args.station.now).held) in
     step_end c.self.inside.slots c.in-Some.place c.in-Some.entry c.args.name.now c.self.invariant c.in-Some.ensures.there c.in-Some.ensures.named c.args.self.now c.self.view_is
-    ∙ after_is_next m c.args.self.now c.args.name.now step.End
+    ∙ after_is gives c.args.self.now c.args.name.now step.End
     (step_answer c.self.inside.slots c.in-Some.place c.in-Some.entry c.args.name.now c.self.invariant c.in-Some.ensures.there c.in-Some.ensures.named c.args.self.now c.self.view_is
-    m None (sym (ap (option_map record_of) c.in-Ok-None.field-0-is) ∙ c.in-Ok-None.ensures.row told))
+    gives None (sym (ap (option_map record_of) c.in-Ok-None.field-0-is) ∙ c.in-Ok-None.ensures.row told))

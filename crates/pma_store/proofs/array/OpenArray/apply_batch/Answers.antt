@@ -11,12 +11,19 @@ use Rattle.pma_store.specs.Batching.{AppliesBatch, version_of}
 use Rattle.pma_store.specs.Store.{StoreView, limit_of}
 use Rattle.pma_store.proofs.BatchCalls.{intent_behind}
 use Rattle.pma_store.proofs.Batched.{full_batch, judged_then, no_batch}
+use Rattle.pma_store.proofs.Making.{opens_on}
 use Rattle.pma_store.proofs.array.OpenArray.apply_batch.Goals as goal
 
 pub returns-then-self-lt-INTENT_VERSION : goal.returns-then-self-lt-INTENT_VERSION
 returns-then-self-lt-INTENT_VERSION g c =
     let early : version_of c.args.self.now < INTENT_VERSION = first_of (search rules, grind (arith, common_steps)) in
     no_batch c.args.intent.now c.args.self.now c.requires.open (g.met.S.Station.lawful c.args.station.now) (no_steps (g.S.Station.view c.args.station.now)) early
+
+-- the judged store is open on its file
+pub run_batch-requires-clause-open : goal.run_batch-requires-clause-open
+run_batch-requires-clause-open g c =
+    let judges = subst (λ (r : Result Tried StoreFault). TriesOnce c.args.intent.now r c.args.self.now c.try_at_once.new.self (g.S.Station.view c.args.station.now) (g.S.Station.view c.try_at_once.new.station)) (c.in-Ok-Judged.is ∙ ap Ok c.in-Ok-Judged.field-0-is) c.try_at_once.ensures in
+    opens_on c.args.self.now c.try_at_once.new.self (g.met.S.Station.lawful c.args.station.now) c.requires.open judges.steps judges.store
 
 pub returns-in-Ok-Judged : goal.returns-in-Ok-Judged
 returns-in-Ok-Judged g c =

@@ -12,6 +12,7 @@ use Rattle.pma_store.specs.Judging.{found_at}
 use Rattle.pma_store.specs.Updating.{FitsFormat, update_of}
 use Rattle.pma_store.proofs.ItemsApplied.{fits_format}
 use Rattle.pma_store.proofs.ItemsMade.{HasMade, none_made, one_more, one_fails, as_found, all_made, not_closed}
+use Rattle.pma_store.proofs.Resting.{rests_closed}
 use Rattle.pma_store.proofs.array.OpenArray.make_items.Goals as goal
 
 pub loop-i-init : goal.loop-i-init
@@ -78,6 +79,7 @@ returns-in-Ok-close_intent g c =
     let end : c.loop-i.i ≡ length items = omega (arith, c.len-i-end.ensures.count, c.loop-i-test.false) in
     let made = subst (λ (n : ℕ). HasMade items n c.loop-i.charges c.args.self.now c.loop-i.self a b) end c.loop-i.invariant.made in
     all_made items c.loop-i.charges c.args.self.now c.loop-i.self a b e made c.close_intent.ensures.steps c.close_intent.ensures.cost c.close_intent.ensures.calls c.len-i-end.ensures.intent.most (g.met.S.Station.lawful c.close_intent.new.station) c.in-Ok-close_intent.ensures.settled
+    (rests_closed c.loop-i.self.place.layout c.loop-i.self.turn (g.met.S.Station.lawful c.close_intent.new.station) made.on.rests c.in-Ok-close_intent.ensures.settled c.close_intent.ensures.steps)
     (λ told. ap (λ (n : ℕ). n % 2) (c.in-Ok-close_intent.ensures.closed told))
 
 pub returns-in-Err-close_intent : goal.returns-in-Err-close_intent

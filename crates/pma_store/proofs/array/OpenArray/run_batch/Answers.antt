@@ -5,11 +5,13 @@ use Rattle.map_model.specs.ArrayState.{ArrayState}
 use Rattle.map_model.specs.Store.{Map}
 use Rattle.pma_store.specs.Judging.{AreAllFound, counts_of}
 use Rattle.pma_store.proofs.Batched.{stands_intent, state_intent, not_called, not_written, intent_called, items_fail, whole_batch}
+use Rattle.pma_store.proofs.Resting.{rests_written}
 use Rattle.pma_store.proofs.array.OpenArray.run_batch.Goals as goal
 
 pub make_items-requires-clause-on : goal.make_items-requires-clause-on
 make_items-requires-clause-on g c =
-    stands_intent c.args.intent.now c.args.self.now c.requires.open (g.met.S.Station.lawful c.args.station.now) c.requires.some c.write_intent.ensures.intent c.requires.fit c.requires.version (counts_of c.args.judged.now) c.requires.judged c.write_intent.ensures.steps c.in-Ok.ensures.settled
+    stands_intent c.args.intent.now c.args.self.now c.requires.open (g.met.S.Station.lawful c.args.station.now) c.requires.some c.write_intent.ensures.intent c.requires.fit c.requires.version (counts_of c.args.judged.now) c.requires.judged c.write_intent.ensures.steps
+    (rests_written c.args.self.now.place.layout c.args.self.now.turn c.args.intent.now (g.met.S.Station.lawful c.write_intent.new.station) c.requires.open.on.rests c.in-Ok.ensures.settled c.write_intent.ensures.steps)
 
 pub make_items-requires-clause-found : goal.make_items-requires-clause-found
 make_items-requires-clause-found g c told =

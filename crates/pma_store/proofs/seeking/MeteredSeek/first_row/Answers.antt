@@ -10,7 +10,7 @@ use Rattle.pma_store.proofs.seeking.MeteredSeek.first_row.Goals as goal
 pub seek-requires : goal.seek-requires
 seek-requires g c = record {
   «open» = subst (λ (m : MeteredView). IsOpenOn m.store (g.S.Station.view c.args.station.now)) (sym c.self.view_is)
-      (opens_by c.args.self.now.store c.requires.open c.requires.store c.requires.nothing c.requires.reach);
+      (opens_by c.args.self.now.store c.requires.open c.requires.store c.requires.rests c.requires.reach);
 }
 
 pub returns-clause-state : goal.returns-clause-state
@@ -24,8 +24,8 @@ returns-clause-kept g c = ap kept_region c.seek.ensures.sought.kept ∙ ap (λ (
 pub returns-clause-store : goal.returns-clause-store
 returns-clause-store g c = on_ok_weaker c.seek.result (stands_idle c.seek.new.self) c.seek.ensures.open
 
-pub returns-clause-settled : goal.returns-clause-settled
-returns-clause-settled g c = on_ok_weaker c.seek.result (λ (is : IsOpenOn c.seek.new.self (g.S.Station.view c.seek.new.station)). is.on.settled) c.seek.ensures.open
+pub returns-clause-rests : goal.returns-clause-rests
+returns-clause-rests g c = on_ok_weaker c.seek.result (λ (is : IsOpenOn c.seek.new.self (g.S.Station.view c.seek.new.station)). is.on.rests) c.seek.ensures.open
 
 pub returns-clause-reads : goal.returns-clause-reads
 returns-clause-reads g c =

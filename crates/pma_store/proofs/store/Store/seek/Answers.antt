@@ -5,12 +5,14 @@ use Rattle.key_slot.specs.declared.row.Row.{Row}
 use Rattle.map_model.specs.Image.{array_of}
 use Rattle.range_scan.specs.Seeking.{ReadsNear, later}
 use Rattle.segment.specs.declared.fault.StoreFault.{StoreFault}
+use Rattle.header_gate.specs.InPlace.{IsRecovered}
 use Rattle.pma_store.specs.Seeking.{kept_region}
 use Rattle.pma_store.specs.Store.{StoreView, Stands}
 use Rattle.pma_store.specs.Inside.{view_of}
 use Rattle.pma_store.specs.declared.store.Store.TheInside.{Inside}
 use Rattle.pma_store.proofs.Making.{kept_open, opens_on, stands_there}
 use Rattle.pma_store.proofs.Standing.{rows_ascend, within_region}
+use Rattle.pma_store.proofs.Resting.{readable_held}
 use Rattle.pma_store.proofs.store.Store.seek.Goals as goal
 use Rattle.pma_store.proofs.store.Store.seek.Goals.{After-first_segment-first, After-first_ahead_in}
 
@@ -67,3 +69,7 @@ returns-in-Err-clause-sought g c =
       kept = (λ τ. record (same g here.After-first_segment-first τ) { closed = true });
       read = near g here.After-first_ahead_in (Err c.in-Err.fault) (same g here.After-first_segment-first) c.in-Err.ensures.reads;
     }
+
+pub first_ahead_in-requires-clause-readable : goal.first_ahead_in-requires-clause-readable
+first_ahead_in-requires-clause-readable g c told =
+    subst (λ (s : StoreView). IsRecovered s.place.layout (g.S.Station.view c.args.station.now).held) (sym (ap (λ (s : Inside). s.array) c.self-inside.view_is ∙ c.self.view_is)) (readable_held c.args.self.now c.requires.open.on told)

@@ -52,7 +52,7 @@ module _ (s : SweepView) (is : IsSweep s) (none : s.kept ≡ []) (some : 0 < len
     read = ap (λ (r : ReaderView). r.next) after;
     faulted = refl;
     sweeping = λ image sweeping.
-        sweeping_read s image is sweeping 0 reader along (λ empty. absurd (omega (arith, some, ap length empty))) (omega (arith, some, is.first_is, is.reader.within)) step (omega (arith, fewer, read_none s.along 0 some)) rows place none
+        sweeping_read s image is sweeping 0 reader along (λ empty. absurd (omega (arith, some, ap length empty))) (omega (arith, some, is.first_is, is.reader.within)) step (omega (arith, fewer, read_none s.along 0 some)) (λ empty. absurd (omega (arith, some, ap length empty))) rows place none
         (ap (λ (r : ReaderView). r.last) after)
         (subst (IsSegment s.reader.layout.format rows) (first_any s.along [] (page_in s.reader.layout s.reader.region image s.reader.next) some) here)
         (rest ∙ rest_any s.along (pages_in s.reader.layout s.reader.region image (s.reader.next + 1) (0 - 1)) some) before;
@@ -114,10 +114,10 @@ returns-then-not-turn-clause-goes c image sweeping wanting nothing some =
     let first : first_of s.along [] ≡ first_of s.along page = first_any s.along [] page more in
     let format : i.page.now.format ≡ s.reader.layout.format = c.self.invariant.3 more in
     let segment : c.next_number.result - c.along-2.result ≡ judged s = omega (arith, c.next_number.ensures.next, c.along-2.ensures) in
-    let fine : page_fault i.page.now.format (judged s) s.reader.last (first_of s.along []) ≡ None = (λ t. page_fault (format t) (judged s) s.reader.last (first t)) ∙ next_fine s image is amid lt in
+    let fine : page_fault i.page.now.format (judged s) s.reader.last (first_of s.along []) ≡ None = (λ t. page_fault (format t) (judged s) s.reader.last (first t)) ∙ next_fine s image is amid (λ empty. absurd (omega (arith, more, ap length empty))) lt in
     let count : length (segment_of i.page.now.format (first_of s.along [])) ≡ c.kept_count-kept.result =
     (λ t. length (segment_of (format t) (first t)))
-    ∙ next_count s image is amid lt
+    ∙ next_count s image is amid (λ empty. absurd (omega (arith, more, ap length empty))) lt
     ∙ ap (count_in s.tally.counts 0) (sym segment)
     ∙ sym c.kept_count-kept.ensures.count in
     sym c.if-not-turn.true ∙ c.turn.ensures.sound (judged s) fine count

@@ -1,0 +1,52 @@
+-- The two ways in which a cursor steps.
+use Rattle.std.specs.Prelude.{◌≡◌, Bool, true, false, T, List, Option, Some}
+use Rattle.std.specs.declared.cmp.Ordering.{Ordering}
+use Rattle.std.specs.Ordering.{is_lt}
+use Rattle.std.specs.FinMap.{contains_key, get, is_sorted}
+use Rattle.key_slot.specs.Record.{Bytes, Record, key_cmp}
+use Rattle.map_model.specs.Cursors.{Cursor, is_above, next_of, prev_of}
+use Rattle.map_model.specs.Scan.{is_below, is_within}
+use Rattle.map_model.specs.Store.{Map}
+use Rattle.command_text.specs.declared.command.Command.{Command}
+use Rattle.command_text.specs.declared.command.Command.TheVariants as command
+
+-- to the least key above, or to the greatest below
+pub data Way : Type 0 where
+  onward : Way
+  back : Way
+
+-- the command that has the cursor of a name step
+abbrev pub step_command : Way → Bytes → Command
+step_command onward name = command.Next name
+step_command back name = command.Prev name
+
+-- what a cursor gives of a map by a step
+abbrev pub step_of : Way → Map → Cursor → Option Record
+step_of onward m k = next_of m k
+step_of back m k = prev_of m k
+
+-- how keys compare on a way: the lesser is the one that is come by first
+abbrev pub order_of : Way → Bytes → Bytes → Ordering
+order_of onward x y = key_cmp x y
+order_of back x y = key_cmp y x
+
+-- whether a key lies beyond another, where there is one
+abbrev pub is_beyond : Way → Option Bytes → Bytes → Bool
+is_beyond onward past key = is_above past key
+is_beyond back past key = is_below past key
+
+-- the keys of records fall strictly
+abbrev pub IsDescending : List Record → Type 0
+IsDescending records = T (is_sorted (order_of back) records)
+
+-- Of the records of a map whose keys lie within bounds and beyond a key, this one is the nearest: going on it has the least key,
+-- and going back the greatest.
+pub record IsNearest (way : Way) (low high past : Option Bytes) (m : Map) (r : Record) : Type 0 where
+  pub there : get m r.0 ≡ Some r.1
+  pub within : is_within low high r.0 ≡ true
+  pub beyond : is_beyond way past r.0 ≡ true
+  pub nearest : (key : Bytes) → contains_key m key ≡ true → is_within low high key ≡ true → is_beyond way past key ≡ true → is_lt (order_of way key r.0) ≡ false
+
+-- no key of a map that lies within bounds lies beyond a key
+abbrev pub NoneBeyond : Way → Option Bytes → Option Bytes → Option Bytes → Map → Type 0
+NoneBeyond way low high past m = (key : Bytes) → contains_key m key ≡ true → is_within low high key ≡ true → is_beyond way past key ≡ false

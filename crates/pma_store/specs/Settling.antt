@@ -1,0 +1,31 @@
+-- What it comes to that nothing is pending any more.
+use Rattle.std.specs.Prelude.{◌≡◌, ◌+◌, ◌≤◌, Result, OnOk, IfErr, is_err}
+use Rattle.station.specs.Bytes.{Touched}
+use Rattle.station.specs.View.{View, Told, NothingPending}
+use Rattle.station.specs.Steps.{Steps}
+use Rattle.header_gate.specs.InPlace.{IsBare}
+use Rattle.map_model.specs.Image.{map_of}
+use Rattle.segment.specs.declared.fault.StoreFault.{StoreFault}
+use Rattle.segment.specs.declared.fault.StoreFault.TheVariants.{Failed}
+use Rattle.pma_store.specs.Answers.{state_in}
+use Rattle.pma_store.specs.Calling.{clear_calls}
+use Rattle.pma_store.specs.Meaning.{MeansNow}
+use Rattle.pma_store.specs.Readying.{clear_cost}
+use Rattle.pma_store.specs.Store.{StoreView}
+use Rattle.pma_store.specs.Touching.{IsClearPlace}
+
+-- Nothing is pending, and no page is to be laid over the live region. At every moment the file means the same map, and no byte
+-- but those of the gate and the journals was touched.
+pub record SettlesStore {T : Type 0} (result : Result T StoreFault) (s t : StoreView) (a b : View) : Type 0 where
+  pub nothing : OnOk result (NothingPending b)
+  pub bare : OnOk result (Told b → IsBare s.place.layout b.held)
+  pub state : OnOk result (Told a → state_in t b.held ≡ state_in s a.held)
+  -- the store is as it was, but for what it notes of the gate, and closed by a fault
+  pub store : t ≡ record s { turn = t.turn; closed = is_err result }
+  pub meant : Steps (MeansNow s.place.layout (map_of a.held)) a b
+  pub touched : Steps (Touched (IsClearPlace s.place.layout)) a b
+  pub cost : b.travel.written ≤ a.travel.written + clear_cost s.place.layout
+  pub unread : b.travel.read ≡ a.travel.read
+  pub calls : b.calls ≤ a.calls + clear_calls s.place.layout
+  -- it fails by the disk alone
+  pub disk : IfErr result (λ fault. fault ≡ Failed)

@@ -1,0 +1,137 @@
+//! The last record before a key, by a look at the segment to which it belongs, and at the one before it where it needs that.
+
+ghost use Rattle.std.specs.Prelude.{◌≡◌, ◌<◌, ◌≤◌, ◌+◌, ◌^◌, Option, T, IfOk, OnOk, IfErr, IsErrOf, length, take, drop};
+ghost use Rattle.std.specs.Option.{option_map};
+ghost use Rattle.std.specs.FinMap.{entries};
+ghost use Rattle.station.specs.Bytes.{Same};
+ghost use Rattle.station.specs.View.{Told, Rose};
+ghost use Rattle.station.specs.Steps.{Steps};
+ghost use Rattle.header_gate.specs.InPlace.{IsRecovered};
+ghost use Rattle.header_gate.specs.Places.{IsLayout, file_length, height_limit};
+ghost use Rattle.key_slot.specs.Row.{record_of};
+ghost use Rattle.key_slot.specs.Record.{Bytes};
+ghost use Rattle.map_model.specs.Array.{segment_at};
+ghost use Rattle.map_model.specs.Cursors.{last_behind};
+ghost use Rattle.map_model.specs.Image.{map_of, array_of};
+ghost use Rattle.map_model.specs.Standing.{StandsBalanced};
+ghost use Rattle.range_scan.specs.Bounds.{are_below, are_behind};
+ghost use Rattle.range_scan.specs.Faults.{IsDamageAt};
+ghost use Rattle.range_scan.specs.Seeking.{earlier, last_from, ReadsBehind};
+ghost use Rattle.range_scan.specs.Sweeping.{last_for};
+ghost use Rattle.range_scan.specs.Walk.{after_walk};
+
+use crate::counted::kept_count;
+use crate::held_page::HeldPage;
+use header_gate::Layout;
+use key_slot::{Key, Row};
+use segment::{SegmentView, StoreFault};
+use station::Station;
+use window_tally::Tally;
+
+/// The bound below which a look must end for the last record that is below `past` and below `high`.
+pub fn end_bound(past: Option<Key>, high: Option<Key>) -> Option<Key>
+    ensures { result ≡ earlier past high }
+{
+    match (past, high) {
+        (Some(past), Some(high)) => Some(if past < high { past } else { high }),
+        (Some(past), None) => Some(past),
+        (None, high) => high,
+    }
+}
+
+/// The record of a region with the greatest key that isn't below a lower bound and is below `end`.
+///
+/// It looks for it in segment `last`, to which `end` belongs, and in the one before it where no record of `last` is below `end`. So
+/// at most two segments are read, one after the other, into the page.
+pub fn last_behind_in<S: Station>(
+    station: &mut S,
+    layout: Layout,
+    region: u32,
+    tally: &Tally,
+    page: &mut HeldPage,
+    last: u32,
+    low: &Option<Key>,
+    end: &Option<Key>,
+) -> Result<Option<Row>, StoreFault>
+    requires layout { IsLayout layout }
+    requires region { region < 2 }
+    requires height { tally.now.height ≤ height_limit layout }
+    requires last { last < 2 ^ tally.now.height }
+    requires reach { file_length layout ≤ (S.view station.old).fixed.reach }
+    requires stands { Told (S.view station.old) → StandsBalanced layout region tally.now.height tally.now.counts (S.view station.old).held }
+    requires readable { Told (S.view station.old) → IsRecovered layout (S.view station.old).held }
+    requires ends { Told (S.view station.old) → last ≡ last_for end.now (array_of (S.view station.old).held) }
+    ensures row { IfOk result (λ row. Told (S.view station.old) → (past high : Option Bytes) → end.now ≡ earlier past high → option_map record_of row ≡ last_behind low.now past high (entries (map_of (S.view station.old).held))) }
+    ensures damaged { IfErr result (λ fault. Told (S.view station.old) → fault ≡ StoreFault.Failed) }
+    ensures failed { IsErrOf result StoreFault.Failed → Rose (S.view station.old).disk_faults (S.view station.new).disk_faults }
+    ensures steps { Steps Same (S.view station.old) (S.view station.new) }
+    ensures reads { ReadsBehind end.now (record { layout = layout; region = region; height = tally.now.height; counts = tally.now.counts }) result (S.view station.old) (S.view station.new) }
+{
+    let place = read_below(station, &layout, region, tally, page, last, end)?;
+    if place > 0 || last == 0 {
+        return Ok(row_before(&page.rows(), place, low));
+    }
+    let place = read_below(station, &layout, region, tally, page, last - 1, end)?;
+    Ok(row_before(&page.rows(), place, low))
+}
+
+// Reads a segment, and answers how many of its records are below a bound.
+fn read_below<S: Station>(
+    station: &mut S,
+    layout: &Layout,
+    region: u32,
+    tally: &Tally,
+    page: &mut HeldPage,
+    segment: u32,
+    end: &Option<Key>,
+) -> Result<u32, StoreFault>
+    requires layout { IsLayout layout.now }
+    requires region { region < 2 }
+    requires height { tally.now.height ≤ height_limit layout.now }
+    requires segment { segment < 2 ^ tally.now.height }
+    requires reach { file_length layout.now ≤ (S.view station.old).fixed.reach }
+    requires stands { Told (S.view station.old) → StandsBalanced layout.now region tally.now.height tally.now.counts (S.view station.old).held }
+    requires readable { Told (S.view station.old) → IsRecovered layout.now (S.view station.old).held }
+    ensures rows { OnOk result (Told (S.view station.old) → page.new.rows ≡ segment_at (array_of (S.view station.old).held) segment) }
+    ensures within { IfOk result (λ place. place ≤ length page.new.rows) }
+    ensures below { IfOk result (λ place. T (are_below end.now (take place page.new.rows))) }
+    ensures behind { IfOk result (λ place. T (are_behind end.now (drop place page.new.rows))) }
+    ensures causes { IfErr result (IsDamageAt segment tally.now.counts) }
+    ensures damaged { IfErr result (λ fault. Told (S.view station.old) → fault ≡ StoreFault.Failed) }
+    ensures failed { IsErrOf result StoreFault.Failed → Rose (S.view station.old).disk_faults (S.view station.new).disk_faults }
+    ensures steps { Steps Same (S.view station.old) (S.view station.new) }
+    ensures reads { (S.view station.new).travel ≡ after_walk layout.now region segment (segment + 1) (S.view station.old).travel }
+    ensures calls { (S.view station.new).calls ≤ (S.view station.old).calls + 1 }
+{
+    let kept = kept_count(tally, segment);
+    page.read(station, layout, region, segment, kept)?;
+    Ok(end_in(&page.rows(), end))
+}
+
+// The place of the first record that isn't below a bound.
+fn end_in(rows: &SegmentView<'_>, end: &Option<Key>) -> u32
+    ensures within { result ≤ length rows.now }
+    ensures below { T (are_below end.now (take result rows.now)) }
+    ensures behind { T (are_behind end.now (drop result rows.now)) }
+{
+    match end {
+        Some(end) => rows.place_from(end),
+        None => rows.len(),
+    }
+}
+
+// The record before a place, where it isn't below a bound.
+fn row_before(rows: &SegmentView<'_>, place: u32, low: &Option<Key>) -> Option<Row>
+    requires { place ≤ length rows.now }
+    ensures { option_map record_of result ≡ last_from low.now (take place rows.now) }
+{
+    if place == 0 {
+        return None;
+    }
+    if let Some(low) = low {
+        if rows.key(place - 1) < *low {
+            return None;
+        }
+    }
+    Some(rows.row(place - 1))
+}

@@ -1,0 +1,30 @@
+//! Laws of the definitions.
+
+ghost use Rattle.std.specs.Prelude.{◌≡◌, ◌≢◌, ◌^◌, List, ℕ, true};
+ghost use Rattle.station.specs.Bytes.{Same};
+ghost use Rattle.station.specs.View.{Told, EachHeld, NothingPending};
+ghost use Rattle.station.specs.Steps.{Steps};
+ghost use Rattle.header_gate.specs.declared.layout.Layout.{Layout};
+ghost use Rattle.header_gate.specs.declared.layout.TheConstants.{PAIRED};
+ghost use Rattle.header_gate.specs.Header.{live_copy, gate};
+ghost use Rattle.header_gate.specs.InPlace.{IsDone, IsRecovered};
+ghost use Rattle.header_gate.specs.Recovered.{recovered, live_table, is_laid, IsTableOf};
+ghost use Rattle.redo_journal.specs.Rest.{AtRest, RestsAt};
+
+use station::Station;
+
+/// A law: each image that a station at rest may leave recovers to the image that its held bytes have in their regions, with
+/// the same gate and live journal. Before version 4 it is the held bytes. Calls that change no byte keep the rest.
+pub fn stations_at_rest<S: Station>(a: &S, b: &S)
+    ensures single { (l : Layout) → l.version ≢ PAIRED → AtRest l (S.view a.now) → NothingPending (S.view a.now) }
+    ensures nothing { (l : Layout) → NothingPending (S.view a.now) → (Told (S.view a.now) → IsDone l (S.view a.now).held) → AtRest l (S.view a.now) }
+    ensures recovers { (l : Layout) → AtRest l (S.view a.now) → EachHeld (λ image. recovered l image ≡ recovered l (S.view a.now).held) (S.view a.now) }
+    ensures held { (l : Layout) → AtRest l (S.view a.now) → Told (S.view a.now) → IsRecovered l (S.view a.now).held }
+    ensures gates { (l : Layout) → AtRest l (S.view a.now) → EachHeld (λ image. gate image ≡ gate (S.view a.now).held) (S.view a.now) }
+    ensures copies { (l : Layout) → AtRest l (S.view a.now) → EachHeld (λ image. live_copy image ≡ live_copy (S.view a.now).held) (S.view a.now) }
+    ensures tables { (l : Layout) → AtRest l (S.view a.now) →
+        EachHeld (λ image. is_laid l image ≡ true → IsTableOf l.journal (2 ^ l.hmax) (live_table l image)) (S.view a.now) }
+    ensures settled { (l : Layout) (turn : ℕ) → l.version ≢ PAIRED → RestsAt l turn (S.view a.now) → EachHeld (λ image. gate image ≡ 0) (S.view a.now) }
+    ensures rests { (l : Layout) → l.version ≢ PAIRED → NothingPending (S.view a.now) → EachHeld (λ image. gate image ≡ 0) (S.view a.now) → RestsAt l 0 (S.view a.now) }
+    ensures still { (l : Layout) → AtRest l (S.view a.now) → Steps Same (S.view a.now) (S.view b.now) → AtRest l (S.view b.now) }
+{}
