@@ -44,12 +44,14 @@ def build():
 
 
 def known(program, folder):
-    """Which of the words that came later this program knows: cursors and quick."""
+    """Which of the words that came later this program knows: cursors, prev and quick."""
     file, found = str(folder / "probe"), set()
     subprocess.run([program, "create", file, "0"], check=True)
-    done = subprocess.run([program, "run", file], input=b"open c * *\n", stdout=subprocess.PIPE, check=True)
-    if done.stdout == b"opened\n":
+    done = subprocess.run([program, "run", file], input=b"open c * *\nprev c\n", stdout=subprocess.PIPE, check=True)
+    if done.stdout.startswith(b"opened\n"):
         found.add("cursors")
+    if done.stdout == b"opened\nend\n":
+        found.add("prev")
     os.unlink(file)
     nothing = subprocess.DEVNULL
     if subprocess.run([program, "create-indexed", file, "0"], stdout=nothing).returncode == 0:

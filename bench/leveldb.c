@@ -147,6 +147,23 @@ int store_step(int cursor, struct record *found)
     return seen(cursor, found);
 }
 
+int store_seek_back(int cursor, struct bytes high, struct record *found)
+{
+    cursors[cursor] = leveldb_create_iterator(store, reading);
+    leveldb_iter_seek(cursors[cursor], high.at, high.count);
+    if (leveldb_iter_valid(cursors[cursor]))
+        leveldb_iter_prev(cursors[cursor]);
+    else
+        leveldb_iter_seek_to_last(cursors[cursor]);
+    return seen(cursor, found);
+}
+
+int store_step_back(int cursor, struct record *found)
+{
+    leveldb_iter_prev(cursors[cursor]);
+    return seen(cursor, found);
+}
+
 void store_leave(int cursor)
 {
     leveldb_iter_destroy(cursors[cursor]);

@@ -144,17 +144,33 @@ static int moved(int number, MDB_val key, MDB_cursor_op how, struct record *foun
     return 1;
 }
 
-int store_seek(int number, struct bytes low, struct record *found)
+static void begin_walk(int number)
 {
     begin_reading();
     set_count++;
     want(cursors[number] ? mdb_cursor_renew(reading, cursors[number]) : mdb_cursor_open(reading, records, &cursors[number]));
+}
+
+int store_seek(int number, struct bytes low, struct record *found)
+{
+    begin_walk(number);
     return moved(number, seen(low), low.count ? MDB_SET_RANGE : MDB_FIRST, found);
 }
 
 int store_step(int number, struct record *found)
 {
     return moved(number, (MDB_val){0, NULL}, MDB_NEXT, found);
+}
+
+int store_seek_back(int number, struct bytes high, struct record *found)
+{
+    begin_walk(number);
+    return moved(number, (MDB_val){0, NULL}, moved(number, seen(high), MDB_SET_RANGE, found) ? MDB_PREV : MDB_LAST, found);
+}
+
+int store_step_back(int number, struct record *found)
+{
+    return moved(number, (MDB_val){0, NULL}, MDB_PREV, found);
 }
 
 void store_leave(int number)

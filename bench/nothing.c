@@ -69,6 +69,17 @@ int store_step(int cursor, struct record *found)
     return 1;
 }
 
+int store_seek_back(int cursor, struct bytes high, struct record *found)
+{
+    (void)high;
+    return store_step(cursor, found);
+}
+
+int store_step_back(int cursor, struct record *found)
+{
+    return store_step(cursor, found);
+}
+
 void store_leave(int cursor)
 {
     (void)cursor;

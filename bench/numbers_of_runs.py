@@ -1,7 +1,7 @@
 """The CSVs of a folder, and how a number is written."""
 import csv
 
-READS = ["readrandom", "readmissing", "seekrandom 10", "seekrandom 100", "readseq", "cursor", "cursor, by range"]
+READS = ["readrandom", "readmissing", "seekrandom 10", "seekrandom 100", "readseq", "cursor", "cursor back", "cursor, by range"]
 BATCH = "batch of 16"
 UPDATES = ["fillrandom", "fillseq", "overwrite", "deleterandom", BATCH, "batch of 16, by puts"]
 OPEN, QUICK = "open, one get", "open, one get by quick"

@@ -45,7 +45,7 @@ class Run:
         self.all = contestants(there, program, self.work, self.folder)
         self.stores = [c for c in self.all if c.name != "nothing"]
         self.loaders = [c for c in self.all if c.bulk("load") and c.bulk("dump")]
-        self.cursors = "cursors" in words
+        self.words = words
         self.indexed = [c for c in self.all if c.height is not None] if "quick" in words else []
 
     def filled(self):
@@ -80,7 +80,7 @@ class Run:
         files = {one: self.folder / f"odd-{one.name}" for one in self.stores}
         for one, file in files.items():
             one.make(file)
-        lines = odd_lines(60 if self.work.small else 5000, self.cursors)
+        lines = odd_lines(60 if self.work.small else 5000, self.words)
         self.same("odd lines", lines, {one.name: one.command(file) for one, file in files.items()})
         for one, file in files.items():
             one.clear(file)
@@ -122,7 +122,7 @@ class Run:
     def compared(self):
         self.odd()
         self.same("fill", [b"range * *\n"])
-        for name, lines in self.work.turn(0, self.cursors):
+        for name, lines in self.work.turn(0, self.words):
             self.same(name or "restored", lines)
         self.bulk()
         self.with_index()
@@ -154,7 +154,7 @@ class Run:
             self.bench.write([])
             for one in turned(self.all, turn):
                 opening[one.name] = statistics.median(self.bench.run(one.command())[0] for _ in range(5))
-            for name, lines in self.work.turn(turn, self.cursors):
+            for name, lines in self.work.turn(turn, self.words):
                 self.bench.write(lines)
                 for one in turned(self.all, turn):
                     seconds = self.bench.run(one.command())[0] - opening[one.name]
@@ -307,7 +307,7 @@ def measured(arguments, there, folder, disk):
     if not can_trace:
         print("left out: bytes and syncs, since strace isn't there (Debian: strace)")
     words = known(arguments.program, folder)
-    for word, what in (("cursors", "cursor"), ("quick", "open, one get by quick")):
+    for word, what in (("cursors", "cursor"), ("prev", "cursor back"), ("quick", "open, one get by quick")):
         if word not in words:
             print(f"left out: {what}, since this program doesn't know {word}")
     for tool in ("mdb_load", "mdb_dump"):

@@ -91,7 +91,10 @@ def lost_time(numbers):
     causes = {work: reads for work in READS} | {work: updates for work in UPDATES}
     causes |= {"half and half": updates, "mostly scans": reads}
     causes[BATCH] = "each item's segment is judged and edited whole, and written twice"
-    causes |= {"cursor": "each `next` looks for its key anew, in a segment that is read and judged whole"}
+    causes |= {
+        "cursor": "each `next` looks for its key anew, in a segment that is read and judged whole",
+        "cursor back": "each `prev` does",
+    }
     causes |= {"bulk, load": "records are packed and then spread, so each segment is written twice", "bulk, dump": reads}
     causes["fillseq"] = "ascending keys all come into one segment, whose window is spread again and again"
     for work, cause in causes.items():
@@ -107,7 +110,7 @@ def losses(numbers):
         table(["what", "unit", "`pma`", "with a JOURNAL of 1024", "take instead", "the cause"], rows),
         "A batch of `pma` is one command in a crash, of 16 items at most, and four syncs if its segments fit into the journal "
         "and no item needs a rebalance. If more updates are to happen together, take one of the peers, whose transactions have "
-        "no such limit and are synced once or twice. `pma` doesn't read backwards: SQLite, LMDB and LevelDB do.",
+        "no such limit and are synced once or twice.",
     ]
 
 

@@ -3,7 +3,8 @@
    Usage of a driver: DRIVER FILE [SETTING] <SCRIPT, or without words for the store's version;
    DRIVER FILE SETTING load <TEXT and DRIVER FILE SETTING dump read and say a load text.
 
-   The commands are put, remove, batch, get, range, open, next and close, with the program's escapes, limits and refusals. */
+   The commands are put, remove, batch, get, range, open, next, prev and close, with the program's escapes, limits and
+   refusals. */
 #include "script.h"
 #include <stdio.h>
 #include <stdlib.h>
@@ -167,15 +168,15 @@ static int sized(struct bytes key, struct bytes second, size_t most, const char 
 /* ---- cursors ---- */
 
 struct kept {
-    char at[KEY];
+    char at[KEY + 1];
     size_t count;
 };
 
-/* A cursor of the script. Where the store's own is set, it stands on the record that was given last; an update unsets it, and
-   the next record is then looked for by the key, so that each is one of the store as it is then. */
+/* A cursor of the script. Where the store's own is set, it stands on the record that was given last; an update unsets it, and so
+   does a step the other way. The next record is then looked for by the key, so that each is one of the store as it is then. */
 struct walk {
-    int is_open, is_set, is_begun, is_bounded;
-    struct kept name, high, from; /* from is the low bound, and behind the first record the key that was given last */
+    int is_open, is_set, is_back, is_begun;
+    struct kept name, low, high, last; /* last is the key that was given last, once the walk is begun */
 };
 
 static struct walk walks[CURSORS];
@@ -223,16 +224,27 @@ static void unset_all(void)
         unset(n);
 }
 
-/* Sets the store's cursor on the first record from the walk's key on, or behind it where that was given; 0 where none is. */
-static int set(int n, struct record *found)
+/* Sets the store's cursor on the record that comes next on a way, by the bound or by the key given last; 0 where none is. */
+static int set(int n, int is_back, struct record *found)
 {
     struct walk *walk = &walks[n];
     walk->is_set = 1;
+    walk->is_back = is_back;
     set_count++;
-    int there = store_seek(n, kept(&walk->from), found);
-    if (there && walk->is_begun && !compare_keys(found->key, kept(&walk->from)))
+    if (is_back)
+        return store_seek_back(n, kept(walk->is_begun ? &walk->last : &walk->high), found);
+    int there = store_seek(n, kept(walk->is_begun ? &walk->last : &walk->low), found);
+    if (there && walk->is_begun && !compare_keys(found->key, kept(&walk->last)))
         there = store_step(n, found);
     return there;
+}
+
+/* Above each key, since it is longer than one may be. */
+static struct bytes above_all(void)
+{
+    static char bytes[KEY + 1];
+    memset(bytes, 0xff, sizeof bytes);
+    return (struct bytes){bytes, sizeof bytes};
 }
 
 static void open_walk(struct bytes *words, int count)
@@ -251,30 +263,51 @@ static void open_walk(struct bytes *words, int count)
     int n = free_walk();
     if (n < 0)
         return say("no room 16");
-    walks[n] = (struct walk){.is_open = 1, .is_bounded = !is(words[3], "*")};
+    if (is(words[3], "*"))
+        high = above_all();
+    walks[n] = (struct walk){.is_open = 1};
     keep(&walks[n].name, name);
-    keep(&walks[n].from, low);
+    keep(&walks[n].low, low);
     keep(&walks[n].high, high);
     say("opened");
 }
 
-static void next(struct bytes name)
+/* Moves the store's cursor on a way; 0 where it comes to no record within the bounds. */
+static int moved(int n, int is_back, struct record *found)
+{
+    struct walk *walk = &walks[n];
+    if (walk->is_back != is_back)
+        unset(n);
+    int there = !walk->is_set ? set(n, is_back, found) : is_back ? store_step_back(n, found) : store_step(n, found);
+    return there && compare_keys(found->key, kept(&walk->low)) >= 0 && compare_keys(found->key, kept(&walk->high)) < 0;
+}
+
+static void step(struct bytes name, int is_back)
 {
     int n = walk_of(name);
     struct record found;
     if (n < 0)
         return say("no cursor");
     struct walk *walk = &walks[n];
-    int there = walk->is_set ? store_step(n, &found) : set(n, &found);
-    if (!there || (walk->is_bounded && compare_keys(found.key, kept(&walk->high)) >= 0)) {
+    if (!moved(n, is_back, &found)) {
         unset(n);
         walk->is_open = 0;
         return say("end");
     }
-    keep(&walk->from, found.key);
+    keep(&walk->last, found.key);
     walk->is_begun = 1;
     add_record(found.key, found.value);
     say("");
+}
+
+static void next(struct bytes name)
+{
+    step(name, 0);
+}
+
+static void prev(struct bytes name)
+{
+    step(name, 1);
 }
 
 static void close_walk(struct bytes name)
@@ -453,6 +486,8 @@ static void serve(struct bytes *words, int count)
         open_walk(words, count);
     else if (is(words[0], "next"))
         of_key(words, count, next);
+    else if (is(words[0], "prev"))
+        of_key(words, count, prev);
     else if (is(words[0], "close"))
         of_key(words, count, close_walk);
     else

@@ -37,6 +37,9 @@ void store_range(struct bytes low, const struct bytes *high, unsigned long limit
 int store_seek(int cursor, struct bytes low, struct record *found);
 /* Moves a cursor that is set to the next record; 0 where there is none. Nothing was updated since it was set. */
 int store_step(int cursor, struct record *found);
+/* The same the other way: sets it on the last record below high; moves it to the record before. */
+int store_seek_back(int cursor, struct bytes high, struct record *found);
+int store_step_back(int cursor, struct record *found);
 /* Lets go of what a cursor that was set holds. */
 void store_leave(int cursor);
 void store_close(void);

@@ -1,6 +1,6 @@
 /* SQLite behind the program's script language. Setting: delete or wal, and behind a comma the cache in MiB.
    As its manual advises: prepared statements, a table without rowid, `synchronous=full`, a load in one transaction. A cursor is
-   a statement that is stepped: it is left before each update, since what it would see of one isn't told. */
+   a statement that is stepped, another one each way: it is left before each update, since what it would see of one isn't told. */
 #include "script.h"
 #include <sqlite3.h>
 #include <stdio.h>
@@ -8,7 +8,7 @@
 #include <string.h>
 
 static sqlite3 *store;
-static sqlite3_stmt *begin, *commit, *insert, *update, *delete, *find, *walk, *cursors[CURSORS];
+static sqlite3_stmt *begin, *commit, *insert, *update, *delete, *find, *walk, *cursors[CURSORS], *backs[CURSORS];
 const unsigned long store_bulk = ~0UL;
 
 static void execute(const char *words)
@@ -124,6 +124,14 @@ void store_range(struct bytes low, const struct bytes *high, unsigned long limit
     sqlite3_reset(walk);
 }
 
+static int stepped(sqlite3_stmt *statement, struct record *found)
+{
+    if (sqlite3_step(statement) != SQLITE_ROW)
+        return 0;
+    *found = (struct record){column(statement, 0), column(statement, 1)};
+    return 1;
+}
+
 int store_seek(int cursor, struct bytes low, struct record *found)
 {
     if (!cursors[cursor])
@@ -134,21 +142,34 @@ int store_seek(int cursor, struct bytes low, struct record *found)
 
 int store_step(int cursor, struct record *found)
 {
-    if (sqlite3_step(cursors[cursor]) != SQLITE_ROW)
-        return 0;
-    *found = (struct record){column(cursors[cursor], 0), column(cursors[cursor], 1)};
-    return 1;
+    return stepped(cursors[cursor], found);
+}
+
+int store_seek_back(int cursor, struct bytes high, struct record *found)
+{
+    if (!backs[cursor])
+        backs[cursor] = prepared("select key, value from records where key < ?1 order by key desc");
+    sqlite3_bind_blob(backs[cursor], 1, high.at, (int)high.count, SQLITE_TRANSIENT);
+    return store_step_back(cursor, found);
+}
+
+int store_step_back(int cursor, struct record *found)
+{
+    return stepped(backs[cursor], found);
 }
 
 void store_leave(int cursor)
 {
     sqlite3_reset(cursors[cursor]);
+    sqlite3_reset(backs[cursor]);
 }
 
 void store_close(void)
 {
-    for (int n = 0; n < CURSORS; n++)
+    for (int n = 0; n < CURSORS; n++) {
         sqlite3_finalize(cursors[n]);
+        sqlite3_finalize(backs[n]);
+    }
     sqlite3_finalize(begin);
     sqlite3_finalize(commit);
     sqlite3_finalize(insert);

@@ -5,7 +5,8 @@ SEED = 7
 KEYS = 10**10  # random keys are numbers below, ascending ones stand above
 ITEMS = 16  # of a batch
 WALKED = 100000  # records that a cursor goes over, where there are so many
-BATCH, BY_PUTS, CURSOR, BY_RANGE = "batch of 16", "batch of 16, by puts", "cursor", "cursor, by range"
+BATCH, BY_PUTS = "batch of 16", "batch of 16, by puts"
+CURSOR, BACK, BY_RANGE = "cursor", "cursor back", "cursor, by range"
 
 
 def key(number):
@@ -108,12 +109,12 @@ class Workloads:
         keys = [k for some in self.items(turn) for k in some]
         return [b"put %s %s\n" % (k, value_of(turn * 1000037 + n)) for n, k in enumerate(keys)]
 
-    def walk(self):
-        return ([b"open c * *\n"] + [b"next c\n"] * self.walked + [b"close c\n"]) * self.walks
+    def walk(self, step):
+        return ([b"open c * *\n"] + [step + b" c\n"] * self.walked + [b"close c\n"]) * self.walks
 
     def counted(self, name, lines):
         """How many a script counts as: a batch as its items, a walk and its range as the records; else each line as one."""
-        if name in (CURSOR, BY_RANGE):
+        if name in (CURSOR, BACK, BY_RANGE):
             return self.walks * self.walked
         return len(lines) * (ITEMS if name == BATCH else 1)
 
@@ -123,8 +124,8 @@ class Workloads:
             return [b"remove %s\n" % self.fresh[turn][0]]
         return [b"remove %s\n" % k for k in [key(KEYS + n) for n in range(self.updates)] + self.fresh[turn][self.updates:]]
 
-    def turn(self, turn, cursors):
-        """(Name, lines) in order, of one round, with cursors or without; what has no name isn't timed."""
+    def turn(self, turn, words):
+        """(Name, lines) in order, of one round, by the words that came later; what has no name isn't timed."""
         r = random.Random(SEED + 300 + turn)
         some = [r.choice(self.keys) for _ in range(self.gets)]
         yield "readrandom", [b"get %s\n" % k for k in some]
@@ -132,8 +133,10 @@ class Workloads:
         yield "seekrandom 10", [b"range %s * 10\n" % k for k in some[:self.gets // 2]]
         yield "seekrandom 100", [b"range %s * 100\n" % k for k in some[:self.gets // 5]]
         yield "readseq", [b"range * *\n"] * max(5, 100000 // self.records)
-        if cursors:
-            yield CURSOR, self.walk()
+        if "cursors" in words:
+            yield CURSOR, self.walk(b"next")
+        if "prev" in words:
+            yield BACK, self.walk(b"prev")
         yield BY_RANGE, [b"range * * %d\n" % self.walked] * self.walks
         yield BATCH, self.batches(turn)
         yield BY_PUTS, self.by_puts(turn, short_value)
@@ -162,9 +165,9 @@ def charged(numbers, marks):
         yield b"put " + key(number) + (b"\ncost\n" if n in marks else b"\n")
 
 
-def odd_lines(count, cursors):
-    """Escapes, sizes at the limits, and each refused line, of cursors too where they are wanted: what a driver must answer as
-    the program does."""
+def odd_lines(count, words):
+    """Escapes, sizes at the limits, and each refused line, of cursors too where the words that came later have them: what a
+    driver must answer as the program does."""
     r = random.Random(SEED)
     parts = [b"a", b"b", b"%00", b"%2A", b"*", b"#", b"%", b"%4", b"%zz", b"%fF", b"\x80", b"\t", b"~", b"k%20k"]
     limits = [b"", b" 3", b" 0", b" 01", b" 4294967295", b" 4294967296", b" -1", b" x"]
@@ -178,15 +181,16 @@ def odd_lines(count, cursors):
     def many():
         return b" ; ".join(b"put k%d" % (n % r.choice([17, 17, 9])) for n in range(r.choice([2, 15, 16, 17])))
 
+    steps = [b"next ", b"prev "] if "prev" in words else [b"next "]
     asked = [
         lambda: b"open " + word(1) + b" " + word(1) + b" " + word(1),
         lambda: b"open " + word(1) + b" * *",
         lambda: b"open " + word(1) + b" " + b"k" * r.choice([1, 24, 25]) + b" " + word(1) + r.choice([b"", b" x"]),
         lambda: b"open " + b"n" * r.randint(20, 25) + b" * " + word(3),
         lambda: b"open c%d * *" % r.randint(0, 20),
-        lambda: r.choice([b"close ", b"next ", b"next "]) + b"c%d" % r.randint(0, 20),
+        lambda: r.choice([b"close ", *steps, *steps]) + b"c%d" % r.randint(0, 20),
         lambda: b"close " + word(1),
-        *[lambda: b"next " + word(1)] * 6,
+        *[lambda: r.choice(steps) + word(1)] * 6,
     ]
     kinds = [
         lambda: b"put " + word(4) + b" " + word(6),
@@ -206,5 +210,5 @@ def odd_lines(count, cursors):
         lambda: b"batch put " + b"k" * r.choice([23, 24, 25]) + b" " + b"v" * r.choice([31, 32, 33]) + b" ; remove ;",
         lambda: b"batch " + many(),
     ]
-    kinds += asked if cursors else []
+    kinds += asked if "cursors" in words else []
     return [r.choice(kinds)() + r.choice([b"", b"", b"\r"]) + b"\n" for _ in range(count)] + [b"get a\r"]

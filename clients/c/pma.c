@@ -409,10 +409,10 @@ pma_code pma_cursor_open(pma *store, const void *low, size_t low_size, const voi
     return ask_word(store, &line, 0, "opened", "", PMA_UNEXPECTED);
 }
 
-pma_code pma_cursor_next(pma_cursor *cursor, pma_record *record)
+static pma_code step(pma_cursor *cursor, const char *way, pma_record *record)
 {
     pma *store = cursor->store;
-    command line = begun("next");
+    command line = begun(way);
     add_number(&line, cursor->name);
     pma_code code = ask(store, &line, 0);
     if (code)
@@ -420,6 +420,16 @@ pma_code pma_cursor_next(pma_cursor *cursor, pma_record *record)
     if (!strcmp(store->line, "end"))
         return done(store, PMA_END);
     return begins(store->line, "record ") && read_record(store->line, record) ? done(store, PMA_OK) : refused(store, 0);
+}
+
+pma_code pma_cursor_next(pma_cursor *cursor, pma_record *record)
+{
+    return step(cursor, "next", record);
+}
+
+pma_code pma_cursor_prev(pma_cursor *cursor, pma_record *record)
+{
+    return step(cursor, "prev", record);
 }
 
 pma_code pma_cursor_close(pma_cursor *cursor)
@@ -531,7 +541,7 @@ const char *pma_text(pma_code code)
     static const char *const texts[] = {
         [PMA_OK] = "done",
         [PMA_ABSENT] = "the key isn't there",
-        [PMA_END] = "the cursor has no record ahead",
+        [PMA_END] = "the cursor has no record there",
         [PMA_OVERSIZED] = "a key, a value or a batch has too many bytes, or a key none",
         [PMA_BAD_BATCH] = "a batch has 1 to 16 items, and no key twice",
         [PMA_FULL] = "the store has no room for another key",

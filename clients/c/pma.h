@@ -22,7 +22,7 @@ enum {
 typedef enum {
     PMA_OK,
     PMA_ABSENT,     /* the key isn't there */
-    PMA_END,        /* the cursor has no record ahead */
+    PMA_END,        /* the cursor has no record there */
     PMA_OVERSIZED,  /* a key, a bound, a value, or the line of a batch has too many bytes, or a key or a bound none */
     PMA_BAD_BATCH,  /* no item, more than 16, or one key twice */
     PMA_FULL,       /* the store has no room for another key */
@@ -90,9 +90,11 @@ pma_code pma_batch(pma *store, const pma_item *items, size_t count, pma_changes 
 pma_code pma_range(pma *store, const void *low, size_t low_size, const void *high, size_t high_size, unsigned long limit,
                    int (*each)(void *context, const pma_record *record), void *context);
 
-/* A cursor stands before the first of these records. At most 16 are open; PMA_END closes one too. */
+/* A cursor over these records that gave none yet: next begins with the first of them, prev with the last. Then next gives the
+   least key above the last one given, prev the greatest below it. At most 16 are open; PMA_END closes one too. */
 pma_code pma_cursor_open(pma *store, const void *low, size_t low_size, const void *high, size_t high_size, pma_cursor *cursor);
 pma_code pma_cursor_next(pma_cursor *cursor, pma_record *record);
+pma_code pma_cursor_prev(pma_cursor *cursor, pma_record *record);
 pma_code pma_cursor_close(pma_cursor *cursor);
 
 const char *pma_text(pma_code code);      /* what a code means, in a few words */

@@ -169,6 +169,12 @@ static void cursors(void)
     DUE(put(store, "aa", "9") == PMA_OK && pma_remove(store, "b", 1) == PMA_OK);
     DUE(pma_cursor_next(&cursor[0], &record) == PMA_OK && record.key_size == 2 && record.value[0] == '9');
     DUE(pma_cursor_next(&cursor[0], &record) == PMA_END && pma_cursor_next(&cursor[0], &record) == PMA_NO_CURSOR);
+    DUE(pma_cursor_open(store, NULL, 0, NULL, 0, &cursor[0]) == PMA_OK);
+    DUE(pma_cursor_prev(&cursor[0], &record) == PMA_OK && record.key[0] == 'c');
+    DUE(pma_cursor_prev(&cursor[0], &record) == PMA_OK && record.key_size == 2 && record.value[0] == '9');
+    DUE(pma_cursor_next(&cursor[0], &record) == PMA_OK && record.key[0] == 'c' && pma_remove(store, "aa", 2) == PMA_OK);
+    DUE(pma_cursor_prev(&cursor[0], &record) == PMA_OK && record.key_size == 1 && record.value[0] == '1');
+    DUE(pma_cursor_prev(&cursor[0], &record) == PMA_END && pma_cursor_prev(&cursor[0], &record) == PMA_NO_CURSOR);
     for (int n = 0; n < 17; n++)
         DUE(pma_cursor_open(store, NULL, 0, NULL, 0, &cursor[n]) == (n < 16 ? PMA_OK : PMA_NO_CURSOR));
     DUE(pma_cursor_close(&cursor[3]) == PMA_OK && pma_cursor_open(store, NULL, 0, NULL, 0, &cursor[3]) == PMA_OK);

@@ -236,14 +236,16 @@ class OpenCursor(Request[None]):
         return words == [b"opened"]
 
 
-class NextRecord(Request[Optional[Record]]):
-    def __init__(self, name: bytes) -> None:
-        super().__init__(b"next", name)
+class StepCursor(Request[Optional[Record]]):
+    """A step of a cursor: `next` or `prev`."""
+
+    def __init__(self, way: bytes, name: bytes) -> None:
+        super().__init__(way, name)
 
     def read(self, words: List[bytes]) -> bool:
-        if words[0] == b"record":
+        if words[0] == b"record" and len(words) in (2, 3):
             self._answer = record_of(words)
-        return words[0] == b"record" or words == [b"end"]
+        return self._answer is not None or words == [b"end"]
 
 
 class CloseCursor(Request[None]):

@@ -13,12 +13,14 @@ from .batch import Batch
 from .cursor import Cursor
 from .errors import DiskFault, Error, Oversized, ReadOnly
 from .pipeline import Pipeline
-from .requests import Check, CheckAll, Dump, Get, Limit, OpenCursor, Put, Range, Record, Remove, Request, Text
+from .requests import (Check, CheckAll, CloseCursor, Dump, Get, Limit, OpenCursor, Put, Range, Record, Remove, Request,
+                       StepCursor, Text)
 from .run import Run
 
 T = TypeVar("T")
 
 PAGE = 1000  # records that one request reads, of an iteration or a range
+BACK = 100  # records that are read by one wait, of a range from its end on
 FLAGS = "r", "w", "c", "n"
 
 
@@ -160,17 +162,22 @@ class Store(MutableMapping[bytes, bytes]):
 
     # Records in their order
 
-    def range(self, low: Optional[Text] = None, high: Optional[Text] = None, limit: Optional[int] = None) -> Iterator[Record]:
+    def range(self, low: Optional[Text] = None, high: Optional[Text] = None, limit: Optional[int] = None,
+              reverse: bool = False) -> Iterator[Record]:
         """The records with keys from `low` on and below `high`, in ascending order, at most `limit` of them.
 
         They are read a page of 1000 at a time, each page as the store is then: what is changed within the page meanwhile isn't
         seen, what is changed behind it is. A cursor sees each change ahead of it.
+
+        With `reverse` they are in descending order, the last `limit` of them, and a page has 100: it is read by the steps of a
+        cursor, which has to be free then.
         """
         if limit is not None and limit < 0:
             raise ValueError("limit is below 0")
         if high is not None and not bytes_of(high):
             return iter(())
-        return self._pages(self._bound(low) if low else None, None if high is None else self._bound(high), limit)
+        pages = self._pages_back if reverse else self._pages
+        return pages(self._bound(low) if low else None, None if high is None else self._bound(high), limit)
 
     def _pages(self, low: Optional[bytes], high: Optional[bytes], limit: Optional[int]) -> Iterator[Record]:
         while limit is None or limit > 0:
@@ -184,6 +191,21 @@ class Store(MutableMapping[bytes, bytes]):
                 return
             limit = None if limit is None else limit - most
 
+    def _pages_back(self, low: Optional[bytes], high: Optional[bytes], limit: Optional[int]) -> Iterator[Record]:
+        while limit is None or limit > 0:
+            most = BACK if limit is None else min(BACK, limit)
+            name = b"%d" % next(self._names)
+            opening, steps = OpenCursor(name, low, high), [StepCursor(b"prev", name) for _ in range(most)]
+            self._exchange([opening, *steps, CloseCursor(name)])
+            opening.result()
+            for step in steps:  # those behind the one that ended the cursor find none
+                record = step.result()
+                if record is None:
+                    return
+                yield record
+                high = record[0]
+            limit = None if limit is None else limit - most
+
     def _above(self, key: bytes) -> Optional[bytes]:
         """The least key above this one; None where there is none."""
         if len(key) < self.key_limit:
@@ -192,7 +214,8 @@ class Store(MutableMapping[bytes, bytes]):
         return front[:-1] + bytes([front[-1] + 1]) if front else None
 
     def cursor(self, low: Optional[Text] = None, high: Optional[Text] = None) -> Cursor:
-        """A cursor over the records with keys from `low` on and below `high`, before the first of them. At most 16 are open."""
+        """A cursor over the records with keys from `low` on and below `high`, which gave none yet: `next` begins with the first
+        of them, `prev` with the last. At most 16 are open."""
         name = b"%d" % next(self._names)
         if high is not None and not bytes_of(high):
             return Cursor(self, name, False)

@@ -93,6 +93,20 @@ class FaultTest(StoreCase):
                 with self.pretend(f"head -n 3 >/dev/null; printf '{reply}\\n'; cat >/dev/null") as store:
                     self.assertRaises(pma.UnexpectedReply, ask, store)
 
+    def test_steps_that_are_none(self):
+        for reply in ("record", "record a b c", "end 0", "closed"):
+            for ask in (lambda store: store.cursor().next(), lambda store: store.cursor().prev(),
+                        lambda store: next(store.range(reverse=True))):
+                with self.pretend(f"head -n 3 >/dev/null; printf 'opened\\n{reply}\\n'; cat >/dev/null") as store:
+                    self.assertRaises(pma.UnexpectedReply, ask, store)
+
+    def test_a_run_that_ends_amid_steps(self):
+        with self.pretend("head -n 3 >/dev/null; printf 'opened\\nrecord b\\nrecord a\\nrec'; exit 4") as store:
+            found = store.range(reverse=True)
+            self.assertEqual([next(found), next(found)], [(b"b", b""), (b"a", b"")])
+            self.assertRaises(pma.DiskFault, next, found)
+            self.assertRaises(pma.DiskFault, store.cursor)
+
     def test_broken_pipe_where_the_signal_kills(self):
         script = ("import os, signal, sys, time; sys.path[:0] = sys.argv[1:2]; import pma\n"
                   "signal.signal(signal.SIGPIPE, signal.SIG_DFL)\n"

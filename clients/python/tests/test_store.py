@@ -55,6 +55,33 @@ class StoreTest(StoreCase):
             cursors[3].close()
             self.assertEqual(next(store.cursor()), (b"a", b"1"))
 
+    def test_cursor_goes_both_ways(self):
+        with self.open() as store:
+            store.update({key: b"" for key in (b"a", b"b", b"c", b"d")})
+            with store.cursor() as cursor:
+                steps = [cursor.prev, cursor.prev, cursor.next, cursor.prev]
+                self.assertEqual([step()[0] for step in steps], [b"d", b"c", b"d", b"c"])
+                del store[b"b"]
+                self.assertEqual(cursor.prev(), (b"a", b""))
+                self.assertIsNone(cursor.prev())
+                self.assertIsNone(cursor.next())
+
+    def test_range_from_its_end_on(self):
+        with self.open() as store:
+            keys = [b"%04d" % n for n in range(350)]
+            store.update({key: b"" for key in keys})
+            for low, high, limit in ((None, None, None), (b"0010", b"0310", None), (b"0010", None, 100), (None, b"0200", 250),
+                                     (None, b"", 3), (None, None, 0)):
+                found = [key for key, _ in store.range(low, high, limit, reverse=True)]
+                within = [key for key in keys if (low is None or low <= key) and (high is None or key < high)]
+                self.assertEqual(found, within[::-1][:limit])
+            for _ in range(17):  # one that is broken off leaves no cursor open
+                self.assertEqual(next(store.range(reverse=True)), (b"0349", b""))
+            cursors = [store.cursor() for _ in range(16)]
+            self.assertRaises(pma.TooManyCursors, next, store.range(reverse=True))
+            cursors[3].close()
+            self.assertEqual(next(store.range(high=b"0200", reverse=True)), (b"0199", b""))
+
     def test_batch(self):
         with self.open() as store:
             store[b"old"] = b"x"
