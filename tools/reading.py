@@ -1,12 +1,13 @@
 #!/usr/bin/env python3
 """What there is to read behind a clause: the definitions that it names, and what these cite, one definition at a time.
 
-    tools/reading.py CHECKOUT [CLAUSE] [--list] [--requires] [--no-traits] [--why NAME]
+    tools/reading.py CHECKOUT [CLAUSE] [--list] [--requires] [--no-traits] [--until NAME]... [--why NAME]
 
 CLAUSE is a clause of `run_words` (`headline` by default) or CRATE::FUNCTION.CLAUSE; `*` in a clause's place is all of them.
 Printed are definitions and lines by crate: of code, of code folded at 100 columns, of comment. A type of the code is read
 as the logic sees it, so one with a model by its values alone; a trait by its contracts. Names of the library and of the
-kit's crates are counted, not followed. `hidden` are definitions whose name is bound otherwise where it stands.
+kit's crates are counted, not followed. A definition of `--until` is taken at its word: it is counted, and what it cites isn't.
+`hidden` are definitions whose name is bound otherwise where it stands.
 """
 from __future__ import annotations
 
@@ -169,6 +170,7 @@ def main() -> None:
     p.add_argument("--list", action="store_true", help="each definition with file, line, and lines of code and of comment")
     p.add_argument("--requires", action="store_true", help="the function's conditions are read with the clause")
     p.add_argument("--no-traits", action="store_true", help="stop at `S.view` and `I.view`, whose contracts stay unread")
+    p.add_argument("--until", metavar="NAME", action="append", default=[], help="a definition that is taken at its word, as Means")
     p.add_argument("--why", metavar="NAME", help="the chain of citations by which a definition is met")
     a = p.parse_args()
     house = House(a.checkout)
@@ -176,6 +178,8 @@ def main() -> None:
     met: dict[Definition, Definition | None] = {start: None}
     queue, seen = [start], [set(), set(), set()]
     for d in queue:
+        if d.name in a.until:
+            continue
         inner, *more = house.cites(d)
         seen = [known | new for known, new in zip(seen, more)]
         for e in inner:
