@@ -1,12 +1,15 @@
 //! What records that are put and removed in order are charged, one by one and as a batch.
 
-ghost use Rattle.std.specs.Prelude.{OnOk, IfOk};
+ghost use Rattle.std.specs.Prelude.{◌≡◌, ◌≤◌, OnOk, IfOk, T, length};
+ghost use Rattle.std.specs.List.{list_all};
+ghost use Rattle.batch_intent.specs.Spelling.{fits_item};
 ghost use Rattle.pma_store.specs.Store.{IsOpenOn};
 ghost use Rattle.station.specs.MemStation.{mem_view};
 
 use crate::batches::{Item, intent_of};
 use crate::files::{FORMATS, layout_of, row};
 use crate::stores::empty_store;
+use batch_intent::Intent;
 use cost_ledger::Cost;
 use header_gate::Layout;
 use pma_store::{Batch, Metered};
@@ -143,6 +146,24 @@ fn a_full_store_is_charged_nothing(rt: HostRuntime) -> Result<(), Fail> {
     Ok(())
 }
 
+// Makes the items of a batch, whose records are of the store's format.
+fn make_batch(
+    rt: &impl Abort,
+    store: &mut Metered,
+    station: &mut MemStation,
+    intent: &Intent,
+    format: u32,
+) -> Result<Batch, Fail>
+    requires open { IsOpenOn store.old.store (mem_view station.old) }
+    requires some { 1 ≤ length intent.now }
+    requires fit { T (list_all (fits_item format) intent.now) }
+{
+    assert!(rt; store.format() == format);
+    assert!(rt; store.cost().updates < 1000000);
+    let answer = store.batch(station, intent)?;
+    Ok(answer)
+}
+
 /// How many records are put, the items of a batch then, how many updates that is in all, what they are charged, and the bound.
 const BATCHES: [(u32, &[Item], u64, u128, u128); 4] = [
     (0, &[(true, 1), (true, 2), (false, 3)], 3, 4, 1574),
@@ -161,8 +182,7 @@ fn a_batch_is_charged_by_its_items(rt: HostRuntime) -> Result<(), Fail> {
             put_rows(&rt, &mut store, &mut station, puts)?;
             assert!(rt; 1 <= format && format <= 2);
             let intent = intent_of(&rt, rt.alloc(), format, items)?;
-            assert!(rt; store.format() == format && store.cost().updates < 1000000);
-            let answer = store.batch(&mut station, &intent)?;
+            let answer = make_batch(&rt, &mut store, &mut station, &intent, format)?;
             let is_full = answer == Batch::Full { most: 64 };
             assert!(rt; is_full == (updates == u64::from(puts)));
             let cost = Cost {
@@ -186,8 +206,8 @@ fn a_file_of_version_1_is_charged_no_batch(rt: HostRuntime) -> Result<(), Fail> 
     let (mut store, mut station) = metered_store(&rt, rt.alloc(), layout)?;
     let file = Vec::from_slice(rt.alloc(), station.held())?;
     let intent = intent_of(&rt, rt.alloc(), 1, &[(true, 1), (false, 2)])?;
-    assert!(rt; store.format() == 1 && store.cost().updates < 1000000);
-    assert_eq!(rt; store.batch(&mut station, &intent)?, Batch::NoBatch);
+    let answer = make_batch(&rt, &mut store, &mut station, &intent, 1)?;
+    assert_eq!(rt; answer, Batch::NoBatch);
     assert_eq!(rt; store.cost().updates, 0);
     assert!(rt; station.held() == file.as_slice());
     Ok(())
