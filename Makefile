@@ -33,7 +33,7 @@ pma: $(shell find crates crates.txt -name out -prune -o -type f -print)
 
 demo: pma
 	rm -f demo.pma
-	./pma create demo.pma 4
+	./pma create-paired demo.pma 4
 	printf 'put bolt-m6 140\nput nut-m6 200\nput washer-m6 95\nget nut-m6\nrange b o\nremove bolt-m6\nremove bolt-m6\ncheck\n' | ./pma run demo.pma
 	seq -f 'put part-%04g' 1 500 | ./pma run demo.pma | sort | uniq -c
 	printf 'check\nrange part-0250 * 3\nprobe part-0250 7\n' | ./pma run demo.pma

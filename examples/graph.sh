@@ -50,7 +50,7 @@ awk '{ print $1; print $2 }' "$folder/named" | sort -u | awk '{ printf "%s %05d\
 awk 'NR == FNR { number[$1] = $2; next } { print number[$1], number[$2], $3 }' \
     "$folder/numbers" "$folder/named" >"$folder/edges"
 
-"$program" create "$store" 9
+"$program" create-paired "$store" 9
 "$program" upgrade "$store"
 awk '{ print "put name/" $2, $1 }' "$folder/numbers" | all_said stored
 edges put <"$folder/edges" | all_said stored

@@ -45,7 +45,7 @@ awk -v orders="$folder/orders" 'BEGIN {
     }
 }' >"$folder/moves"
 
-"$program" create "$store" 6
+"$program" create-paired "$store" 6
 awk '{ print "record record/" $1, $2; print "record by/" $2 "/" $1 }' "$folder/orders" | sort |
     awk '{ print } END { print "end", NR }' | "$program" load "$store"
 opened

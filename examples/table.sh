@@ -35,7 +35,7 @@ awk 'BEGIN {
     }
 }' >"$folder/readings"
 
-"$program" create "$store" 8
+"$program" create-paired "$store" 8
 records put <"$folder/readings" | "$program" run "$store" >"$folder/replies"
 [ "$(sort -u "$folder/replies")" = stored ] || { echo 'table: not all were stored'; exit 1; }
 whole "$folder/readings"

@@ -7,9 +7,10 @@ use crate::files::{
 };
 use crate::untold::{UntoldStation, failing, untold};
 use density_rule::Window;
-use header_gate::{INDEXED, Layout, Reason};
+use header_gate::{INDEXED, Layout, PAIRED, Reason};
 use index_file::{close_index, leave_index, open_quick};
 use recovery::{OpenFault, Parts, open_store};
+use resize_region::clear_store;
 use station::Station;
 use std::alloc::Global;
 use std::process::Abort;
@@ -31,18 +32,20 @@ const ROWS: [Row; 3] = [
     (2, [20, 21, 22, 23, 0, 0, 0, 0], 86),
 ];
 
-// The layout of a file with an index, whose store has this format and at most this height.
-fn indexed(format: u32, height: u32) -> Layout
+// The versions of a file with an index: with one journal, and with two.
+const VERSIONS: [u32; 2] = [INDEXED, PAIRED];
+
+// The layout of such a file, whose store has this format and at most height 2.
+fn indexed(version: u32, format: u32) -> Layout
     requires format { 1 ≤ format × (format ≤ 2) }
-    requires height { height ≤ 4 }
 {
     Layout {
-        version: INDEXED,
-        ..layout_of(format, height, 4)
+        version,
+        ..layout_of(format, 2, 4)
     }
 }
 
-// A file of this layout, with a page of zeros for its index.
+// The file of a row.
 fn file_with_index(
     rt: &impl Abort,
     alloc: Global,
@@ -50,20 +53,18 @@ fn file_with_index(
     row: &Row,
 ) -> Result<Vec<u8>, Fail> {
     let (height, counts, _) = *row;
-    let regions = file_of(rt, alloc, layout, height, counts)?;
-    assert!(rt; regions.len() < 1000000);
-    let mut file = vec![in alloc; 0; regions.len() + 4096]?;
-    lay(rt, &mut file, 0, &regions);
-    Ok(file)
+    file_of(rt, alloc, layout, height, counts)
 }
 
-// Opens a store by its region, and leaves its index. Where both come to an end, it answers how many calls were made before the
-// leaving.
+// Opens a store by its region, makes the live one of two journals empty, and leaves its index. Where all come to an end, it
+// answers how many calls were made before the leaving.
 fn leave_once(alloc: Global, station: &mut UntoldStation) -> Option<usize> {
     let Ok(mut parts) = open_store(alloc, station) else {
         return None;
     };
-    if parts.place.layout.version != INDEXED {
+    if parts.place.layout.version < INDEXED
+        || clear_store(station, &parts.place, &mut parts.frames).is_err()
+    {
         return None;
     }
     let before = station.inner.noted();
@@ -125,13 +126,12 @@ fn see_file(
     layout: Layout,
     last: u32,
 ) -> Result<bool, Fail> {
-    let end = place_of(rt, layout, 2, 0);
-    assert!(rt; file.len() > CLEAN && end <= file.len());
+    assert!(rt; file.len() > CLEAN);
     let is_odd = file[CLEAN] % 2 == 1;
     assert_eq!(rt; read_quickly(rt, alloc, file)?.is_some(), is_odd);
     let mut station = untold(rt, alloc, file)?;
     open_store(alloc, &mut station)?;
-    see_records(rt, &file[..end], layout, 1, last)?;
+    see_records(rt, file, layout, 1, last)?;
     Ok(is_odd)
 }
 
@@ -160,7 +160,7 @@ fn see_stops(
 
 #[test]
 fn an_index_has_fences_links_and_counts(rt: HostRuntime) -> Result<(), Fail> {
-    let file = left_file(&rt, rt.alloc(), indexed(1, 2), &ROWS[1])?;
+    let file = left_file(&rt, rt.alloc(), indexed(INDEXED, 1), &ROWS[1])?;
     assert_eq!(rt; file.len(), 61440);
     assert_eq!(rt; file[CLEAN], 1);
     assert!(rt; &file[57344..57352] == [4u8, 0, 0, 0, 0, 0, 0, 0].as_slice());
@@ -174,11 +174,13 @@ fn an_index_has_fences_links_and_counts(rt: HostRuntime) -> Result<(), Fail> {
 /// The header page, one node and two counts are read, and no gate apart.
 #[test]
 fn a_quick_opening_reads_its_header_and_index(rt: HostRuntime) -> Result<(), Fail> {
-    let file = left_file(&rt, rt.alloc(), indexed(1, 2), &ROWS[1])?;
-    assert_eq!(rt;
-        read_quickly(&rt, rt.alloc(), &file)?,
-        Some(4096 + 64 + 2 * 4)
-    );
+    for version in VERSIONS {
+        let file = left_file(&rt, rt.alloc(), indexed(version, 1), &ROWS[1])?;
+        assert_eq!(rt;
+            read_quickly(&rt, rt.alloc(), &file)?,
+            Some(4096 + 64 + 2 * 4)
+        );
+    }
     Ok(())
 }
 
@@ -216,25 +218,38 @@ fn an_index_of_two_pieces_is_left_and_read(rt: HostRuntime) -> Result<(), Fail> 
     Ok(())
 }
 
+// Leaves the index of a row's file, and sees what stops leave of it.
+fn see_leaving(rt: &impl Abort, alloc: Global, layout: Layout, row: &Row) -> Result<(), Fail> {
+    let file = file_with_index(rt, alloc, layout, row)?;
+    let mut station = untold(rt, alloc, &file)?;
+    let Some(before) = leave_once(alloc, &mut station) else {
+        return Err("nothing was left".into());
+    };
+    see_stops(rt, alloc, &station, before, layout, row.2)?;
+    assert!(rt; see_file(rt, alloc, station.inner.inner().held(), layout, row.2)?);
+    Ok(())
+}
+
 #[test]
 fn a_leaving_is_stopped_at_every_call(rt: HostRuntime) -> Result<(), Fail> {
     for (format, row) in [(1, &ROWS[0]), (1, &ROWS[1]), (1, &ROWS[2]), (2, &ROWS[1])] {
-        let layout = indexed(format, 2);
-        let file = file_with_index(&rt, rt.alloc(), layout, row)?;
-        let mut station = untold(&rt, rt.alloc(), &file)?;
-        let Some(before) = leave_once(rt.alloc(), &mut station) else {
-            return Err("nothing was left".into());
-        };
-        see_stops(&rt, rt.alloc(), &station, before, layout, row.2)?;
-        assert!(rt; see_file(&rt, rt.alloc(), station.inner.inner().held(), layout, row.2)?);
+        see_leaving(&rt, rt.alloc(), indexed(INDEXED, format), row)?;
+    }
+    Ok(())
+}
+
+#[test]
+fn a_leaving_beside_two_journals_is_stopped(rt: HostRuntime) -> Result<(), Fail> {
+    for format in FORMATS {
+        see_leaving(&rt, rt.alloc(), indexed(PAIRED, format), &ROWS[1])?;
     }
     Ok(())
 }
 
 #[test]
 fn a_closing_is_stopped_at_every_call(rt: HostRuntime) -> Result<(), Fail> {
-    for format in FORMATS {
-        let layout = indexed(format, 2);
+    for (version, format) in [(INDEXED, 1), (INDEXED, 2), (PAIRED, 1)] {
+        let layout = indexed(version, format);
         let file = left_file(&rt, rt.alloc(), layout, &ROWS[1])?;
         let mut station = untold(&rt, rt.alloc(), &file)?;
         assert!(rt; close_index(&mut station).is_ok());
@@ -270,26 +285,51 @@ fn see_faults(
     Err("it makes more calls".into())
 }
 
+// Sees the faults of a leaving and of a closing in files of this layout.
+fn see_failing(rt: &impl Abort, alloc: Global, layout: Layout) -> Result<(), Fail> {
+    let file = file_with_index(rt, alloc, layout, &ROWS[1])?;
+    see_faults(rt, alloc, &file, layout, true)?;
+    let left = left_file(rt, alloc, layout, &ROWS[1])?;
+    see_faults(rt, alloc, &left, layout, false)
+}
+
 #[test]
 fn a_failed_call_of_a_leaving_and_of_a_closing(rt: HostRuntime) -> Result<(), Fail> {
     for format in FORMATS {
-        let layout = indexed(format, 2);
-        let file = file_with_index(&rt, rt.alloc(), layout, &ROWS[1])?;
-        see_faults(&rt, rt.alloc(), &file, layout, true)?;
-        let left = left_file(&rt, rt.alloc(), layout, &ROWS[1])?;
-        see_faults(&rt, rt.alloc(), &left, layout, false)?;
+        see_failing(&rt, rt.alloc(), indexed(INDEXED, format))?;
     }
     Ok(())
 }
 
 #[test]
+fn a_failed_call_beside_two_journals(rt: HostRuntime) -> Result<(), Fail> {
+    see_failing(&rt, rt.alloc(), indexed(PAIRED, 1))
+}
+
+/// The version of a file whose index was left, a place and its byte then, and whether the file is opened by its index. One with
+/// two journals is, whichever of the empty ones is the live one.
+const OTHERS: [(u32, usize, u8, bool); 11] = [
+    (INDEXED, CLEAN, 254, false),
+    (INDEXED, 640, 1, false),
+    (INDEXED, 512, 1, false),
+    (INDEXED, 3080, 2, false),
+    (INDEXED, 3080, 4, false),
+    (PAIRED, CLEAN, 254, false),
+    (PAIRED, 640, 1, false),
+    (PAIRED, 512, 0, true),
+    (PAIRED, 512, 1, true),
+    (PAIRED, 3080, 3, false),
+    (PAIRED, 3080, 5, false),
+];
+
+#[test]
 fn what_is_left_at_the_other_gates_and_versions(rt: HostRuntime) -> Result<(), Fail> {
-    let left = left_file(&rt, rt.alloc(), indexed(1, 2), &ROWS[1])?;
-    for (place, byte) in [(CLEAN, 254), (640, 1), (512, 1), (3080, 2)] {
-        let mut file = Vec::from_slice(rt.alloc(), &left)?;
+    for (version, place, byte, is_quick) in OTHERS {
+        let mut file = left_file(&rt, rt.alloc(), indexed(version, 1), &ROWS[1])?;
         lay(&rt, &mut file, place, &[byte]);
         let mut station = untold(&rt, rt.alloc(), &file)?;
-        assert!(rt; open_quick(rt.alloc(), &mut station)?.is_none(), "{place}");
+        let is_some = open_quick(rt.alloc(), &mut station)?.is_some();
+        assert!(rt; is_some == is_quick, "{place}");
     }
     Ok(())
 }
@@ -319,7 +359,7 @@ fn refused_at(rt: &impl Abort, alloc: Global, file: &[u8]) -> Result<Option<u32>
 
 #[test]
 fn a_wrong_index_is_refused_at_its_place(rt: HostRuntime) -> Result<(), Fail> {
-    let left = left_file(&rt, rt.alloc(), indexed(1, 2), &ROWS[1])?;
+    let left = left_file(&rt, rt.alloc(), indexed(INDEXED, 1), &ROWS[1])?;
     for (place, bytes, want) in WRONG {
         let mut file = Vec::from_slice(rt.alloc(), &left)?;
         lay(&rt, &mut file, place, bytes);
@@ -331,7 +371,7 @@ fn a_wrong_index_is_refused_at_its_place(rt: HostRuntime) -> Result<(), Fail> {
 /// Fences of four segments stand at positions 1, 0 and 2: the later one's place is refused where they don't ascend.
 #[test]
 fn fences_out_of_order_are_refused_at_the_later_one(rt: HostRuntime) -> Result<(), Fail> {
-    let left = left_file(&rt, rt.alloc(), indexed(1, 2), &ROWS[2])?;
+    let left = left_file(&rt, rt.alloc(), indexed(INDEXED, 1), &ROWS[2])?;
     for (x, last, want) in [(1, 42, 0), (1, 60, 0), (0, 64, 2), (2, 42, 2)] {
         let mut file = Vec::from_slice(rt.alloc(), &left)?;
         lay(&rt, &mut file, 57352 + 64 * x + 3, &[last]);

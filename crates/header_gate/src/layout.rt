@@ -9,7 +9,7 @@ pub const GREATEST_HEIGHT: u32 = 16;
 pub const GREATEST_FORMAT: u32 = 2;
 
 /// The greatest version of a file that is read.
-pub const LATEST_VERSION: u32 = 3;
+pub const LATEST_VERSION: u32 = 4;
 
 /// The first version of a file whose header page has an intent.
 pub const INTENT_VERSION: u32 = 2;

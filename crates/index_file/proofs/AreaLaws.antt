@@ -33,14 +33,14 @@ use Rattle.index_file.proofs.SeatLaws.{link_of-position}
 
 -- Places.
 
-pub area_room : (l : Layout) → l.version ≡ 3 → 68 * 2 ^ l.hmax ≤ area_size l
+pub area_room : (l : Layout) → 3 ≤ l.version → 68 * 2 ^ l.hmax ≤ area_size l
 unfolding area_size
 area_room l is = let e : area_size l ≡ (68 * 2 ^ l.hmax + 4095) / 4096 * 4096 = grind (arith, nat_tests, is) in omega (arith, e)
 
-pub nodes_within : (l : Layout) (h first count : ℕ) → l.version ≡ 3 → h ≤ l.hmax → first + count ≤ 2 ^ h - 1 → node_place l first + 64 * count ≤ file_length l
+pub nodes_within : (l : Layout) (h first count : ℕ) → 3 ≤ l.version → h ≤ l.hmax → first + count ≤ 2 ^ h - 1 → node_place l first + 64 * count ≤ file_length l
 nodes_within l h first count is low fits = let more : 2 ^ h ≤ 2 ^ l.hmax = pow_mono low in omega (arith, area_room l is, more, fits)
 
-pub counts_within : (l : Layout) (h first count : ℕ) → l.version ≡ 3 → h ≤ l.hmax → first + count ≤ 2 ^ h → count_place l first + 4 * count ≤ file_length l
+pub counts_within : (l : Layout) (h first count : ℕ) → 3 ≤ l.version → h ≤ l.hmax → first + count ≤ 2 ^ h → count_place l first + 4 * count ≤ file_length l
 counts_within l h first count is low fits = let more : 2 ^ h ≤ 2 ^ l.hmax = pow_mono low in omega (arith, area_room l is, more, fits)
 
 -- each place of the index is a number of 32 bits

@@ -18,7 +18,7 @@ use Rattle.map_model.specs.Array.{Array, counts_of}
 use Rattle.map_model.specs.Holding.{IsBalancedArray}
 use Rattle.map_model.specs.Image.{Represents, array_in, height_of, map_of}
 use Rattle.index_file.specs.Area.{HasArea, count_place}
-use Rattle.index_file.specs.Clean.{IsLeft, IsClean, IsShut, IsCleanPlace, IsAreaPlace, Leaves, fence_of_segment, version_of}
+use Rattle.index_file.specs.Clean.{IsLeft, IsClean, IsShut, IsCleanPlace, IsAreaPlace, Leaves, fence_of_segment, version_of, IsIndexed}
 use Rattle.index_file.proofs.NodeLaws.{node_same}
 use Rattle.index_file.proofs.Kept as kept
 
@@ -83,7 +83,7 @@ shut_refused image r clean refused version = by_gate (clean_gate image) refl (om
 
 -- the closing of an odd gate
 pub clean_closing : (old new : List ℕ) → IsClean old → clean_gate old ≡ 1 → Touched IsCleanPlace old new → IsClean new
-clean_closing old new clean odd touched version odd_new = left_kept old new (clean (sym (version_kept old new touched) ∙ version) odd) touched
+clean_closing old new clean odd touched version odd_new = left_kept old new (clean (subst IsIndexed (version_kept old new touched) version) odd) touched
 
 -- what leaves a closed gate alone
 pub clean_untouched : (old new : List ℕ) → clean_gate old ≡ 0 → byte new 704 ≡ byte old 704 → IsClean new

@@ -6,7 +6,7 @@ use Rattle.station.specs.Steps.{Steps}
 use Rattle.station.proofs.Composition.{each_on}
 use Rattle.station.proofs.Sayings.{leaves_on}
 use Rattle.header_gate.specs.declared.layout.Layout.{Layout}
-use Rattle.index_file.specs.Clean.{IsClean, IsShut, KeepsClean, Leaves, version_of}
+use Rattle.index_file.specs.Clean.{IsClean, IsShut, KeepsClean, Leaves, version_of, IsIndexed}
 use Rattle.index_file.proofs.CleanLaws.{clean_shut}
 
 -- a run that makes a clean file of a clean one
@@ -27,7 +27,7 @@ keeps_same law steps = keeps_by law steps (λ told is image same. subst IsClean 
 
 -- an index that means nothing means nothing while the clean gate and the version stay
 pub shut_stays : (old new : List ℕ) → IsShut old → version_of new ≡ version_of old → byte new 704 ≡ byte old 704 → IsShut new
-shut_stays old new shut same gate version = ap (λ (b : ℕ). b % 2) gate ∙ shut (sym same ∙ version)
+shut_stays old new shut same gate version = ap (λ (b : ℕ). b % 2) gate ∙ shut (subst IsIndexed same version)
 
 -- such a run
 pub keeps_shut : {a b : View} {R : List ℕ → List ℕ → Type 0} → Lawful a → EachHeld IsShut a → Steps R a b → ((d i : List ℕ) → R d i → (version_of i ≡ version_of d) × (byte i 704 ≡ byte d 704)) → KeepsClean a b

@@ -11,9 +11,7 @@ use Rattle.key_slot.specs.Segment.{segment_of}
 use Rattle.segment.specs.Rows.{key_at}
 use Rattle.map_model.proofs.Reasonings.{length-array_in, segment_at-array_in, own_segments}
 use Rattle.station.specs.Bytes.{Touched}
-use Rattle.header_gate.specs.declared.layout.TheConstants.{PAIRED}
 use Rattle.header_gate.specs.InPlace.{IsBare}
-use Rattle.header_gate.proofs.Journals.{bare_even}
 use Rattle.header_gate.specs.declared.layout.Layout.{Layout}
 use Rattle.header_gate.specs.Places.{file_length}
 use Rattle.density_rule.specs.Windows.{IsBalanced}
@@ -44,9 +42,9 @@ fence_room image is i = elim (cases_lt i (2 ^ height_of image)) [
 ]
 
 -- its file, once the index is written
-pub area_left : (l : Layout) (region h : ℕ) (tally : TallyView) (index : IndexView) (old new : List ℕ) → (l.version ≡ PAIRED → ⊥) → IsReady l region tally index old → h ≡ tally.height → index.height ≡ tally.height
+pub area_left : (l : Layout) (region h : ℕ) (tally : TallyView) (index : IndexView) (old new : List ℕ) → IsReady l region tally index old → h ≡ tally.height → index.height ≡ tally.height
     → Touched (IsAreaPlace l) old new → AreNodesOf wide l h index.fences (2 ^ h - 1) new → AreCountsOf l tally.counts (2 ^ tally.height) new → IsLeft new
-area_left l region h tally index old new single ready h_is index_h touched nodes counts =
+area_left l region h tally index old new ready h_is index_h touched nodes counts =
     let settled = ready.stands.stands.settled in
     let t = tally.height in
     let tall : height_of old ≡ tally.height = ready.stands.stands.height_is in
@@ -57,7 +55,7 @@ area_left l region h tally index old new single ready h_is index_h touched nodes
     let F : ℕ → Type 0 = λ n. HasNodes l n (fence_of_segment (array_of old)) new in
     let A : ℕ → Type 0 = λ n. HasNodes l tally.height (fence_of_segment (array_in old n)) new in
     let D : List ℕ → Type 0 = λ ns. AreCountsOf l ns (2 ^ tally.height) new in
-    left_written l old new (map_of old) tally.height (subst R tall settled.represents) (subst (λ (x : Layout). IsBare x old) (sym settled.layout_is) (bare_even l old single (settled.gate_even single))) ready.intent_even settled.layout_is (subst C (sym counts_is) ready.stands.balanced) touched (record {
+    left_written l old new (map_of old) tally.height (subst R tall settled.represents) (subst (λ (x : Layout). IsBare x old) (sym settled.layout_is) ready.bare) ready.intent_even settled.layout_is (subst C (sym counts_is) ready.stands.balanced) touched (record {
       nodes = subst A tall (subst F index_h (has_nodes l index (array_of old) new ready.index_is (λ i. subst (λ (x : Layout). length (fence_of_segment (array_of old) i) ≤ key_room x.format) settled.layout_is (fence_room old settled.represents i)) (subst N (h_is ∙ sym index_h) nodes)));
       counts_are = subst D (sym counts_is) counts;
     })

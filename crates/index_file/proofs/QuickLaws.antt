@@ -1,24 +1,30 @@
 -- The parts of a store that is opened by its index agree with its file.
-use Rattle.std.proofs.Common.{◌≡◌, ℕ, zero, suc, Bool, true, false, None, ◌-◌, ◌^◌, ◌<◌, ◌≤◌, List, Some, refl, sym, ap, subst, ◌∙◌, arith}
+use Rattle.std.proofs.Common.{◌≡◌, ◌≢◌, inl, inr, length, ℕ, zero, suc, Bool, true, false, None, ◌-◌, ◌^◌, ◌<◌, ◌≤◌, List, Some, refl, sym, ap, subst, ◌∙◌, arith}
 use Rattle.std.proofs.lemmas.Bool.{lt-ltb, le-leb}
 use Rattle.density_rule.specs.Marks.{no_marks}
 use Rattle.density_rule.specs.Windows.{IsBalanced}
 use Rattle.header_gate.specs.InPlace.{IsBare}
 use Rattle.header_gate.specs.declared.layout.Layout.{Layout}
 use Rattle.header_gate.specs.declared.header.Header.{Header}
-use Rattle.header_gate.specs.declared.layout.TheConstants.{INDEXED}
-use Rattle.header_gate.specs.Header.{layout_in, live_copy}
+use Rattle.header_gate.specs.declared.layout.TheConstants.{INDEXED, PAIRED}
+use Rattle.header_gate.specs.Header.{gate, layout_in, live_copy}
 use Rattle.header_gate.specs.Reasons.{header_reason, IsHeader}
-use Rattle.std.specs.Prelude.{IsTrue, ◌↔◌, ◌%◌}
-use Rattle.std.proofs.lemmas.Bool.{false≢true}
+use Rattle.std.specs.Prelude.{IsTrue, ◌↔◌, ◌%◌, ◌==◌, ◌||◌, not}
+use Rattle.std.proofs.lemmas.Bool.{cases_eq, false≢true}
 use Rattle.std.proofs.lemmas.Bool.Decides.{nat_tests}
-use Rattle.station.specs.Bytes.{byte}
+use Rattle.station.specs.Bytes.{byte, Same}
+use Rattle.station.specs.View.{View, Told, Lawful, NothingPending}
+use Rattle.station.specs.Steps.{Steps}
+use Rattle.station.proofs.Composition.{told_back}
 use Rattle.index_file.proofs.Kept.{even_of_bare}
 use Rattle.index_file.specs.Opening.{IsQuick, is_quick}
 use Rattle.map_model.specs.Array.{counts_of}
 use Rattle.map_model.specs.Image.{array_in, array_of, height_of}
 use Rattle.map_model.proofs.Reasonings.{length-array_in}
-use Rattle.recovery.specs.Parts.{AreParts, Fits, AgreesWith}
+use Rattle.recovery.specs.Parts.{AreParts, Fits, AgreesWith, turn_of}
+use Rattle.redo_journal.specs.Replaying.{gate_after}
+use Rattle.redo_journal.specs.Rest.{RestsAt}
+use Rattle.redo_journal.proofs.Live.{after_single, done_empty, rest_nothing, rests_by}
 use Rattle.redo_journal.specs.declared.place.Place.{Place}
 use Rattle.veb_index.specs.Nodes.{fence_by}
 use Rattle.veb_index.specs.View.{IndexView, fence_at, fence_of}
@@ -85,11 +91,43 @@ quick_agrees place tally index held left layout region tall index_h nodes counts
       index_is = quick_index place.layout index held left layout (tall ∙ sym index_h) (subst N (sym index_h) nodes);
     }
 
+-- A file that was left is at rest, by what the journal's gate says.
+
+gate_said : (odd : Bool) (n : ℕ) → n < 2 → IsTrue odd ↔ (n ≡ 1) → n ≡ turn_of odd
+gate_said true n small is = is.0 refl
+gate_said false n small is = by n small is
+  where
+    by : (n : ℕ) → n < 2 → IsTrue false ↔ (n ≡ 1) → n ≡ 0
+    by zero small is = refl
+    by (suc zero) small is = absurd (false≢true (is.1 refl))
+    by (suc (suc n)) small is = absurd (omega (arith, small))
+
+left_turn : (l : Layout) (n : ℕ) (held : List ℕ) → IsBare l held → gate held ≡ n → gate held ≡ gate_after l n
+left_turn l n held bare is = elim (cases_eq l.version PAIRED) [
+  | inl paired ↦ let e : gate_after l n ≡ n = grind (arith, nat_tests, paired) in is ∙ sym e
+  | inr single ↦ even_of_bare l held single bare ∙ sym (after_single l n single)
+]
+
+-- what is known of its bytes
+pub record IsLeftOf (l : Layout) (odd : Bool) (held : List ℕ) : Type 0 where
+  pub bare : IsBare l held
+  pub gate_is : IsTrue odd ↔ (gate held ≡ 1)
+
+pub quick_rests : {a b : View} (l : Layout) (odd : Bool) → Lawful b → Steps Same a b → NothingPending b → (Told a → IsLeftOf l odd a.held) → RestsAt l (gate_after l (turn_of odd)) b
+quick_rests {a} {b} l odd law steps nothing file =
+    rests_by l (gate_after l (turn_of odd)) law steps.frame
+    (rest_nothing l b nothing (λ told_b laid.
+    let told : Told a = told_back steps.frame told_b in
+    let bare : IsBare l b.held = subst (IsBare l) (sym (steps.held told)) (file told).bare in
+    done_empty l b.held (ap length (bare laid).1) laid))
+    (after_single l (turn_of odd))
+    (λ told. ap gate (steps.held told) ∙ left_turn l (turn_of odd) a.held (file told).bare (gate_said odd (gate a.held) (omega arith) (file told).gate_is))
+
 -- What the header says.
 
 -- of a file that may be opened by its index
-pub quick_header : (h : Header) → is_quick h ≡ true → (h.layout.version ≡ INDEXED) × (h.clean ≡ true) × (h.gate ≡ false) × (h.intent ≡ false)
-quick_header h is = (grind (arith, nat_tests, is), grind (arith, nat_tests, is), grind (arith, nat_tests, is), grind (arith, nat_tests, is))
+pub quick_header : (h : Header) → is_quick h ≡ true → (INDEXED ≤ h.layout.version) × (h.clean ≡ true) × (h.layout.version ≢ PAIRED → h.gate ≡ false) × (h.intent ≡ false)
+quick_header h is = (grind (arith, nat_tests, is), grind (arith, nat_tests, is), (λ single. grind (arith, nat_tests, is, single)), grind (arith, nat_tests, is))
 
 is_even : (x : ℕ) (b : Bool) → (IsTrue b ↔ (x % 2 ≡ 1)) → b ≡ false → x % 2 ≡ 0
 is_even x b odd off = by_rest (x % 2) refl (omega arith)
@@ -104,19 +142,24 @@ quick_file h held is sound may =
     let told = quick_header h may in
     record {
       sound = sound;
-      indexed = ap (λ (l : Layout). l.version) (sym is.layout_is) ∙ told.0;
-      gate_even = is_even (byte held 512) h.gate is.gate_is told.2;
+      indexed = subst (λ (l : Layout). INDEXED ≤ l.version) is.layout_is told.0;
+      gate_even = λ single. is_even (byte held 512) h.gate is.gate_is (told.2 (subst (λ (l : Layout). l.version ≢ PAIRED) (sym is.layout_is) single));
       intent_even = is_even (byte held 640) h.intent is.intent_is told.3;
       clean_odd = is.clean_is.0 told.1;
     }
 
 pub not_quick_file : (h : Header) (held : List ℕ) → IsHeader h held → is_quick h ≡ false → IsQuick held → ⊥
 not_quick_file h held is other quick =
-    let version : h.layout.version ≡ INDEXED = ap (λ (l : Layout). l.version) is.layout_is ∙ quick.indexed in
+    let version : INDEXED ≤ h.layout.version = subst (λ (l : Layout). INDEXED ≤ l.version) (sym is.layout_is) quick.indexed in
     let clean : h.clean ≡ true = is.clean_is.1 quick.clean_odd in
-    let gate : h.gate ≡ false = not_odd h.gate (byte held 512) is.gate_is quick.gate_even in
+    let even : (h.layout.version == PAIRED) || not h.gate ≡ true = elim (cases_eq h.layout.version PAIRED) [
+      | inl paired ↦ grind (arith, nat_tests, paired)
+      | inr single ↦
+          let off : h.gate ≡ false = not_odd h.gate (byte held 512) is.gate_is (quick.gate_even (subst (λ (l : Layout). l.version ≢ PAIRED) is.layout_is single)) in
+          grind (arith, nat_tests, off)
+    ] in
     let intent : h.intent ≡ false = not_odd h.intent (byte held 640) is.intent_is quick.intent_even in
-    let may : is_quick h ≡ true = grind (arith, nat_tests, version, clean, gate, intent) in
+    let may : is_quick h ≡ true = grind (arith, nat_tests, version, clean, even, intent) in
     false≢true (sym other ∙ may)
   where
     not_odd : (b : Bool) (x : ℕ) → (IsTrue b ↔ (x % 2 ≡ 1)) → x % 2 ≡ 0 → b ≡ false

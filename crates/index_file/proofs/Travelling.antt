@@ -90,13 +90,13 @@ part_read place n t = elim (cases_lt 0 n) [
   | inr few ↦ omega (arith, ap (λ (u : Travel). u.read) (part_none place n t (omega (arith, few))))
 ]
 
-pub quick_read : (l : Layout) (h : ℕ) (t : Travel) → l.version ≡ 3 → h ≤ l.hmax → (after_quick l h t).read ≤ t.read + (page_size + area_size l)
+pub quick_read : (l : Layout) (h : ℕ) (t : Travel) → 3 ≤ l.version → h ≤ l.hmax → (after_quick l h t).read ≤ t.read + (page_size + area_size l)
 quick_read l h t version low =
     let more : 2 ^ h ≤ 2 ^ l.hmax = pow_mono low in
     omega (arith, part_read (count_place l 0) (4 * 2 ^ h) (after_nodes l h (after_read 0 page_size t)), part_read (node_place l 0) (64 * (2 ^ h - 1)) (after_read 0 page_size t), area_room l version, more)
 
 -- and where it opens nothing, a front of these
-pub front_read : (l : Layout) (h : ℕ) (t u : Travel) → l.version ≡ 3 → h ≤ l.hmax → IsAreaFront l h (after_read 0 page_size t) u → u.read ≤ t.read + (page_size + area_size l)
+pub front_read : (l : Layout) (h : ℕ) (t u : Travel) → 3 ≤ l.version → h ≤ l.hmax → IsAreaFront l h (after_read 0 page_size t) u → u.read ≤ t.read + (page_size + area_size l)
 front_read l h t u version low (inl nodes) =
     let more : 2 ^ h ≤ 2 ^ l.hmax = pow_mono low in
     omega (arith, ap (λ (v : Travel). v.read) nodes.now_is, part_read (node_place l 0) nodes.bytes (after_read 0 page_size t), nodes.most, area_room l version, more)

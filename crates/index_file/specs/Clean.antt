@@ -8,7 +8,7 @@ use Rattle.station.specs.Steps.{LeavesOnly}
 use Rattle.header_gate.specs.InPlace.{IsBare}
 use Rattle.header_gate.specs.declared.gate.Gate.TheVariants.{Clean}
 use Rattle.header_gate.specs.declared.layout.Layout.{Layout}
-use Rattle.header_gate.specs.declared.layout.TheConstants.{INDEXED}
+use Rattle.header_gate.specs.declared.layout.TheConstants.{INDEXED, LATEST_VERSION}
 use Rattle.header_gate.specs.Header.{intent_gate, clean_gate, layout_in, IsPlaceOf}
 use Rattle.header_gate.specs.Places.{area_place}
 use Rattle.header_gate.specs.Reasons.{header_reason}
@@ -23,6 +23,10 @@ use Rattle.index_file.specs.Area.{HasArea}
 abbrev pub version_of : List ℕ → ℕ
 version_of image = (layout_in image).version
 
+-- a version whose files have an index, among those that are read
+abbrev pub IsIndexed : ℕ → Type 0
+IsIndexed version = (INDEXED ≤ version) × (version ≤ LATEST_VERSION)
+
 -- the first key of segment i, or nothing where it is empty
 abbrev pub fence_of_segment : Array → ℕ → Bytes
 fence_of_segment segments i = unwrap_or (first_key segments i) []
@@ -36,9 +40,10 @@ pub record IsLeft (image : List ℕ) : Type 0 where
   pub balanced : IsBalancedArray (height_of image) (array_of image)
   pub area : HasArea (layout_in image) (height_of image) (fence_of_segment (array_of image)) (counts_of (array_of image)) image
 
--- an image of another version is clean, and so is one whose clean gate is even; any other has to have been left
+-- an image of an earlier version, without an index, is clean, and so is one whose clean gate is even; any other has to have
+-- been left
 abbrev pub IsClean : List ℕ → Type 0
-IsClean image = version_of image ≡ INDEXED → clean_gate image ≡ 1 → IsLeft image
+IsClean image = IsIndexed (version_of image) → clean_gate image ≡ 1 → IsLeft image
 
 -- the place of the clean gate
 abbrev pub IsCleanPlace : ℕ → Type 0
@@ -56,12 +61,12 @@ pub record Leaves (l : Layout) (old new : List ℕ) : Type 0 where
 -- the image has an index that may be taken for that of its array: nothing is wrong with its header, and its clean gate is odd
 pub record IsOpenIndex (image : List ℕ) : Type 0 where
   pub sound : header_reason image ≡ None
-  pub indexed : version_of image ≡ INDEXED
+  pub indexed : INDEXED ≤ version_of image
   pub odd : clean_gate image ≡ 1
 
 -- the index of the image means nothing
 abbrev pub IsShut : List ℕ → Type 0
-IsShut image = version_of image ≡ INDEXED → clean_gate image ≡ 0
+IsShut image = IsIndexed (version_of image) → clean_gate image ≡ 0
 
 -- A run that begins on a clean file leaves a clean one: what each word that opens a file promises.
 pub record KeepsClean (a b : View) : Type 0 where

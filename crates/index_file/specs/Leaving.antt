@@ -3,6 +3,7 @@ use Rattle.std.specs.Prelude.{◌≡◌, ℕ, ◌≤◌, List}
 use Rattle.station.specs.View.{View, EachHeld, NothingPending}
 use Rattle.header_gate.specs.declared.layout.Layout.{Layout}
 use Rattle.header_gate.specs.Header.{intent_gate, clean_gate}
+use Rattle.header_gate.specs.InPlace.{IsBare}
 use Rattle.map_model.specs.Image.{array_of}
 use Rattle.map_model.specs.Standing.{StandsBalanced}
 use Rattle.veb_index.specs.View.{IndexView}
@@ -10,11 +11,13 @@ use Rattle.veb_index.specs.Arrays.{IsIndexOf}
 use Rattle.window_tally.specs.View.{TallyView, IsTally}
 use Rattle.index_file.specs.Reading.{HasIndex}
 
--- the image is a valid file with this layout and this live region, with all three gates even and every window within its
--- bounds; the tally has its height and its counts, and the index the first keys of its segments
+-- the image is a valid file with this layout and this live region, over which no page is to be laid, with the intent's gate
+-- and the clean gate even and every window within its bounds; the tally has its height and its counts, and the index the first
+-- keys of its segments
 pub record IsReady (l : Layout) (region : ℕ) (tally : TallyView) (index : IndexView) (image : List ℕ) : Type 0 where
   pub stands : StandsBalanced l region tally.height tally.counts image
   pub index_is : IsIndexOf index (array_of image)
+  pub bare : IsBare l image
   pub intent_even : intent_gate image ≡ 0
   pub clean_even : clean_gate image ≡ 0
 

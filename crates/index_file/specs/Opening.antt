@@ -1,11 +1,11 @@
 -- Which files are opened by their index, and what is read then.
-use Rattle.std.specs.Prelude.{◌≡◌, ◌⊎◌, ◌+◌, ℕ, ◌<◌, ◌≤◌, ◌==◌, ◌&&◌, not, Bool, List, None}
+use Rattle.std.specs.Prelude.{◌≡◌, ◌⊎◌, ◌+◌, ℕ, ◌<◌, ◌≤◌, ◌==◌, ◌≢◌, nat_le, ◌&&◌, ◌||◌, not, Bool, List, None}
 use Rattle.station.specs.View.{View, Told, EachHeld, NothingPending, after_read}
 use Rattle.station.specs.declared.travel.Travel.{Travel}
 use Rattle.density_rule.specs.Marks.{no_marks}
 use Rattle.header_gate.specs.declared.header.Header.{Header}
 use Rattle.header_gate.specs.declared.layout.Layout.{Layout}
-use Rattle.header_gate.specs.declared.layout.TheConstants.{INDEXED}
+use Rattle.header_gate.specs.declared.layout.TheConstants.{INDEXED, PAIRED}
 use Rattle.header_gate.specs.declared.reason.Reason.TheVariants.{Index}
 use Rattle.header_gate.specs.Header.{gate, intent_gate, clean_gate, layout_in}
 use Rattle.header_gate.specs.Places.{IsLayout, height_limit, file_length, page_size}
@@ -17,12 +17,14 @@ use Rattle.recovery.specs.Parts.{Fits, AgreesWith}
 use Rattle.recovery.specs.declared.fault.OpenFault.{OpenFault}
 use Rattle.recovery.specs.declared.fault.OpenFault.TheVariants.{Memory, NotStore, Failed}
 use Rattle.recovery.specs.declared.parts.Parts.{Parts}
+use Rattle.redo_journal.specs.Rest.{RestsAt}
 
--- nothing is wrong with the header, and of the three gates of a file that has an index the clean one alone is odd
+-- nothing is wrong with the header, and of the three gates of a file that has an index the clean one alone is odd; with two
+-- journals the journal's gate may be either, since it names the live one
 pub record IsQuick (image : List ℕ) : Type 0 where
   pub sound : header_reason image ≡ None
-  pub indexed : version_of image ≡ INDEXED
-  pub gate_even : gate image ≡ 0
+  pub indexed : INDEXED ≤ version_of image
+  pub gate_even : version_of image ≢ PAIRED → gate image ≡ 0
   pub intent_even : intent_gate image ≡ 0
   pub clean_odd : clean_gate image ≡ 1
 
@@ -50,9 +52,10 @@ IsFileOf l h a = IsLayout l × (h ≤ height_limit l) × (Told a → (layout_in 
 abbrev pub IsQuickFront : View → Travel → Type 0
 IsQuickFront a now = IsPageRead a.travel now ⊎ ((l : Layout) × (h : ℕ) × IsFileOf l h a × IsAreaFront l h (after_read 0 page_size a.travel) now)
 
--- of the header of a file that may be opened so: the file has an index, and of the gates the clean one alone is odd
+-- of the header of a file that may be opened so: the file has an index, and of the gates the clean one alone is odd, but that
+-- the journal's may be either where there are two
 abbrev pub is_quick : Header → Bool
-is_quick header = (header.layout.version == INDEXED) && (header.clean && (not header.gate && not header.intent))
+is_quick header = nat_le INDEXED header.layout.version && (header.clean && (((header.layout.version == PAIRED) || not header.gate) && not header.intent))
 
 -- the header of a file that is to be opened, where nothing is pending
 pub record IsKnown (header : Header) (a : View) : Type 0 where
@@ -64,15 +67,15 @@ pub record IsKnown (header : Header) (a : View) : Type 0 where
   pub sound : Told a → IsSoundHeader a.held
   pub header_is : Told a → IsHeader header a.held
 
--- Parts of a store that was opened by its index: they agree with the file, no window is rested, no intent waits, and of the
--- index each byte was read once.
+-- Parts of a store that was opened by its index: they agree with the file, which is at rest, no window is rested, no intent
+-- waits, and of the index each byte was read once.
 pub record IsOpenedQuickly (parts : Parts) (a b : View) : Type 0 where
   pub agrees : EachHeld (AgreesWith parts.place parts.tally parts.index) b
   pub fits : Fits parts.place parts.tally parts.index parts.frames.journal
   pub reach : file_length parts.place.layout ≤ a.fixed.reach
-  pub indexed : parts.place.layout.version ≡ INDEXED
+  pub indexed : INDEXED ≤ parts.place.layout.version
   pub unrested : parts.tally.marks ≡ no_marks parts.tally.height
   pub no_intent : parts.intent ≡ None
-  pub turn : parts.frames.turn ≡ 0
+  pub rests : RestsAt parts.place.layout parts.frames.turn b
   pub travel : b.travel ≡ after_area parts.place.layout parts.tally.height a.travel
   pub calls : b.calls ≤ a.calls + area_calls parts.tally.height

@@ -25,7 +25,7 @@ is_node_of f h x file place = is_node f (link_of h 0 x) (link_of h 1 x) file pla
 -- a file with an index of this layout, as far as whose end the station reaches
 pub record HasIndex (l : Layout) (v : View) : Type 0 where
   pub layout : IsLayout l
-  pub indexed : l.version ≡ INDEXED
+  pub indexed : INDEXED ≤ l.version
   pub reach : file_length l ≤ v.fixed.reach
 
 -- a tally whose counts are to be read, in a file of this layout

@@ -1,6 +1,6 @@
 //! The index of a file is closed before anything else is written.
 
-ghost use Rattle.std.specs.Prelude.{◌≡◌, ◌+◌, ◌≤◌, ◌==◌, ◌&&◌, OnOk, OnErr, None};
+ghost use Rattle.std.specs.Prelude.{◌≡◌, ◌+◌, ◌≤◌, ◌&&◌, nat_le, OnOk, OnErr, None};
 ghost use Rattle.station.specs.Bytes.{Touched};
 ghost use Rattle.station.specs.View.{Told, NothingPending, Rose};
 ghost use Rattle.station.specs.Steps.{Steps};
@@ -14,7 +14,7 @@ use crate::gate::close_clean;
 use header_gate::{Header, HeaderFault, INDEXED, read_header};
 use station::{Failed, Station};
 
-/// Closes the clean gate of a file of version 3 where it is odd. Each word that opens a file begins with it.
+/// Closes the clean gate of a file of version 3 or later where it is odd. Each word that opens a file begins with it.
 ///
 /// It reads the header, and syncs only where it closes. A file that the header refuses is left as it is, and so is one
 /// without an odd clean gate. A clean file stays clean at every moment, and no byte but the clean gate changes.
@@ -45,7 +45,7 @@ pub fn close_index<S: Station>(station: &mut S) -> Result<(), Failed>
 
 // Whether the file has an index, and its clean gate is odd.
 fn is_open(header: &Header) -> bool
-    ensures { result ≡ ((header.now.layout.version == INDEXED) && header.now.clean) }
+    ensures { result ≡ (nat_le INDEXED header.now.layout.version && header.now.clean) }
 {
-    header.layout.version == INDEXED && header.clean
+    header.layout.version >= INDEXED && header.clean
 }

@@ -4,9 +4,8 @@ ghost use Rattle.std.specs.Prelude.{◌≡◌, ℕ, List, Some, None};
 ghost use Rattle.station.specs.Bytes.{byte, Touched};
 ghost use Rattle.header_gate.specs.Header.{clean_gate, layout_in};
 ghost use Rattle.header_gate.specs.Reasons.{header_reason};
-ghost use Rattle.header_gate.specs.declared.layout.TheConstants.{INDEXED};
 ghost use Rattle.header_gate.specs.declared.reason.Reason.{Reason};
-ghost use Rattle.index_file.specs.Clean.{IsClean, IsCleanPlace, IsLeft, IsShut, version_of};
+ghost use Rattle.index_file.specs.Clean.{IsClean, IsCleanPlace, IsIndexed, IsLeft, IsShut, version_of};
 ghost use Rattle.index_file.specs.Opening.{IsQuick};
 ghost use Rattle.index_file.specs.Judging.{area_reason};
 ghost use Rattle.map_model.specs.Image.{height_of};
@@ -29,5 +28,5 @@ pub fn left_indexes_are_sound()
 
 /// A law: a clean file whose clean gate is odd is opened by its index.
 pub fn clean_files_are_quick()
-    ensures { (image : List ℕ) → IsClean image → version_of image ≡ INDEXED → clean_gate image ≡ 1 → IsQuick image }
+    ensures { (image : List ℕ) → IsClean image → IsIndexed (version_of image) → clean_gate image ≡ 1 → IsQuick image }
 {}

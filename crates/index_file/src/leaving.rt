@@ -24,7 +24,7 @@ use window_tally::Tally;
 /// and the clean gate are those held at entry. It reads nothing.
 pub fn leave_index<S: Station>(station: &mut S, parts: &mut Parts) -> Result<(), Failed>
     requires parts { AreParts parts.old.place parts.old.tally parts.old.index parts.old.frames.journal }
-    requires indexed { parts.old.place.layout.version ≡ INDEXED }
+    requires indexed { INDEXED ≤ parts.old.place.layout.version }
     requires reach { file_length parts.old.place.layout ≤ (S.view station.old).fixed.reach }
     requires ready { EachHeld (IsReady parts.old.place.layout parts.old.place.region parts.old.tally parts.old.index) (S.view station.old) }
     requires nothing { NothingPending (S.view station.old) }

@@ -1,18 +1,19 @@
 //! A store is opened by the index in its file.
 
-ghost use Rattle.std.specs.Prelude.{◌≡◌, ◌⊎◌, ◌≤◌, ◌+◌, IsOk, OnOk, IfOk, IfErr, IfSome, IsNone, IsErrOf, None, true, false};
+ghost use Rattle.std.specs.Prelude.{◌≡◌, ◌⊎◌, ◌<◌, ◌≤◌, ◌+◌, ◌==◌, ◌||◌, not, IsOk, OnOk, IfOk, IfErr, IfSome, IsNone, IsErrOf, None, true, false};
 ghost use Rattle.station.specs.Bytes.{Same};
 ghost use Rattle.station.specs.View.{Told, EachHeld, NothingPending, Rose};
 ghost use Rattle.station.specs.Steps.{Steps};
 ghost use Rattle.density_rule.specs.Marks.{no_marks};
 ghost use Rattle.header_gate.specs.Places.{file_length};
 ghost use Rattle.header_gate.specs.Reasons.{header_reason};
-ghost use Rattle.header_gate.specs.declared.layout.TheConstants.{INDEXED};
+ghost use Rattle.header_gate.specs.declared.layout.TheConstants.{INDEXED, PAIRED};
 ghost use Rattle.index_file.specs.Clean.{IsClean, IsLeft};
 ghost use Rattle.index_file.specs.Opening.{IsQuick, IsQuickFault, IsPageRead, IsQuickFront, IsOpenedQuickly, IsKnown, is_quick, after_quick};
 ghost use Rattle.index_file.specs.Reading.{IsAreaFront, area_calls};
 ghost use Rattle.map_model.specs.Image.{height_of};
-ghost use Rattle.recovery.specs.Parts.{Fits, AgreesWith};
+ghost use Rattle.recovery.specs.Parts.{Fits, AgreesWith, turn_of};
+ghost use Rattle.redo_journal.specs.Rest.{RestsAt};
 
 use crate::fault::AreaFault;
 use crate::loading::load_area;
@@ -21,7 +22,8 @@ use recovery::{OpenFault, Parts, make_parts};
 use station::Station;
 use std::alloc::Global;
 
-/// Opens the store by the index in its file, where the clean gate is odd and the other gates are even.
+/// Opens the store by the index in its file, where the clean gate is odd and the other gates are even. With two journals the
+/// journal's gate may be either: it names the live one, which is empty where the index was left.
 ///
 /// It begins with a sync, writes nothing, and reads the header page and the index, and no byte of a region. None where the
 /// file has to be opened by its live region. `NotStore` names the first place of the index that is wrong; it never comes where
@@ -32,10 +34,10 @@ pub fn open_quick<S: Station>(alloc: Global, station: &mut S) -> Result<Option<P
     ensures agrees { IfOk result (λ given. IfSome given (λ parts. EachHeld (AgreesWith parts.place parts.tally parts.index) (S.view station.new))) }
     ensures fits { IfOk result (λ given. IfSome given (λ parts. Fits parts.place parts.tally parts.index parts.frames.journal)) }
     ensures reach { IfOk result (λ given. IfSome given (λ parts. file_length parts.place.layout ≤ (S.view station.old).fixed.reach)) }
-    ensures indexed { IfOk result (λ given. IfSome given (λ parts. parts.place.layout.version ≡ INDEXED)) }
+    ensures indexed { IfOk result (λ given. IfSome given (λ parts. INDEXED ≤ parts.place.layout.version)) }
     ensures unrested { IfOk result (λ given. IfSome given (λ parts. parts.tally.marks ≡ no_marks parts.tally.height)) }
     ensures no_intent { IfOk result (λ given. IfSome given (λ parts. parts.intent ≡ None)) }
-    ensures turn { IfOk result (λ given. IfSome given (λ parts. parts.frames.turn ≡ 0)) }
+    ensures rests { IfOk result (λ given. IfSome given (λ parts. RestsAt parts.place.layout parts.frames.turn (S.view station.new))) }
     ensures settled { OnOk result (NothingPending (S.view station.new)) }
 
     // Which files are opened so, and which aren't.
@@ -105,7 +107,7 @@ fn load_parts<S: Station>(
     header: &Header,
 ) -> Result<Parts, OpenFault>
     requires known { IsKnown header.now (S.view station.old) }
-    requires indexed { header.now.layout.version ≡ INDEXED }
+    requires indexed { INDEXED ≤ header.now.layout.version }
     requires left { Told (S.view station.old) → IsLeft (S.view station.old).held }
     ensures opened { IfOk result (λ parts. IsOpenedQuickly parts (S.view station.old) (S.view station.new)) }
     ensures steps { Steps Same (S.view station.old) (S.view station.new) }
@@ -118,6 +120,7 @@ fn load_parts<S: Station>(
     let Ok(mut parts) = make_parts(alloc, header) else {
         return Err(OpenFault::Memory);
     };
+    parts.frames.set_turn(header.layout, turn_said(header));
     match load_area(
         station,
         &parts.place.layout,
@@ -130,9 +133,24 @@ fn load_parts<S: Station>(
     }
 }
 
-// Whether the file has an index, and of the gates the clean one alone is odd.
+// Whether the file has an index, and its gates say that it was left.
 fn may_open(header: &Header) -> bool
     ensures { result ≡ is_quick header.now }
 {
-    header.layout.version == INDEXED && header.clean && !header.gate && !header.intent
+    header.layout.version >= INDEXED && header.clean && is_passable(header) && !header.intent
+}
+
+// Whether the journal's gate is even, or one of two journals is named by it, whichever.
+fn is_passable(header: &Header) -> bool
+    ensures { result ≡ (header.now.layout.version == PAIRED) || not header.now.gate }
+{
+    header.layout.is_paired() || !header.gate
+}
+
+// What the journal's gate says, as a number.
+fn turn_said(header: &Header) -> u32
+    ensures said { result ≡ turn_of header.now.gate }
+    ensures small { result < 2 }
+{
+    if header.gate { 1 } else { 0 }
 }

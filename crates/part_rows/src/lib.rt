@@ -29,4 +29,6 @@ mod stations;
 #[cfg(test)]
 mod tallies;
 #[cfg(test)]
+mod versions;
+#[cfg(test)]
 mod workloads;

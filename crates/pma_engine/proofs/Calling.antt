@@ -66,3 +66,8 @@ opening_behind closing before behind a c b steps few told same (inl most) = inl 
 opening_behind closing before behind a c b steps few told same (inr some) =
     let touched = steps.held told in
     inr (some.0, sym (has_same a.held c.held touched) ∙ some.1, for_same a c (λ told. told_on steps.frame told) touched some.0 some.2, omega (arith, few, same, some.3))
+
+-- calls that are made behind it
+pub opening_more : (back more : ℕ) (a b d : View) → d.calls ≤ b.calls + more → CallsOpening back a b → CallsOpening (back + more) a d
+opening_more back more a b d few (inl most) = inl (omega (arith, few, most))
+opening_more back more a b d few (inr some) = inr (some.0, some.1, some.2, omega (arith, few, some.3))

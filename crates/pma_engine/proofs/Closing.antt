@@ -1,6 +1,5 @@
 -- The closing of an index, and what keeps one closed.
-use Rattle.std.proofs.Common.{◌≡◌, ◌⊎◌, inl, inr, ℕ, ◌+◌, ◌*◌, ◌^◌, ◌≤◌, ◌<◌, Bool, true, false, cond, List, length, refl, sym, ap, subst, ◌∙◌, arith}
-use Rattle.std.specs.Prelude.{◌==◌}
+use Rattle.std.proofs.Common.{◌≡◌, ◌⊎◌, inl, inr, ℕ, ◌+◌, ◌*◌, ◌^◌, ◌≤◌, ◌<◌, nat_le, Bool, true, false, cond, List, length, refl, sym, ap, subst, ◌∙◌, arith}
 use Rattle.std.proofs.lemmas.Bool.Decides.{nat_tests}
 use Rattle.station.specs.Bytes.{byte, Same, Touched}
 use Rattle.station.specs.View.{View, Fixed, Told, Honest, EachHeld, Lawful}
@@ -17,7 +16,7 @@ use Rattle.map_model.specs.Store.{Update}
 use Rattle.pma_store.specs.Batching.{IsBatchPlace}
 use Rattle.pma_store.specs.Items.{IsItemPlace}
 use Rattle.pma_store.specs.Store.{StoreView, IsOpenOn}
-use Rattle.pma_store.specs.Touching.{IsUpdatePlace, Updates}
+use Rattle.pma_store.specs.Touching.{IsClearPlace, IsUpdatePlace, Updates}
 use Rattle.pma_store.proofs.Resting.{covered_held}
 use Rattle.pma_store.proofs.Touching.{moves_touch}
 use Rattle.recovery.specs.Restores.{LeavesFile}
@@ -30,26 +29,26 @@ use Rattle.index_file.specs.Reading.{area_calls}
 
 -- What is written.
 
-pub closing_some : (l : Layout) → l.version ≡ INDEXED → closing_cost l ≡ 1
+pub closing_some : (l : Layout) → INDEXED ≤ l.version → closing_cost l ≡ 1
 unfolding closing_cost
 closing_some l is = grind (arith, nat_tests, is)
 
-pub leaving_some : (l : Layout) (height : ℕ) → l.version ≡ INDEXED → leaving_cost l height ≡ 68 * 2 ^ height + 1
+pub leaving_some : (l : Layout) (height : ℕ) → INDEXED ≤ l.version → leaving_cost l height ≡ 68 * 2 ^ height + 1
 unfolding leaving_cost
-leaving_some l height is = ap (λ (b : Bool). cond b (68 * 2 ^ height + 1) 0) (let e : (l.version == INDEXED) ≡ true = grind (arith, nat_tests, is) in e)
+leaving_some l height is = ap (λ (b : Bool). cond b (68 * 2 ^ height + 1) 0) (let e : nat_le INDEXED l.version ≡ true = grind (arith, nat_tests, is) in e)
 
-pub leaving_called : (l : Layout) (height : ℕ) → l.version ≡ INDEXED → leaving_calls l height ≡ area_calls height + 3
+pub leaving_called : (l : Layout) (height : ℕ) → INDEXED ≤ l.version → leaving_calls l height ≡ area_calls height + 3
 unfolding leaving_calls
-leaving_called l height is = ap (λ (b : Bool). cond b (area_calls height + 3) 0) (let e : (l.version == INDEXED) ≡ true = grind (arith, nat_tests, is) in e)
+leaving_called l height is = ap (λ (b : Bool). cond b (area_calls height + 3) 0) (let e : nat_le INDEXED l.version ≡ true = grind (arith, nat_tests, is) in e)
 
 -- a closing writes at most what it costs
 pub gate_cost : (file : List ℕ) (before after : ℕ) → WritesGate file before after → after ≤ before + closing_cost (layout_in file)
-gate_cost file before after writes = by ((layout_in file).version == INDEXED) refl
+gate_cost file before after writes = by (nat_le INDEXED (layout_in file).version) refl
   where
-    by : (b : Bool) → ((layout_in file).version == INDEXED) ≡ b → after ≤ before + closing_cost (layout_in file)
-    by true is = let here : (layout_in file).version ≡ INDEXED = grind (arith, nat_tests, is) in omega (arith, writes.most, closing_some (layout_in file) here)
+    by : (b : Bool) → nat_le INDEXED (layout_in file).version ≡ b → after ≤ before + closing_cost (layout_in file)
+    by true is = let here : INDEXED ≤ (layout_in file).version = grind (arith, nat_tests, is) in omega (arith, writes.most, closing_some (layout_in file) here)
     by false is =
-        let other : version_of file ≡ INDEXED → ⊥ = λ e. grind (arith, nat_tests, is, e) in
+        let other : INDEXED ≤ version_of file → ⊥ = λ e. grind (arith, nat_tests, is, e) in
         omega (arith, writes.none (λ there. other there.indexed))
 
 -- What stays.
@@ -153,6 +152,16 @@ batch_gate l old new touched = keeps_gate old new apart touched
     apart k (inr at) (inr (inl is)) = omega (arith, is.0, at.1)
     apart k (inl at) (inr (inr is)) = omega (arith, is, at)
     apart k (inr at) (inr (inr is)) = omega (arith, is, at.0)
+
+-- of the gate and the journals
+pub clear_gate : (l : Layout) (old new : List ℕ) → Touched (IsClearPlace l) old new → KeepsGate old new
+clear_gate l old new touched = keeps_gate old new apart touched
+  where
+    apart : (k : ℕ) → (k ≡ 704) ⊎ ((3080 ≤ k) × (k < 3084)) → IsClearPlace l k → ⊥
+    apart k (inl at) (inl gate) = omega (arith, gate, at)
+    apart k (inl at) (inr journal) = omega (arith, journal.0, at)
+    apart k (inr at) (inl gate) = omega (arith, gate, at.0)
+    apart k (inr at) (inr journal) = omega (arith, journal.0, at.1)
 
 -- and of what isn't live
 pub spare_gate : (l : Layout) (spare : ℕ) → spare < 2 → (old new : List ℕ) → Touched (IsSparePlace l spare) old new → KeepsGate old new

@@ -41,8 +41,9 @@ use Rattle.recovery.specs.declared.fault.OpenFault.{OpenFault}
 use Rattle.recovery.specs.declared.fault.OpenFault.TheVariants as opening
 use Rattle.command_text.specs.declared.reply.Reply.{Reply}
 use Rattle.command_text.specs.declared.reply.Reply.TheVariants as reply
+use Rattle.pma_store.specs.Readying.{clear_cost}
 use Rattle.pma_store.specs.Store.{StoreView, IsOpenOn}
-use Rattle.pma_engine.specs.Loading.{AnswersLoad, HasText, IsCutText, IsFileLoaded, IsLoadRefused, IsLoadStatus, IsWrongAt, LoadsFile, LoadsOpened, MayLoad, line_of_load, load_cost, status_of_load}
+use Rattle.pma_engine.specs.Loading.{AnswersLoad, HasText, IsCutText, IsFileLoaded, IsLoadRefused, IsLoadStatus, IsWrongAt, LoadsFile, LoadsOpened, MayLoad, line_of_load, load_cost, status_of_load, text_cost}
 use Rattle.pma_engine.specs.Closing.{IsButClosed, WritesGate}
 use Rattle.pma_engine.specs.Opening.{IsOpened, IsUnopened, Reopens}
 use Rattle.pma_engine.specs.Jobs.{TakesNothing}
@@ -55,7 +56,6 @@ use Rattle.pma_engine.specs.declared.status.TheConstants.{DONE, REFUSED, DISK_FA
 use Rattle.pma_engine.proofs.Meant.{opened_map}
 use Rattle.pma_engine.proofs.OutcomeLaws.{no_map}
 use Rattle.pma_engine.proofs.Upgrading.{keeps_opened, keeps_on, none_told, said_since, spared_none, stands_told, unopened_run, unpending}
-use Rattle.pma_engine.proofs.StoreLaws.{nothing_yet}
 
 zero_or : (n : ℕ) → (n ≡ 0) ⊎ (0 < n)
 zero_or zero = inl refl
@@ -95,7 +95,7 @@ Facts most r s s0 s1 a b = FactsBy (fresh_reader most) r s s0 s1 a b
 pub facts_from : (most : ℕ) (reader : ReaderView) → reader ≡ fresh_reader most → (r : Result Loaded LoadFault) (s : StoreView) (s0 s1 : SourceView) (a b : View) → FactsBy reader r s s0 s1 a b → Facts most r s s0 s1 a b
 facts_from most reader fresh r s s0 s1 a b facts = subst (λ (x : ReaderView). FactsBy x r s s0 s1 a b) fresh facts
 
-module _ (laws : Laws) (most : ℕ) (s : StoreView) (s0 s1 : SourceView) (layout : IsLayout s.place.layout) (a : View) (law : Lawful a) (opened : IsOpenOn s a) where
+module _ (laws : Laws) (most : ℕ) (s : StoreView) (s0 s1 : SourceView) (layout : IsLayout s.place.layout) (a : View) (law : Lawful a) (opened : IsOpenOn s a) (nothing : NothingPending a) where
   small : most_records s.place.layout + 1 < 2 ^ 32
   small = omega (arith, upper_of-small (height_limit s.place.layout) (omega (arith, layout.hmax, layout.format.least)))
 
@@ -144,11 +144,11 @@ module _ (laws : Laws) (most : ℕ) (s : StoreView) (s0 s1 : SourceView) (layout
     each_moved : EachHeld (λ image. Told a × Loads s.place (TextFor s.place.layout (fresh_reader most) s0) a.held image) b
     each_moved =
         each_on (λ d. Told a × (d ≡ a.held)) (λ i. Told a × Loads s.place (TextFor s.place.layout (fresh_reader most) s0) a.held i) facts.steps
-        (λ image left. (told_of law image left, only_held a (nothing_yet s opened.on) image left))
+        (λ image left. (told_of law image left, only_held a nothing image left))
         (λ d i p step. (p.0, subst (λ (x : List ℕ). Loads s.place (TextFor s.place.layout (fresh_reader most) s0) x i) p.1 step))
 
     each_same : 0 < sum s.tally.counts → EachHeld (λ image. image ≡ a.held) b
-    each_same some = each_on (λ d. d ≡ a.held) (λ i. i ≡ a.held) (facts.untouched some).0 (only_held a (nothing_yet s opened.on)) (λ d i p same. same ∙ p)
+    each_same some = each_on (λ d. d ≡ a.held) (λ i. i ≡ a.held) (facts.untouched some).0 (only_held a nothing) (λ d i p same. same ∙ p)
 
     each : EachHeld (MayLoad s0 a.held) b
     each = elim (zero_or (sum s.tally.counts)) [
@@ -165,9 +165,9 @@ module _ (laws : Laws) (most : ℕ) (s : StoreView) (s0 s1 : SourceView) (layout
     runs : Run (λ image said. MayLoad s0 a.held image) a b
     runs = elim (zero_or (sum s.tally.counts)) [
       | inl none ↦ run_of_steps (λ image said. MayLoad s0 a.held image) facts.steps
-          (λ honest start image left step. may_load image (law.tells honest).0 none (subst (λ (x : List ℕ). Loads s.place (TextFor s.place.layout (fresh_reader most) s0) x image) ((nothing_yet s opened.on) honest start left) step))
+          (λ honest start image left step. may_load image (law.tells honest).0 none (subst (λ (x : List ℕ). Loads s.place (TextFor s.place.layout (fresh_reader most) s0) x image) (nothing honest start left) step))
       | inr some ↦ run_of_steps (λ image said. MayLoad s0 a.held image) (facts.untouched some).0
-          (λ honest start image left same. stays image (same ∙ (nothing_yet s opened.on) honest start left))
+          (λ honest start image left same. stays image (same ∙ nothing honest start left))
     ]
 
     left_alone : 0 < sum s.tally.counts → (b.held ≡ a.held) × (b.travel.written ≡ a.travel.written)
@@ -192,7 +192,7 @@ module _ (laws : Laws) (most : ℕ) (s : StoreView) (s0 s1 : SourceView) (layout
 
     -- a refusal
     refused_by : (d : View) (line : Reply) → IsRefusal line → {text : List ℕ} → Says text b d → (SaidTold b → SaysLine line b.said b d) → (Told a → AnswersLoad s.place.layout (sum s.tally.counts) s0 s1 line) → IsNoDisk fault → NoText d
-        → LoadsOpened REFUSED most s.place.layout (sum s.tally.counts) s0 s1 a d
+        → LoadsOpened REFUSED most s.place.layout (sum s.tally.counts) 0 s0 s1 a d
     refused_by d line refuses says whole answers no_disk no_text = record {
       status_is = inr (inl refl);
       run =
@@ -222,7 +222,7 @@ module _ (laws : Laws) (most : ℕ) (s : StoreView) (s0 s1 : SourceView) (layout
 
     -- a fault of which nothing is said
     stopped_by : (status : ℕ) → (status ≡ DISK_FAULT) ⊎ IsCutText status → ((status ≡ DISK_FAULT → ⊥) → IsNoDisk fault) → (status ≡ DISK_FAULT → fault ≡ load.Disk) → (status ≡ SCRIPT_FAULT → SourceRose s0 s1)
-        → (status ≡ TOO_LONG → SourceTold s0 → length s0.left ≡ length s1.left + most) → (IsCutText status → sum s.tally.counts ≡ 0) → NoText b → LoadsOpened status most s.place.layout (sum s.tally.counts) s0 s1 a b
+        → (status ≡ TOO_LONG → SourceTold s0 → length s0.left ≡ length s1.left + most) → (IsCutText status → sum s.tally.counts ≡ 0) → NoText b → LoadsOpened status most s.place.layout (sum s.tally.counts) 0 s0 s1 a b
     stopped_by status is no_disk disk_is script_is spent none no_text = record {
       status_is = elim is [ inl e ↦ inr (inr e) | inr (inl e) ↦ inl (inr (inl e)) | inr (inr e) ↦ inl (inr (inr e)) ];
       run = runs (Err fault) b facts;
@@ -270,7 +270,7 @@ module _ (laws : Laws) (most : ℕ) (s : StoreView) (s0 s1 : SourceView) (layout
           balanced = subst (IsBalancedArray done.height) (sym (is.array told_b)) is.balanced;
         }
 
-    done_by : LoadsOpened DONE most s.place.layout (sum s.tally.counts) s0 s1 a b
+    done_by : LoadsOpened DONE most s.place.layout (sum s.tally.counts) 0 s0 s1 a b
     done_by = record {
       status_is = inl (inl refl);
       run = runs (Ok done) b facts;
@@ -288,15 +288,18 @@ module _ (laws : Laws) (most : ℕ) (s : StoreView) (s0 s1 : SourceView) (layout
       too_long = λ e. absurd (omega (arith, e));
       cut = λ e. facts.none_before;
       admitted = λ told_s told zero_is text_rows text short calm_disk calm_script. refl;
-      written = λ e told. subst (λ (h : ℕ). b.travel.written ≤ a.travel.written + load_cost s.place.layout h) (sym (facts.loaded.1.represents b.held (inl (told_on (Ok done) b facts told, refl))).height_is) facts.cost;
+      written = λ e told.
+          let spent : b.travel.written ≤ a.travel.written + text_cost s.place.layout (height_of b.held) =
+          subst (λ (h : ℕ). b.travel.written ≤ a.travel.written + text_cost s.place.layout h) (sym (facts.loaded.1.represents b.held (inl (told_on (Ok done) b facts told, refl))).height_is) facts.cost in
+          omega (arith, spent);
       disk = λ e. absurd (omega (arith, e));
       script = λ e. absurd (omega (arith, e));
     }
 
   module _ (b d : View) where
     pub loaded_of : (r : Result Loaded LoadFault) → Facts most r s s0 s1 a b → Says (line_text (line_of_load r)) b d → (line_of_load r ≡ None → d ≡ b) → ((line : Reply) → line_of_load r ≡ Some line → SaidTold b → SaysLine line b.said b d)
-        → LoadsOpened (status_of_load r) most s.place.layout (sum s.tally.counts) s0 s1 a d
-    loaded_of (Ok done) facts says silent line = subst (LoadsOpened DONE most s.place.layout (sum s.tally.counts) s0 s1 a) (sym (silent refl)) (done_by done b facts)
+        → LoadsOpened (status_of_load r) most s.place.layout (sum s.tally.counts) 0 s0 s1 a d
+    loaded_of (Ok done) facts says silent line = subst (LoadsOpened DONE most s.place.layout (sum s.tally.counts) 0 s0 s1 a) (sym (silent refl)) (done_by done b facts)
     loaded_of (Err (load.NotEmpty n)) facts says silent line =
         refused_by (load.NotEmpty n) b facts d (reply.NotEmpty n) tt says (line (reply.NotEmpty n) refl) (λ told. inl (facts.fault.1, ap reply.NotEmpty facts.fault.0, facts.fault.2)) tt
         (λ told_s told none rows text short calm_disk calm_script. omega (arith, none, facts.fault.1))
@@ -313,16 +316,16 @@ module _ (laws : Laws) (most : ℕ) (s : StoreView) (s0 s1 : SourceView) (layout
         refused_by (load.Full n) b facts d (reply.LoadFull n) tt says (line (reply.LoadFull n) refl)
         (λ told. inr (inr (facts.fault.0, ap reply.LoadFull facts.fault.1.0, (λ told_s. laws.full_is s.place.layout.format (most_records s.place.layout) (raw_lines s0.left) small (facts.fault.1.1 told_s))))) tt
         (λ told_s told none rows text short calm_disk calm_script. outside (load.Full n) b facts told_s none rows text short)
-    loaded_of (Err load.Disk) facts says silent line = subst (LoadsOpened DISK_FAULT most s.place.layout (sum s.tally.counts) s0 s1 a) (sym (silent refl))
+    loaded_of (Err load.Disk) facts says silent line = subst (LoadsOpened DISK_FAULT most s.place.layout (sum s.tally.counts) 0 s0 s1 a) (sym (silent refl))
         (stopped_by load.Disk b facts DISK_FAULT (inl refl) (λ never. absurd (never refl)) (λ e. refl) (λ e. absurd (omega (arith, e))) (λ e. absurd (omega (arith, e))) (λ e. absurd (elim e [ inl x ↦ omega (arith, x) | inr x ↦ omega (arith, x) ]))
         (λ told_s told none rows text short calm_disk calm_script. calm_disk (facts.failed refl)))
     loaded_of (Err (load.Damaged segment why)) facts says silent line =
         refused_by (load.Damaged segment why) b facts d (reply.Damaged segment why) tt says (line (reply.Damaged segment why) refl) (λ told. absurd (facts.damaged told)) tt
         (λ told_s told none rows text short calm_disk calm_script. facts.damaged told)
-    loaded_of (Err load.Script) facts says silent line = subst (LoadsOpened SCRIPT_FAULT most s.place.layout (sum s.tally.counts) s0 s1 a) (sym (silent refl))
+    loaded_of (Err load.Script) facts says silent line = subst (LoadsOpened SCRIPT_FAULT most s.place.layout (sum s.tally.counts) 0 s0 s1 a) (sym (silent refl))
         (stopped_by load.Script b facts SCRIPT_FAULT (inr (inl refl)) (λ never. tt) (λ e. absurd (omega (arith, e))) (λ e. facts.fault.1) (λ e. absurd (omega (arith, e))) (λ e. facts.fault.0)
         (λ told_s told none rows text short calm_disk calm_script. calm_script facts.fault.1))
-    loaded_of (Err load.Spent) facts says silent line = subst (LoadsOpened TOO_LONG most s.place.layout (sum s.tally.counts) s0 s1 a) (sym (silent refl))
+    loaded_of (Err load.Spent) facts says silent line = subst (LoadsOpened TOO_LONG most s.place.layout (sum s.tally.counts) 0 s0 s1 a) (sym (silent refl))
         (stopped_by load.Spent b facts TOO_LONG (inr (inr refl)) (λ never. tt) (λ e. absurd (omega (arith, e))) (λ e. absurd (omega (arith, e))) (λ e told. (facts.fault.1 told).all) (λ e. facts.fault.0)
         (λ told_s told none rows text short calm_disk calm_script. outside load.Spent b facts told_s none rows text short))
 
@@ -340,7 +343,7 @@ each_opened : (a : View) {b : View} → Steps Reopens (attached_by false a) b �
 each_opened a {b} ab nothing = each_on (λ d. d ≡ a.held) (KeepsMeaning a.held) ab (only_held (attached_by false a) nothing) (λ d i same step. subst (λ (x : List ℕ). KeepsMeaning x i) same (keeps_opened step))
 
 -- what keeps the map, or has that of the text
-may_keep : (s : SourceView) {old new : List ℕ} → KeepsMeaning old new → MayLoad s old new
+pub may_keep : (s : SourceView) {old new : List ℕ} → KeepsMeaning old new → MayLoad s old new
 may_keep s keeps m here = inl (keeps m here)
 
 module _ (most : ℕ) (s : SourceView) (a b : View) (law : Lawful a) (ab : Steps Reopens (attached_by false a) b) (d : View) where
@@ -467,7 +470,7 @@ module _ (most : ℕ) (s0 s1 : SourceView) (a b : View) (law : Lawful a) (ab : S
     )
   ]
 
-  module _ (status : ℕ) (d : View) (loads : LoadsOpened status most v.place.layout (sum v.tally.counts) s0 s1 b d) where
+  module _ (status : ℕ) (d : View) (loads : LoadsOpened status most v.place.layout (sum v.tally.counts) (clear_cost v.place.layout) s0 s1 b d) where
     disk : status ≡ DISK_FAULT → Rose a.disk_faults d.disk_faults
     disk e = omega (arith, loads.disk e, ab.frame.disk_faults)
 
@@ -545,7 +548,7 @@ module _ (most : ℕ) (s0 s1 : SourceView) (a b : View) (law : Lawful a) (ab : S
         len_none = len-empty key_cmp Bytes
 
   -- what takes nothing from the source is a load into a store that has records
-  pub untaken_of : (status : ℕ) (d : View) → LoadsOpened status most v.place.layout (sum v.tally.counts) s0 s1 b d → TakesNothing (Some asked.Load) status a → 0 < sum v.tally.counts
+  pub untaken_of : (status : ℕ) (d : View) → LoadsOpened status most v.place.layout (sum v.tally.counts) (clear_cost v.place.layout) s0 s1 b d → TakesNothing (Some asked.Load) status a → 0 < sum v.tally.counts
   untaken_of status d loads none = elim none [
     | inl never ↦ absurd never
     | inr (inl e) ↦ absurd (no_memory e)

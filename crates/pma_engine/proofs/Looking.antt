@@ -6,11 +6,10 @@ use Rattle.station.specs.declared.travel.Travel.{Travel}
 use Rattle.line_source.specs.SourceView.{SourceView}
 use Rattle.header_gate.specs.Header.{clean_gate, layout_in}
 use Rattle.header_gate.specs.declared.layout.Layout.{Layout}
-use Rattle.header_gate.specs.declared.layout.TheConstants.{INDEXED}
 use Rattle.header_gate.proofs.Soundness.{none_of_sound}
 use Rattle.recovery.specs.declared.fault.OpenFault.{OpenFault}
 use Rattle.recovery.specs.declared.fault.OpenFault.TheVariants as opening
-use Rattle.index_file.specs.Clean.{IsClean, version_of}
+use Rattle.index_file.specs.Clean.{IsClean, IsIndexed, version_of}
 use Rattle.index_file.specs.Opening.{IsQuick}
 use Rattle.index_file.proofs.Kept.{even_of_bare}
 use Rattle.pma_store.specs.declared.store.Store.{Store}
@@ -21,10 +20,10 @@ use Rattle.pma_engine.specs.Serving.{AsksNothing}
 use Rattle.pma_engine.specs.declared.status.TheConstants.{DONE}
 
 -- a clean file with an odd clean gate may be opened by its index
-may_open : (image : List ℕ) → IsClean image → version_of image ≡ INDEXED → clean_gate image ≡ 1 → IsQuick image
+may_open : (image : List ℕ) → IsClean image → IsIndexed (version_of image) → clean_gate image ≡ 1 → IsQuick image
 may_open image clean version odd =
     let left = clean version odd in
-    record { sound = none_of_sound image left.represents.header; indexed = version; gate_even = even_of_bare (layout_in image) image (λ paired. omega (arith, version, paired)) left.bare; intent_even = left.intent_even; clean_odd = odd }
+    record { sound = none_of_sound image left.represents.header; indexed = version.0; gate_even = λ single. even_of_bare (layout_in image) image single left.bare; intent_even = left.intent_even; clean_odd = odd }
 
 -- it was not opened
 pub looks_unopened : {text : List ℕ} (a b d : View) (s : SourceView) (fault : OpenFault) (status : ℕ) → status ≡ status_of_opening fault → (Told a → IsClean a.held) → (Told a → IsQuick a.held → LooksByIndex {T = Store} (Err fault) (attached_by false a) b) → Says text b d → LooksQuickly status s a d

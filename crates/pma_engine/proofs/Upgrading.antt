@@ -39,14 +39,14 @@ use Rattle.segment.specs.declared.fault.StoreFault.TheVariants.{Failed, Damaged}
 use Rattle.command_text.specs.Reply.{reply_text}
 use Rattle.command_text.specs.declared.reply.Reply.{Reply}
 use Rattle.command_text.specs.declared.reply.Reply.TheVariants as reply
+use Rattle.pma_store.specs.Readying.{clear_cost}
 use Rattle.pma_store.specs.Store.{StoreView, IsOpenOn}
 use Rattle.pma_engine.specs.Closing.{IsButClosed, WritesGate}
 use Rattle.pma_engine.specs.Opening.{IsOpened, IsUnopened, Reopens, reopening_cost}
 use Rattle.pma_engine.specs.Refusing.{IsRefusal, SaysLine, line_text, line_of_opening, status_of_opening}
-use Rattle.pma_engine.specs.Upgrading.{IsUpgradeStatus, AnswersUpgrade, IsUpgradeRefused, IsUpgraded, KeepsMeaning, MayUpgrade, next_height, opened_height, UpgradesFile, UpgradesOpened, line_of_upgrade, status_of_upgrade, upgrade_cost}
+use Rattle.pma_engine.specs.Upgrading.{IsUpgradeStatus, AnswersUpgrade, IsUpgradeRefused, IsUpgraded, KeepsMeaning, MayUpgrade, next_height, opened_height, UpgradesFile, UpgradesOpened, line_of_upgrade, status_of_upgrade, upgrade_cost, widen_cost}
 use Rattle.pma_engine.specs.declared.status.TheConstants.{DONE, REFUSED, DISK_FAULT, OUT_OF_MEMORY}
 use Rattle.pma_engine.proofs.Meant.{opened_map}
-use Rattle.pma_engine.proofs.StoreLaws.{nothing_yet}
 
 -- what opens a file keeps its meaning
 pub keeps_opened : {old new : List ℕ} → Reopens old new → KeepsMeaning old new
@@ -56,10 +56,10 @@ pub keeps_on : {old middle new : List ℕ} → KeepsMeaning old middle → Keeps
 keeps_on {old} {middle} {new} first second m has = let mid = first m has in subst (λ (l : Layout). MeansMap l new m) mid.0 (second m (refl, mid.1))
 
 -- what keeps it may be an upgrade, and so what keeps it first
-may_upgrade : {old new : List ℕ} → KeepsMeaning old new → MayUpgrade old new
+pub may_upgrade : {old new : List ℕ} → KeepsMeaning old new → MayUpgrade old new
 may_upgrade keeps m has = inl (keeps m has)
 
-upgrades_on : {old middle new : List ℕ} → KeepsMeaning old middle → MayUpgrade middle new → MayUpgrade old new
+pub upgrades_on : {old middle new : List ℕ} → KeepsMeaning old middle → MayUpgrade middle new → MayUpgrade old new
 upgrades_on {old} {middle} {new} first second m has = let mid = first m has in subst (λ (l : Layout). MeansMap l new m ⊎ MeansMap (widened l) new m) mid.0 (second m (refl, mid.1))
 
 -- a file without an intent that is to be applied represents what it means
@@ -129,7 +129,7 @@ pub record Facts (r : Result Upgrade StoreFault) (s : StoreView) (place : Place)
   pub array : r ≡ Ok Done → Told a → array_of b.held ≡ resized (array_of a.held) (upgraded_height s.place.layout s.tally.height)
   pub stands : r ≡ Ok Done → EachHeld (StandsWith place.layout place.region (upgraded_height s.place.layout s.tally.height) (resized_counts s.tally.counts (upgraded_height s.place.layout s.tally.height))) b
   pub place_is : r ≡ Ok Done → place ≡ upgraded s.place
-  pub cost : b.travel.written ≤ a.travel.written + upgrade_cost s.place.layout s.tally.height
+  pub cost : b.travel.written ≤ a.travel.written + widen_cost s.place.layout s.tally.height
   pub damaged : IfErr r (λ fault. Told a → fault ≡ Failed)
   pub failed : IsErrOf r Failed → Rose a.disk_faults b.disk_faults
 
@@ -162,13 +162,13 @@ module _ (a : View) (s : StoreView) (opened : IsOpenOn s a) where
   pub none_left : (image : List ℕ) → Honest a → a.may_leave image → has_pending image ≡ false
   none_left image honest left = opened.no_intent image (inr (honest, left))
 
-  module _ (place : Place) (b d : View) where
+  module _ (nothing : NothingPending a) (place : Place) (b d : View) where
     -- a refusal
     refused_by : (r : Result Upgrade StoreFault) → Facts r s place a b → (line : Reply) → IsRefusal line → status_of_upgrade r ≡ REFUSED → {text : List ℕ} → Says text b d → (SaidTold b → SaysLine line b.said b d)
-        → (Told a → (b.held ≡ a.held) × (b.travel ≡ a.travel)) → (Told a → AnswersUpgrade s.place.layout s.place.region (sum s.tally.counts) line) → UpgradesOpened REFUSED s.place.layout s.tally.height a d
+        → (Told a → (b.held ≡ a.held) × (b.travel ≡ a.travel)) → (Told a → AnswersUpgrade s.place.layout s.place.region (sum s.tally.counts) line) → UpgradesOpened REFUSED s.place.layout s.tally.height 0 a d
     refused_by r facts line refuses is says whole same due = record {
       status_is = inr (inl refl);
-      run = run_said MayUpgrade (nothing_yet s opened.on) facts.steps (λ old new honest left step. keeps_upgraded (none_left old honest left) step) says;
+      run = run_said MayUpgrade nothing facts.steps (λ old new honest left step. keeps_upgraded (none_left old honest left) step) says;
       held = λ told. subst (MayUpgrade a.held) (sym says.held) (keeps_upgraded (none_told told) (facts.steps.held told));
       due = λ e. absurd (omega (arith, e));
       means = λ e. absurd (omega (arith, e));
@@ -188,10 +188,10 @@ module _ (a : View) (s : StoreView) (opened : IsOpenOn s a) where
         from told = said_since a b d line facts.steps.frame.said (sym facts.steps.frame.say_faults) (whole (ap (λ f. f.tells_said) facts.steps.frame.fixed ∙ told))
 
     -- a fault of the disk
-    failed_by : Facts (Err Failed) s place a b → UpgradesOpened DISK_FAULT s.place.layout s.tally.height a b
+    failed_by : Facts (Err Failed) s place a b → UpgradesOpened DISK_FAULT s.place.layout s.tally.height 0 a b
     failed_by facts = record {
       status_is = inr (inr refl);
-      run = run_of_steps (λ image said. MayUpgrade a.held image) facts.steps (λ honest start image left step. subst (λ (x : List ℕ). MayUpgrade x image) ((nothing_yet s opened.on) honest start left) (keeps_upgraded (none_left start honest left) step));
+      run = run_of_steps (λ image said. MayUpgrade a.held image) facts.steps (λ honest start image left step. subst (λ (x : List ℕ). MayUpgrade x image) (nothing honest start left) (keeps_upgraded (none_left start honest left) step));
       held = λ told. keeps_upgraded (none_told told) (facts.steps.held told);
       due = λ e. absurd (omega (arith, e));
       means = λ e. absurd (omega (arith, e));
@@ -203,15 +203,15 @@ module _ (a : View) (s : StoreView) (opened : IsOpenOn s a) where
       line = λ e. absurd (omega (arith, e));
       why = λ e. absurd (omega (arith, e));
       kept = λ e. absurd (omega (arith, e));
-      written = facts.cost;
+      written = omega (arith, facts.cost);
       disk = λ e. facts.failed refl;
     }
 
     -- an upgraded store
-    done_by : Facts (Ok Done) s place a b → UpgradesOpened DONE s.place.layout s.tally.height a b
+    done_by : Facts (Ok Done) s place a b → UpgradesOpened DONE s.place.layout s.tally.height 0 a b
     done_by facts = record {
       status_is = inl refl;
-      run = run_of_steps (λ image said. MayUpgrade a.held image) facts.steps (λ honest start image left step. subst (λ (x : List ℕ). MayUpgrade x image) ((nothing_yet s opened.on) honest start left) (keeps_upgraded (none_left start honest left) step));
+      run = run_of_steps (λ image said. MayUpgrade a.held image) facts.steps (λ honest start image left step. subst (λ (x : List ℕ). MayUpgrade x image) (nothing honest start left) (keeps_upgraded (none_left start honest left) step));
       held = λ told. keeps_upgraded (none_told told) (facts.steps.held told);
       due = λ e told copy line answers. not_due copy line (subst (λ (x : Type 0). x) (answer_is told copy line) answers);
       means = λ e told m here.
@@ -226,7 +226,7 @@ module _ (a : View) (s : StoreView) (opened : IsOpenOn s a) where
       line = λ e. absurd (omega (arith, e));
       why = λ e. absurd (omega (arith, e));
       kept = λ e. absurd (omega (arith, e));
-      written = facts.cost;
+      written = omega (arith, facts.cost);
       disk = λ e. absurd (omega (arith, e));
     }
       where
@@ -247,8 +247,8 @@ module _ (a : View) (s : StoreView) (opened : IsOpenOn s a) where
             cc
 
     upgraded_of : (r : Result Upgrade StoreFault) → Facts r s place a b → Says (line_text (line_of_upgrade s.place.region r)) b d → (line_of_upgrade s.place.region r ≡ None → d ≡ b)
-        → ((line : Reply) → line_of_upgrade s.place.region r ≡ Some line → SaidTold b → SaysLine line b.said b d) → UpgradesOpened (status_of_upgrade r) s.place.layout s.tally.height a d
-    upgraded_of (Ok Done) facts says silent line = subst (UpgradesOpened DONE s.place.layout s.tally.height a) (sym (silent refl)) (done_by facts)
+        → ((line : Reply) → line_of_upgrade s.place.region r ≡ Some line → SaidTold b → SaysLine line b.said b d) → UpgradesOpened (status_of_upgrade r) s.place.layout s.tally.height 0 a d
+    upgraded_of (Ok Done) facts says silent line = subst (UpgradesOpened DONE s.place.layout s.tally.height 0 a) (sym (silent refl)) (done_by facts)
     upgraded_of (Ok Already) facts says silent line =
         refused_by (Ok Already) facts (reply.NotStore (Format s.place.region wide)) tt refl says (line (reply.NotStore (Format s.place.region wide)) refl)
         (λ told. facts.untouched (λ e. cc)) (λ told. inl (facts.already.0 refl, refl))
@@ -260,7 +260,7 @@ module _ (a : View) (s : StoreView) (opened : IsOpenOn s a) where
         let is = (facts.too_many records).0 refl in
         refused_by (Ok (TooMany records)) facts (reply.TooMany records) tt refl says (line (reply.TooMany records) refl)
         (λ told. facts.untouched (λ e. cc)) (λ told. inr (inr (is.narrow_is, is.some, is.above, ap reply.TooMany is.number)))
-    upgraded_of (Err Failed) facts says silent line = subst (UpgradesOpened DISK_FAULT s.place.layout s.tally.height a) (sym (silent refl)) (failed_by facts)
+    upgraded_of (Err Failed) facts says silent line = subst (UpgradesOpened DISK_FAULT s.place.layout s.tally.height 0 a) (sym (silent refl)) (failed_by facts)
     upgraded_of (Err (Damaged segment why)) facts says silent line =
         refused_by (Err (Damaged segment why)) facts (reply.Damaged segment why) tt refl says (line (reply.Damaged segment why) refl)
         (λ told. absurd (never told)) (λ told. absurd (never told))
@@ -270,9 +270,9 @@ module _ (a : View) (s : StoreView) (opened : IsOpenOn s a) where
 
     -- what was ended by its own copy
     pub upgraded_from : (copy : ℕ) → copy ≡ s.place.region → (r : Result Upgrade StoreFault) → Facts r s place a b → Says (line_text (line_of_upgrade copy r)) b d → (line_of_upgrade copy r ≡ None → d ≡ b)
-        → ((line : Reply) → line_of_upgrade copy r ≡ Some line → SaidTold b → SaysLine line b.said b d) → UpgradesOpened (status_of_upgrade r) s.place.layout s.tally.height a d
+        → ((line : Reply) → line_of_upgrade copy r ≡ Some line → SaidTold b → SaysLine line b.said b d) → UpgradesOpened (status_of_upgrade r) s.place.layout s.tally.height 0 a d
     upgraded_from copy is r facts =
-        subst (λ (n : ℕ). Says (line_text (line_of_upgrade n r)) b d → (line_of_upgrade n r ≡ None → d ≡ b) → ((line : Reply) → line_of_upgrade n r ≡ Some line → SaidTold b → SaysLine line b.said b d) → UpgradesOpened (status_of_upgrade r) s.place.layout s.tally.height a d)
+        subst (λ (n : ℕ). Says (line_text (line_of_upgrade n r)) b d → (line_of_upgrade n r ≡ None → d ≡ b) → ((line : Reply) → line_of_upgrade n r ≡ Some line → SaidTold b → SaysLine line b.said b d) → UpgradesOpened (status_of_upgrade r) s.place.layout s.tally.height 0 a d)
         (sym is) (upgraded_of r facts)
 
 -- What the whole job comes to.
@@ -392,7 +392,7 @@ module _ (a b : View) (law : Lawful a) (ab : Steps Reopens (attached_by false a)
     answer_before : Told a → (copy : ℕ) (line : Reply) → AnswersUpgrade (layout_in b.held) copy (len (map_of b.held)) line → AnswersUpgrade (layout_in a.held) copy (len (meant_map a.held)) line
     answer_before told copy line = subst (λ (x : Type 0). x) (same_answer told copy line)
 
-    module _ (status : ℕ) (d : View) (upgrades : UpgradesOpened status v.place.layout v.tally.height b d) where
+    module _ (status : ℕ) (d : View) (upgrades : UpgradesOpened status v.place.layout v.tally.height (clear_cost v.place.layout) b d) where
       was_upgraded : status ≡ DONE → Told a → IsUpgraded a.held d.held
       was_upgraded e told = record {
         sound = opened.sound told;

@@ -1,5 +1,5 @@
 -- What the closing of an index changes of a file, what keeps one closed, and what the leaving of one comes to.
-use Rattle.std.specs.Prelude.{◌≡◌, ◌⊎◌, ℕ, ◌+◌, ◌*◌, ◌^◌, ◌≤◌, ◌==◌, if◌then◌else◌, List}
+use Rattle.std.specs.Prelude.{◌≡◌, ◌⊎◌, ℕ, ◌+◌, ◌*◌, ◌^◌, ◌≤◌, nat_le, if◌then◌else◌, List}
 use Rattle.station.specs.Bytes.{Touched}
 use Rattle.station.specs.Steps.{Steps, LeavesOnly}
 use Rattle.station.specs.View.{View, Told, EachHeld, NothingPending, Rose}
@@ -9,6 +9,8 @@ use Rattle.header_gate.specs.declared.layout.TheConstants.{INDEXED}
 use Rattle.recovery.specs.Restores.{LeavesFile}
 use Rattle.index_file.specs.Clean.{IsCleanPlace, IsLeft, IsOpenIndex, IsShut, Leaves}
 use Rattle.index_file.specs.Reading.{area_calls}
+use Rattle.pma_store.specs.Calling.{clear_calls}
+use Rattle.pma_store.specs.Readying.{clear_cost}
 use Rattle.pma_store.specs.Store.{StoreView}
 use Rattle.pma_engine.specs.declared.status.TheConstants.{DONE, DISK_FAULT}
 
@@ -34,23 +36,31 @@ pub record StaysShut (a b : View) : Type 0 where
   pub after : EachHeld IsShut a → EachHeld IsShut b
   pub moments : EachHeld IsShut a → LeavesOnly (λ image said. IsShut image) a b
 
--- at most so many bytes are written by the closing of an index: files of version 3 alone have one
+-- at most so many bytes are written by the closing of an index: files from version 3 on have one
 unfoldable pub closing_cost : Layout → ℕ
-closing_cost l = if l.version == INDEXED then 1 else 0
+closing_cost l = if nat_le INDEXED l.version then 1 else 0
 
 -- and by the leaving of one of this height
 unfoldable pub leaving_cost : Layout → ℕ → ℕ
-leaving_cost l height = if l.version == INDEXED then 68 * 2 ^ height + 1 else 0
+leaving_cost l height = if nat_le INDEXED l.version then 68 * 2 ^ height + 1 else 0
 
 -- the calls of the leaving: those of nodes and counts, and three
 unfoldable pub leaving_calls : Layout → ℕ → ℕ
-leaving_calls l height = if l.version == INDEXED then area_calls height + 3 else 0
+leaving_calls l height = if nat_le INDEXED l.version then area_calls height + 3 else 0
+
+-- and by the end of a run that answered its whole script, in a store of this height: before version 4 by the leaving alone
+abbrev pub ending_cost : Layout → ℕ → ℕ
+ending_cost l height = clear_cost l + leaving_cost l height
+
+-- with the calls
+abbrev pub ending_calls : Layout → ℕ → ℕ
+ending_calls l height = clear_calls l + leaving_calls l height
 
 -- The index of an open store was left in its file, or its file has none.
 pub record LeavesIndex (status : ℕ) (s : StoreView) (a b : View) : Type 0 where
   pub status_is : (status ≡ DONE) ⊎ (status ≡ DISK_FAULT)
   pub steps : Steps (Leaves s.place.layout) a b
-  pub left : status ≡ DONE → Told a → s.place.layout.version ≡ INDEXED → IsLeft b.held × (clean_gate b.held ≡ 1)
+  pub left : status ≡ DONE → Told a → INDEXED ≤ s.place.layout.version → IsLeft b.held × (clean_gate b.held ≡ 1)
   pub settled : status ≡ DONE → NothingPending b
   pub cost : b.travel.written ≤ a.travel.written + leaving_cost s.place.layout s.tally.height
   pub unread : b.travel.read ≡ a.travel.read

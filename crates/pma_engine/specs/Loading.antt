@@ -26,6 +26,7 @@ use Rattle.bulk_load.specs.declared.fault.Loaded.{Loaded}
 use Rattle.command_text.specs.declared.reply.Reply.{Reply}
 use Rattle.command_text.specs.declared.reply.Reply.TheVariants as reply
 use Rattle.pma_store.specs.Opens.{IsAllAtRest}
+use Rattle.pma_store.specs.Readying.{clear_cost}
 use Rattle.pma_engine.specs.Closing.{IsButClosed, WritesGate}
 use Rattle.pma_engine.specs.Opening.{IsOutOfMemory, reopening_cost}
 use Rattle.pma_engine.specs.Outcome.{IsRest, empty_map}
@@ -129,9 +130,13 @@ pub record IsLoadRefused (s0 s1 : SourceView) (a b : View) : Type 0 where
   pub bare : Told a → (r : Reason) → opening_reason a.held ≡ Some r → IsBare (layout_in a.held) a.held → IsButClosed a.held a.held b.held
   pub kept : Told a → IsAllAtRest a.held → 0 < len (meant_map a.held) → IsButClosed a.held a.held b.held × WritesGate a.held a.travel.written b.travel.written
 
--- at most so many bytes are written by a load behind the opening, into a file of this layout that then has this height
+-- at most so many bytes are written by the reading of a text into a file of this layout that then has this height
+abbrev pub text_cost : Layout → ℕ → ℕ
+text_cost l height = 2 * segment_size l * 2 ^ height + 9
+
+-- and by a load behind the opening: at version 4 with what leaves nothing pending before it
 abbrev pub load_cost : Layout → ℕ → ℕ
-load_cost l height = 2 * segment_size l * 2 ^ height + 9
+load_cost l height = clear_cost l + text_cost l height
 
 -- it ends for the source's sake: a read failed, or all bytes were taken that may be
 abbrev pub IsCutText : ℕ → Type 0
@@ -162,9 +167,9 @@ pub record LoadsFile (status most : ℕ) (s0 s1 : SourceView) (a b : View) : Typ
       (Rose a.disk_faults b.disk_faults → ⊥) → (SourceRose s0 s1 → ⊥) → (status ≡ DONE) ⊎ (status ≡ OUT_OF_MEMORY)
   pub written : status ≡ DONE → Told a → b.travel.written ≤ a.travel.written + (reopening_cost a.held + load_cost (layout_in a.held) (height_of b.held))
 
--- what a load into an open store of this layout with so many records came to, on whose station nothing is pending; its file has no
--- intent that is to be applied
-pub record LoadsOpened (status most : ℕ) (l : Layout) (records : ℕ) (s0 s1 : SourceView) (a b : View) : Type 0 where
+-- what a load into an open store of this layout with so many records came to, on whose station nothing is pending, where so many
+-- bytes may be written before the text is read; its file has no intent that is to be applied
+pub record LoadsOpened (status most : ℕ) (l : Layout) (records before : ℕ) (s0 s1 : SourceView) (a b : View) : Type 0 where
   pub status_is : IsRest status ⊎ ((status ≡ REFUSED) ⊎ (status ≡ DISK_FAULT))
   pub run : Run (λ image said. MayLoad s0 a.held image) a b
   pub held : Told a → MayLoad s0 a.held b.held
@@ -182,6 +187,6 @@ pub record LoadsOpened (status most : ℕ) (l : Layout) (records : ℕ) (s0 s1 :
   pub cut : IsCutText status → records ≡ 0
   pub admitted : SourceTold s0 → Told a → records ≡ 0 → (rows : List Record) → HasText l s0 rows → length s0.left < most →
       (Rose a.disk_faults b.disk_faults → ⊥) → (SourceRose s0 s1 → ⊥) → status ≡ DONE
-  pub written : status ≡ DONE → Told a → b.travel.written ≤ a.travel.written + load_cost l (height_of b.held)
+  pub written : status ≡ DONE → Told a → b.travel.written ≤ a.travel.written + (before + text_cost l (height_of b.held))
   pub disk : status ≡ DISK_FAULT → Rose a.disk_faults b.disk_faults
   pub script : status ≡ SCRIPT_FAULT → SourceRose s0 s1

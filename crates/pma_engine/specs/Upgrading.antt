@@ -24,6 +24,7 @@ use Rattle.resize_region.specs.declared.outcome.Upgrade.TheVariants.{Done, Alrea
 use Rattle.command_text.specs.declared.reply.Reply.{Reply}
 use Rattle.command_text.specs.declared.reply.Reply.TheVariants as reply
 use Rattle.pma_store.specs.Opens.{IsAllAtRest}
+use Rattle.pma_store.specs.Readying.{clear_cost}
 use Rattle.pma_engine.specs.Closing.{IsButClosed, WritesGate}
 use Rattle.pma_engine.specs.Opening.{IsOutOfMemory, reopening_cost}
 use Rattle.pma_engine.specs.Refusing.{IsRefusal, SaysLine}
@@ -105,9 +106,13 @@ pub record IsUpgradeRefused (a b : View) : Type 0 where
   pub copy : Told a → has_pending a.held ≡ false → live_copy b.held ≡ live_copy a.held
   pub kept : Told a → IsAllAtRest a.held → IsButClosed a.held a.held b.held × WritesGate a.held a.travel.written b.travel.written
 
--- at most so many bytes are written by the upgrade of a store of this layout and height: the other region's segments, and a flip
+-- at most so many bytes are written by the widening of a store of this layout and height: the other region's segments, and a flip
+abbrev pub widen_cost : Layout → ℕ → ℕ
+widen_cost l height = segment_size (widened l) * 2 ^ upgraded_height l height + 9
+
+-- and by the upgrade: at version 4 with what leaves nothing pending before it
 abbrev pub upgrade_cost : Layout → ℕ → ℕ
-upgrade_cost l height = segment_size (widened l) * 2 ^ upgraded_height l height + 9
+upgrade_cost l height = clear_cost l + widen_cost l height
 
 -- `upgrade`: no moment and no status changes the map, and none the layout but for the slot format
 pub record UpgradesFile (status : ℕ) (a b : View) : Type 0 where
@@ -126,8 +131,9 @@ pub record UpgradesFile (status : ℕ) (a b : View) : Type 0 where
       (status ≡ DONE) ⊎ ((status ≡ OUT_OF_MEMORY) ⊎ ((status ≡ REFUSED) × ((line : Reply) × IsUpgradeAnswer a.held b.held line)))
   pub written : Told a → b.travel.written ≤ a.travel.written + (reopening_cost a.held + upgrade_cost (layout_in a.held) (opened_height a.held))
 
--- what the upgrade of an open store came to, on whose station nothing is pending; its file has no intent that is to be applied
-pub record UpgradesOpened (status : ℕ) (l : Layout) (height : ℕ) (a b : View) : Type 0 where
+-- what the upgrade of an open store came to, on whose station nothing is pending, where so many bytes may be written before it is
+-- widened; its file has no intent that is to be applied
+pub record UpgradesOpened (status : ℕ) (l : Layout) (height before : ℕ) (a b : View) : Type 0 where
   pub status_is : (status ≡ DONE) ⊎ ((status ≡ REFUSED) ⊎ (status ≡ DISK_FAULT))
   pub run : Run (λ image said. MayUpgrade a.held image) a b
   pub held : Told a → MayUpgrade a.held b.held
@@ -141,5 +147,5 @@ pub record UpgradesOpened (status : ℕ) (l : Layout) (height : ℕ) (a b : View
   pub line : status ≡ REFUSED → SaidTold a → (line : Reply) × IsRefusal line × SaysLine line a.said a b
   pub why : status ≡ REFUSED → Told a → (line : Reply) × AnswersUpgrade (layout_in a.held) (live_copy b.held) (len (map_of a.held)) line × (SaidTold a → SaysLine line a.said a b)
   pub kept : status ≡ REFUSED → Told a → (b.held ≡ a.held) × (b.travel.written ≡ a.travel.written)
-  pub written : b.travel.written ≤ a.travel.written + upgrade_cost l height
+  pub written : b.travel.written ≤ a.travel.written + (before + widen_cost l height)
   pub disk : status ≡ DISK_FAULT → Rose a.disk_faults b.disk_faults

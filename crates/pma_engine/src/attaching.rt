@@ -5,20 +5,22 @@ ghost use Rattle.station.specs.Steps.{Says};
 ghost use Rattle.station.specs.View.{Told, SaidTold, EachHeld, NamedBy, attached_by};
 ghost use Rattle.header_gate.specs.Header.{layout_in};
 ghost use Rattle.header_gate.specs.Places.{file_length};
-ghost use Rattle.header_gate.specs.declared.layout.TheConstants.{INDEXED};
 ghost use Rattle.index_file.specs.Clean.{IsClean, IsOpenIndex};
 ghost use Rattle.index_file.specs.Opening.{IsQuick};
 ghost use Rattle.index_file.specs.Reading.{area_calls};
 ghost use Rattle.map_model.specs.Image.{height_of};
 ghost use Rattle.recovery.specs.Costs.{asked_opening, back_calls, opening_calls};
 ghost use Rattle.pma_store.specs.Opens.{CallsOpening, IsAllAtRest};
+ghost use Rattle.pma_store.specs.Store.{IsOpenOn};
+ghost use Rattle.redo_journal.specs.Rest.{RestsAt};
 ghost use Rattle.recovery.specs.Parts.{Fits, AgreesWith};
-ghost use Rattle.pma_engine.specs.Opening.{OpensStore, TakesParts};
+ghost use Rattle.pma_engine.specs.Opening.{OpensStore, SyncsOpened, TakesParts, sync_calls};
 ghost use Rattle.pma_engine.specs.Refusing.{SaysLine, line_text, line_of_opening, status_of_opening};
 
 use crate::refusing::say_refusal;
 use crate::status::{DISK_FAULT, OUT_OF_MEMORY, REFUSED};
 use command_text::Reply;
+use header_gate::PAIRED;
 use index_file::{close_clean, close_index, open_quick};
 use pma_store::Store;
 use recovery::{OpenFault, Parts};
@@ -27,7 +29,7 @@ use std::alloc::Global;
 
 /// Attaches the file of that name, and opens its store: by the index in the file where `quick` asks for it and one was left, and
 /// else by its live region. The index is closed before anything else is written, and the items of an intent that is to be applied
-/// are made.
+/// are made. Nothing is pending behind it.
 pub(crate) fn open_file<S: Station>(
     alloc: Global,
     station: &mut S,
@@ -68,8 +70,7 @@ fn open_parts<S: Station>(station: &mut S, parts: Parts) -> Result<Store, OpenFa
     requires fits { Fits parts.place parts.tally parts.index parts.frames.journal }
     requires none { parts.intent ≡ None }
     requires quick { Told (S.view station.old) → IsQuick (S.view station.old).held }
-    requires indexed { parts.place.layout.version ≡ INDEXED }
-    requires turn { parts.frames.turn ≡ 0 }
+    requires rests { RestsAt parts.place.layout parts.frames.turn (S.view station.old) }
     requires reach { file_length parts.place.layout ≤ (S.view station.old).fixed.reach }
     ensures takes { TakesParts parts result (S.view station.old) (S.view station.new) }
     ensures calls { (S.view station.new).calls ≤ (S.view station.old).calls + 2 }
@@ -80,17 +81,38 @@ fn open_parts<S: Station>(station: &mut S, parts: Parts) -> Result<Store, OpenFa
     }
 }
 
-// Closes the index, and opens the store by its live region.
+// Closes the index, and opens the store by its live region. Where the file has two journals, its last commit may have left pages
+// pending, so one sync more is made.
 fn open_by_region<S: Station>(alloc: Global, station: &mut S) -> Result<Store, OpenFault>
     ensures opens { OpensStore false result (S.view station.old) (S.view station.new) }
     ensures calls { Told (S.view station.old) → let old = (S.view station.old).held in
-        CallsOpening (4 + opening_calls (layout_in old) (height_of old)) (S.view station.old) (S.view station.new) }
-    ensures calls_asked { OnOk result (Told (S.view station.old) → CallsOpening (4 + asked_opening (S.view station.old).held) (S.view station.old) (S.view station.new)) }
-    ensures calls_at_rest { Told (S.view station.old) → IsAllAtRest (S.view station.old).held → (S.view station.new).calls ≤ (S.view station.old).calls + (4 + 3 + back_calls (S.view station.old).held) }
-    ensures calls_shut { Told (S.view station.old) → IsAllAtRest (S.view station.old).held → ¬ IsOpenIndex (S.view station.old).held → (S.view station.new).calls ≤ (S.view station.old).calls + (2 + 3 + back_calls (S.view station.old).held) }
+        CallsOpening (4 + opening_calls (layout_in old) (height_of old) + sync_calls (layout_in old)) (S.view station.old) (S.view station.new) }
+    ensures calls_asked { OnOk result (Told (S.view station.old) → CallsOpening (4 + asked_opening (S.view station.old).held + sync_calls (layout_in (S.view station.old).held)) (S.view station.old) (S.view station.new)) }
+    ensures calls_at_rest { Told (S.view station.old) → let old = (S.view station.old).held in
+        IsAllAtRest old → (S.view station.new).calls ≤ (S.view station.old).calls + (4 + 3 + back_calls old + sync_calls (layout_in old)) }
+    ensures calls_shut { Told (S.view station.old) → let old = (S.view station.old).held in
+        IsAllAtRest old → ¬ IsOpenIndex old → (S.view station.new).calls ≤ (S.view station.old).calls + (2 + 3 + back_calls old + sync_calls (layout_in old)) }
 {
     match close_index(station) {
-        Ok(()) => Store::open_on(alloc, station),
+        Ok(()) => match Store::open_on(alloc, station) {
+            Ok(store) => sync_opened(station, store),
+            Err(fault) => Err(fault),
+        },
+        Err(Failed) => Err(OpenFault::Failed),
+    }
+}
+
+// Settles what an opening left pending. In a file with one journal that is nothing.
+fn sync_opened<S: Station>(station: &mut S, store: Store) -> Result<Store, OpenFault>
+    requires open { IsOpenOn store (S.view station.old) }
+    ensures { SyncsOpened store result (S.view station.old) (S.view station.new) }
+{
+    let layout = store.layout();
+    if layout.version != PAIRED {
+        return Ok(store);
+    }
+    match station.sync() {
+        Ok(()) => Ok(store),
         Err(Failed) => Err(OpenFault::Failed),
     }
 }

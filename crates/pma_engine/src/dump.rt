@@ -1,7 +1,7 @@
 //! The job of saying all records of a store.
 
 ghost use Rattle.std.specs.Prelude.{◌≡◌, None, Some, false};
-ghost use Rattle.station.specs.View.{NamedBy, Rose};
+ghost use Rattle.station.specs.View.{NamedBy, NothingPending, Rose};
 ghost use Rattle.index_file.specs.Clean.{KeepsClean};
 ghost use Rattle.pma_store.specs.Store.{IsOpenOn};
 ghost use Rattle.pma_engine.specs.Dumping.{DumpsFile, DumpsOpened, IsDumpStatus};
@@ -41,6 +41,7 @@ pub(crate) fn dump_file<S: Station>(alloc: Global, station: &mut S, name: &str) 
 // Says all records of an open store.
 fn dump_opened<S: Station>(station: &mut S, store: Store) -> u8
     requires open { IsOpenOn store (S.view station.old) }
+    requires nothing { NothingPending (S.view station.old) }
     ensures { DumpsOpened result (S.view station.old) (S.view station.new) }
 {
     let parts = store.into_parts();

@@ -2,9 +2,11 @@
 
 ghost use Rattle.std.specs.Prelude.{◌≡◌, ◌<◌, None, Some, false, sum};
 ghost use Rattle.station.specs.Steps.{Says};
-ghost use Rattle.station.specs.View.{SaidTold, NamedBy, Rose};
+ghost use Rattle.station.specs.View.{Told, SaidTold, NamedBy, NothingPending, Rose};
 ghost use Rattle.line_source.specs.SourceView.{SourceRose, Went};
+ghost use Rattle.header_gate.specs.InPlace.{IsBare};
 ghost use Rattle.index_file.specs.Clean.{KeepsClean};
+ghost use Rattle.pma_store.specs.Readying.{clear_cost};
 ghost use Rattle.pma_store.specs.Store.{IsOpenOn};
 ghost use Rattle.pma_engine.specs.Closing.{StaysShut};
 ghost use Rattle.pma_engine.specs.Jobs.{TakesNothing};
@@ -51,7 +53,8 @@ pub(crate) fn load_file<I: Source, S: Station>(
     }
 }
 
-// Reads the text into an open store, and says the line where it isn't loaded.
+// Reads the text into an open store, and says the line where it isn't loaded. A store that has records is left as it is; in a file
+// with two journals the live one is cleared before any other.
 fn load_opened<I: Source, S: Station>(
     source: &mut I,
     station: &mut S,
@@ -59,7 +62,34 @@ fn load_opened<I: Source, S: Station>(
     most: u64,
 ) -> u8
     requires open { IsOpenOn store (S.view station.old) }
-    ensures loads { LoadsOpened result most store.place.layout (sum store.tally.counts) (I.view source.old) (I.view source.new) (S.view station.old) (S.view station.new) }
+    requires nothing { NothingPending (S.view station.old) }
+    ensures loads { LoadsOpened result most store.place.layout (sum store.tally.counts) (clear_cost store.place.layout) (I.view source.old) (I.view source.new) (S.view station.old) (S.view station.new) }
+    ensures shut { StaysShut (S.view station.old) (S.view station.new) }
+    ensures untaken { 0 < sum store.tally.counts → source.new ≡ source.old }
+    ensures went { Went (I.view source.old) (I.view source.new) }
+{
+    let records = store.records();
+    if records > 0 {
+        return end_loaded(station, Err(LoadFault::NotEmpty { records }));
+    }
+    let mut store = store;
+    match store.settle(station) {
+        Ok(()) => load_settled(source, station, store, most),
+        Err(_) => DISK_FAULT,
+    }
+}
+
+// Reads the text into an open store over whose live region no page is to be laid.
+fn load_settled<I: Source, S: Station>(
+    source: &mut I,
+    station: &mut S,
+    store: Store,
+    most: u64,
+) -> u8
+    requires open { IsOpenOn store (S.view station.old) }
+    requires nothing { NothingPending (S.view station.old) }
+    requires bare { Told (S.view station.old) → IsBare store.place.layout (S.view station.old).held }
+    ensures loads { LoadsOpened result most store.place.layout (sum store.tally.counts) 0 (I.view source.old) (I.view source.new) (S.view station.old) (S.view station.new) }
     ensures shut { StaysShut (S.view station.old) (S.view station.new) }
     ensures untaken { 0 < sum store.tally.counts → source.new ≡ source.old }
     ensures went { Went (I.view source.old) (I.view source.new) }

@@ -2,8 +2,10 @@
 
 ghost use Rattle.std.specs.Prelude.{◌≡◌, None, Some, false};
 ghost use Rattle.station.specs.Steps.{Says};
-ghost use Rattle.station.specs.View.{SaidTold, NamedBy, Rose};
+ghost use Rattle.station.specs.View.{Told, SaidTold, NamedBy, NothingPending, Rose};
+ghost use Rattle.header_gate.specs.InPlace.{IsBare};
 ghost use Rattle.index_file.specs.Clean.{KeepsClean};
+ghost use Rattle.pma_store.specs.Readying.{clear_cost};
 ghost use Rattle.pma_store.specs.Store.{IsOpenOn};
 ghost use Rattle.pma_engine.specs.Closing.{StaysShut};
 ghost use Rattle.pma_engine.specs.Refusing.{SaysLine, line_text};
@@ -15,7 +17,7 @@ use crate::status::{DISK_FAULT, DONE, REFUSED};
 use command_text::Reply;
 use header_gate::Reason;
 use pma_store::Store;
-use resize_region::{Upgrade, upgrade};
+use resize_region::{Upgrade, refusal, upgrade};
 use segment::StoreFault;
 use station::Station;
 use std::alloc::Global;
@@ -42,10 +44,33 @@ pub(crate) fn upgrade_file<S: Station>(alloc: Global, station: &mut S, name: &st
     }
 }
 
-// Upgrades an open store, and says the line where it isn't upgraded.
+// Upgrades an open store, and says the line where it isn't upgraded. A store that is refused is left as it is; in a file with two
+// journals the live one is cleared before any other is upgraded.
 fn upgrade_opened<S: Station>(station: &mut S, store: Store) -> u8
     requires open { IsOpenOn store (S.view station.old) }
-    ensures upgrades { UpgradesOpened result store.place.layout store.tally.height (S.view station.old) (S.view station.new) }
+    requires nothing { NothingPending (S.view station.old) }
+    ensures upgrades { UpgradesOpened result store.place.layout store.tally.height (clear_cost store.place.layout) (S.view station.old) (S.view station.new) }
+    ensures shut { StaysShut (S.view station.old) (S.view station.new) }
+{
+    let layout = store.layout();
+    let records = store.records();
+    if let Some(answer) = refusal(&layout, records) {
+        let parts = store.into_parts();
+        return end_upgraded(station, parts.place.region, Ok(answer));
+    }
+    let mut store = store;
+    match store.settle(station) {
+        Ok(()) => upgrade_settled(station, store),
+        Err(_) => DISK_FAULT,
+    }
+}
+
+// Upgrades an open store over whose live region no page is to be laid.
+fn upgrade_settled<S: Station>(station: &mut S, store: Store) -> u8
+    requires open { IsOpenOn store (S.view station.old) }
+    requires nothing { NothingPending (S.view station.old) }
+    requires bare { Told (S.view station.old) → IsBare store.place.layout (S.view station.old).held }
+    ensures upgrades { UpgradesOpened result store.place.layout store.tally.height 0 (S.view station.old) (S.view station.new) }
     ensures shut { StaysShut (S.view station.old) (S.view station.new) }
 {
     let mut parts = store.into_parts();

@@ -102,8 +102,8 @@ pub fn upgrade<S: Station>(
     }
 }
 
-// Why a store of so many records isn't upgraded, or None where it is.
-fn refusal(layout: &Layout, records: u32) -> Option<Upgrade>
+/// Why a store of this many records isn't upgraded, or None where it is.
+pub fn refusal(layout: &Layout, records: u32) -> Option<Upgrade>
     requires { IsLayout layout.now }
     ensures already { (result ≡ Some Upgrade.Already) ↔ (layout.now.format ≡ wide) }
     ensures one_segment { (result ≡ Some Upgrade.OneSegment) ↔ ((layout.now.format ≡ narrow) × (layout.now.hmax ≡ 0)) }

@@ -2,7 +2,7 @@
 //! call: what is left opens with none of their items or with all of them, and with all of them where a byte of the reply was
 //! said. Where a call failed, that opening is stopped at each of its calls too.
 
-use super::rows::{Part, answered};
+use super::rows::{Part, answered_by};
 use super::stops::{
     CALLS, Keys, PICKS, noted, range_reply, range_reply_behind, see_faults, see_opened,
 };
@@ -13,7 +13,7 @@ use std::test::Fail;
 
 // The height limit of a new store, a script on it, a batch, the keys before it, and after it some records and the keys behind
 // them.
-type Batch = (
+pub(super) type Batch = (
     &'static str,
     &'static [Part],
     &'static [u8],
@@ -22,7 +22,7 @@ type Batch = (
     Keys,
 );
 
-const ONE_SEGMENT: Batch = (
+pub(super) const ONE_SEGMENT: Batch = (
     "0",
     &[],
     b"batch put a 1 ; put b ; remove c\n",
@@ -32,7 +32,7 @@ const ONE_SEGMENT: Batch = (
 );
 
 // Behind the removal of the first record of a segment comes a new key of it, so the items are made one by one.
-const TAKES_FIRST: Batch = (
+pub(super) const TAKES_FIRST: Batch = (
     "2",
     &[Put(1, 65), Remove(1, 55)],
     b"batch put k066 ; remove k060 ; put k067\n",
@@ -42,7 +42,7 @@ const TAKES_FIRST: Batch = (
 );
 
 // The same keys in another order are one commit.
-const TAKES_FIRST_LAST: Batch = (
+pub(super) const TAKES_FIRST_LAST: Batch = (
     "2",
     &[Put(1, 65), Remove(1, 55)],
     b"batch put k067 ; put k066 ; remove k060\n",
@@ -51,7 +51,7 @@ const TAKES_FIRST_LAST: Batch = (
     (61, 67),
 );
 
-const GROWS: Batch = (
+pub(super) const GROWS: Batch = (
     "2",
     &[Put(1, 64)],
     b"batch put k065 ; remove k001 ; put k002 x ; remove zz\n",
@@ -60,7 +60,7 @@ const GROWS: Batch = (
     (3, 65),
 );
 
-const SPREADS: Batch = (
+pub(super) const SPREADS: Batch = (
     "2",
     &[Put(1, 96)],
     b"batch put k097 ; remove k001\n",
@@ -69,7 +69,7 @@ const SPREADS: Batch = (
     (2, 97),
 );
 
-const SHRINKS: Batch = (
+pub(super) const SHRINKS: Batch = (
     "2",
     &[Put(1, 65), Remove(1, 55)],
     b"batch remove k056 ; put a\n",
@@ -100,10 +100,16 @@ fn see_stops(
     Err("the session makes more calls".into())
 }
 
-// Sees what a fault or a stop at each call of a batch leaves.
-fn see_batch(rt: &impl Abort, alloc: Global, batch: &Batch, fails: bool) -> Result<(), Fail> {
+// Sees what a fault or a stop at each call of a batch leaves, on a store that a command makes.
+pub(super) fn see_batch(
+    rt: &impl Abort,
+    alloc: Global,
+    command: &str,
+    batch: &Batch,
+    fails: bool,
+) -> Result<(), Fail> {
     let (height, parts, line, before, records, after) = *batch;
-    let file = answered(rt, alloc, height, None, parts)?;
+    let file = answered_by(rt, alloc, command, height, None, parts)?;
     let before = range_reply(alloc, before)?;
     let after = range_reply_behind(alloc, records, after)?;
     let maps = (before.as_slice(), after.as_slice());
@@ -116,30 +122,30 @@ fn see_batch(rt: &impl Abort, alloc: Global, batch: &Batch, fails: bool) -> Resu
 
 #[test]
 fn a_failed_call_leaves_none_or_all(rt: HostRuntime) -> Result<(), Fail> {
-    see_batch(&rt, rt.alloc(), &ONE_SEGMENT, true)?;
-    see_batch(&rt, rt.alloc(), &SHRINKS, true)
+    see_batch(&rt, rt.alloc(), "create", &ONE_SEGMENT, true)?;
+    see_batch(&rt, rt.alloc(), "create", &SHRINKS, true)
 }
 
 #[test]
 fn a_failed_call_of_a_batch_that_takes_a_first_record(rt: HostRuntime) -> Result<(), Fail> {
-    see_batch(&rt, rt.alloc(), &TAKES_FIRST, true)?;
-    see_batch(&rt, rt.alloc(), &TAKES_FIRST_LAST, true)
+    see_batch(&rt, rt.alloc(), "create", &TAKES_FIRST, true)?;
+    see_batch(&rt, rt.alloc(), "create", &TAKES_FIRST_LAST, true)
 }
 
 #[test]
 fn a_failed_call_of_a_batch_that_grows(rt: HostRuntime) -> Result<(), Fail> {
-    see_batch(&rt, rt.alloc(), &GROWS, true)
+    see_batch(&rt, rt.alloc(), "create", &GROWS, true)
 }
 
 #[test]
 fn a_failed_call_of_a_batch_that_spreads(rt: HostRuntime) -> Result<(), Fail> {
-    see_batch(&rt, rt.alloc(), &SPREADS, true)
+    see_batch(&rt, rt.alloc(), "create", &SPREADS, true)
 }
 
 #[test]
 fn a_stop_leaves_none_or_all(rt: HostRuntime) -> Result<(), Fail> {
     for batch in [&ONE_SEGMENT, &GROWS, &SPREADS, &SHRINKS] {
-        see_batch(&rt, rt.alloc(), batch, false)?;
+        see_batch(&rt, rt.alloc(), "create", batch, false)?;
     }
     Ok(())
 }
@@ -147,7 +153,7 @@ fn a_stop_leaves_none_or_all(rt: HostRuntime) -> Result<(), Fail> {
 #[test]
 fn a_stop_of_a_batch_that_takes_a_first_record(rt: HostRuntime) -> Result<(), Fail> {
     for batch in [&TAKES_FIRST, &TAKES_FIRST_LAST] {
-        see_batch(&rt, rt.alloc(), batch, false)?;
+        see_batch(&rt, rt.alloc(), "create", batch, false)?;
     }
     Ok(())
 }

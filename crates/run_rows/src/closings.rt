@@ -5,7 +5,7 @@ ghost use Rattle.std.specs.Prelude.{◌≡◌, None, Some, codes, [], ◌∷◌}
 ghost use Rattle.pma_engine.specs.declared.words.Job.TheVariants.{Quick};
 ghost use Rattle.pma_engine.specs.Words.{job_of, made_by};
 
-use super::indexes::{left, made, see_both};
+use super::indexes::{COMMAND, left, made, see_both};
 use super::rows::{Part, answered, answered_on};
 use super::sessions::{Plan, SMOOTH, session_by};
 use super::stops::{CALLS, PICKS, noted_by, range_reply};
@@ -105,16 +105,27 @@ fn see_command(
     }
 }
 
-// The same of each command, with the keys from `k001` to `k065`.
-fn see_commands(rt: &impl Abort, alloc: Global, fails: bool) -> Result<(), Fail> {
+// The same of a dump of a store whose file has no room for an index, with the keys from `k001` to `k065`.
+fn see_plain_dump(rt: &impl Abort, alloc: Global, fails: bool) -> Result<(), Fail> {
     let map = range_reply(alloc, (1, 65))?;
     let map = map.as_slice();
     let plain = answered(rt, alloc, "2", None, &[Put(1, 65)])?;
-    see_command(rt, alloc, "dump", &plain, b"", (map, (map, map)), fails)?;
-    let file = left(rt, alloc)?;
+    see_command(rt, alloc, "dump", &plain, b"", (map, (map, map)), fails)
+}
+
+// The same of each command on a store with these keys that another one makes.
+pub(super) fn see_commands(
+    rt: &impl Abort,
+    alloc: Global,
+    maker: &str,
+    fails: bool,
+) -> Result<(), Fail> {
+    let map = range_reply(alloc, (1, 65))?;
+    let map = map.as_slice();
+    let file = left(rt, alloc, maker)?;
     see_command(rt, alloc, "dump", &file, b"", (map, (map, map)), fails)?;
     see_command(rt, alloc, "upgrade", &file, b"", (b"", (map, map)), fails)?;
-    let new = made(rt, alloc, "2")?;
+    let new = made(rt, alloc, maker, "2")?;
     let empty = answered_on(rt, alloc, &new, &[])?;
     see_command(
         rt,
@@ -129,10 +140,12 @@ fn see_commands(rt: &impl Abort, alloc: Global, fails: bool) -> Result<(), Fail>
 
 #[test]
 fn a_failed_call_of_a_word_that_closes_keeps_a_map(rt: HostRuntime) -> Result<(), Fail> {
-    see_commands(&rt, rt.alloc(), true)
+    see_plain_dump(&rt, rt.alloc(), true)?;
+    see_commands(&rt, rt.alloc(), COMMAND, true)
 }
 
 #[test]
 fn a_stop_at_any_call_of_a_word_that_closes_keeps_a_map(rt: HostRuntime) -> Result<(), Fail> {
-    see_commands(&rt, rt.alloc(), false)
+    see_plain_dump(&rt, rt.alloc(), false)?;
+    see_commands(&rt, rt.alloc(), COMMAND, false)
 }

@@ -19,21 +19,29 @@ const AREA: usize = 57344;
 
 const COUNTS: usize = 57600;
 
-// An empty store of this height limit, with room for an index.
-pub(super) fn made(rt: &impl Abort, alloc: Global, height: &str) -> Result<Vec<u8>, Fail> {
-    let (status, station) = created_by(alloc, "create-indexed", b"", height, None)?;
+// The command that makes a store with room for an index.
+pub(super) const COMMAND: &str = "create-indexed";
+
+// An empty store of this height limit, made by this command.
+pub(super) fn made(
+    rt: &impl Abort,
+    alloc: Global,
+    command: &str,
+    height: &str,
+) -> Result<Vec<u8>, Fail> {
+    let (status, station) = created_by(alloc, command, b"", height, None)?;
     assert_eq!(rt; status, 0);
     Ok(Vec::from_slice(alloc, station.held())?)
 }
 
-// A store of 65 records in two segments, whose index a run left.
-pub(super) fn left(rt: &impl Abort, alloc: Global) -> Result<Vec<u8>, Fail> {
-    let empty = made(rt, alloc, "2")?;
+// A store of 65 records in two segments, made by this command, whose index a run left.
+pub(super) fn left(rt: &impl Abort, alloc: Global, command: &str) -> Result<Vec<u8>, Fail> {
+    let empty = made(rt, alloc, command, "2")?;
     answered_on(rt, alloc, &empty, &[Put(1, 65)])
 }
 
 // Sees that a script is answered so by a quick run.
-fn see_quick(
+pub(super) fn see_quick(
     rt: &impl Abort,
     alloc: Global,
     file: &[u8],
@@ -49,7 +57,7 @@ fn see_quick(
 #[test]
 fn a_store_has_room_for_an_index(rt: HostRuntime) -> Result<(), Fail> {
     for (height, size) in [("0", 36864), ("2", 61440)] {
-        let file = made(&rt, rt.alloc(), height)?;
+        let file = made(&rt, rt.alloc(), COMMAND, height)?;
         assert_eq!(rt; file.len(), size);
         let script = b"put a 1\nput a 2\nget a\n";
         let said = b"stored\nreplaced\nfound 2\n".as_slice();
@@ -62,7 +70,7 @@ fn a_store_has_room_for_an_index(rt: HostRuntime) -> Result<(), Fail> {
 /// Node 0 has the fence of segment 1 and links to both segments, and behind the nodes stand the counts.
 #[test]
 fn a_run_leaves_the_index(rt: HostRuntime) -> Result<(), Fail> {
-    let file = left(&rt, rt.alloc())?;
+    let file = left(&rt, rt.alloc(), COMMAND)?;
     let node = [4, 0, 0, 0, 0, 0, 0, 0, b'k', b'0', b'3', b'3'];
     assert!(rt; file.get(AREA..AREA + 12) == Some(node.as_slice()));
     let links = [0, 0, 0, 128, 1, 0, 0, 128];
@@ -86,7 +94,7 @@ const READS: [Read; 4] = [(0xFE, 20481), (0xFF, 4168), (0, 20481), (1, 4168)];
 /// The low bit of the clean gate alone says whether the store is opened by its index; the replies are the same.
 #[test]
 fn the_clean_gate_chooses(rt: HostRuntime) -> Result<(), Fail> {
-    let file = left(&rt, rt.alloc())?;
+    let file = left(&rt, rt.alloc(), COMMAND)?;
     for (byte, bytes) in READS {
         let file = with_bytes(rt.alloc(), &file, &[(GATE, byte)])?;
         let station = see_quick(&rt, rt.alloc(), &file, b"", (0, b""))?;
@@ -112,7 +120,7 @@ const REFUSED: &[Refused] = &[
 /// shows it, and no byte is written. A run goes by the region, and leaves the index anew.
 #[test]
 fn an_index_is_refused(rt: HostRuntime) -> Result<(), Fail> {
-    let file = left(&rt, rt.alloc())?;
+    let file = left(&rt, rt.alloc(), COMMAND)?;
     for (changes, line) in REFUSED {
         let wrong = with_bytes(rt.alloc(), &file, changes)?;
         let station = see_quick(&rt, rt.alloc(), &wrong, b"get k001\n", (3, line))?;
@@ -213,24 +221,32 @@ fn see_quick_faults(
     Err("the quick run makes more calls".into())
 }
 
-/// A stop at any call of a closing, of what follows it and of a leaving.
-#[test]
-fn a_stop_at_any_call_leaves_a_right_index_or_none(rt: HostRuntime) -> Result<(), Fail> {
-    let file = left(&rt, rt.alloc())?;
+// A stop at any call of a closing, of what follows it and of a leaving, in a store that a command makes.
+pub(super) fn see_each_stop(rt: &impl Abort, alloc: Global, command: &str) -> Result<(), Fail> {
+    let file = left(rt, alloc, command)?;
     for line in &LINES {
-        see_stops(&rt, rt.alloc(), &file, line)?;
+        see_stops(rt, alloc, &file, line)?;
     }
     Ok(())
 }
 
-/// And each failing call of them, of a run and of a quick run.
-#[test]
-fn a_failed_call_leaves_a_right_index_or_none(rt: HostRuntime) -> Result<(), Fail> {
-    let file = left(&rt, rt.alloc())?;
+// And each failing call of them, of a run and of a quick run.
+pub(super) fn see_each_fault(rt: &impl Abort, alloc: Global, command: &str) -> Result<(), Fail> {
+    let file = left(rt, alloc, command)?;
     for line in &LINES {
-        see_faults(&rt, rt.alloc(), &file, line)?;
-        see_quick_faults(&rt, rt.alloc(), &file, line, false)?;
-        see_quick_faults(&rt, rt.alloc(), &file, line, true)?;
+        see_faults(rt, alloc, &file, line)?;
+        see_quick_faults(rt, alloc, &file, line, false)?;
+        see_quick_faults(rt, alloc, &file, line, true)?;
     }
     Ok(())
+}
+
+#[test]
+fn a_stop_at_any_call_leaves_a_right_index_or_none(rt: HostRuntime) -> Result<(), Fail> {
+    see_each_stop(&rt, rt.alloc(), COMMAND)
+}
+
+#[test]
+fn a_failed_call_leaves_a_right_index_or_none(rt: HostRuntime) -> Result<(), Fail> {
+    see_each_fault(&rt, rt.alloc(), COMMAND)
 }

@@ -26,6 +26,8 @@ mod load_stops;
 #[cfg(test)]
 mod loads;
 #[cfg(test)]
+mod paired;
+#[cfg(test)]
 mod refusals;
 #[cfg(test)]
 mod rows;

@@ -56,6 +56,9 @@ const USAGE: &[&[&str]] = &[
     &["create-indexed", "f"],
     &["create-indexed", "f", "17"],
     &["create-indexed", "f", "3", "9"],
+    &["create-paired", "f"],
+    &["create-paired", "f", "17"],
+    &["create-paired", "f", "3", "9"],
     &["check", "f"],
     &["gen", "1"],
     &["gen", "1000001", "1"],
@@ -112,7 +115,7 @@ type Refused = (
 const REFUSED: &[Refused] = &[
     ("0", &[], &[(3072, 0)], b"refused identity 3072\n"),
     ("0", &[], &[(3079, b'e')], b"refused identity 3072\n"),
-    ("0", &[], &[(3080, 4)], b"refused version 4\n"),
+    ("0", &[], &[(3080, 5)], b"refused version 5\n"),
     ("0", &[], &[(3084, 17)], b"refused height-limit 17\n"),
     ("0", &[], &[(3088, 3)], b"refused journal-size 3\n"),
     ("0", &[], &[(3088, 5)], b"refused journal-size 5\n"),

@@ -1,7 +1,7 @@
 //! Worked sessions: scripts on new stores of several heights, with their replies, and how many records their segments
 //! hold then.
 
-use super::sessions::{SMOOTH, created, push_key, see_session, session};
+use super::sessions::{SMOOTH, created_by, push_key, see_session, session};
 use station::Station;
 use std::alloc::Global;
 use std::process::Abort;
@@ -89,7 +89,19 @@ pub(super) fn answered(
     journal: Option<&str>,
     parts: &[Part],
 ) -> Result<Vec<u8>, Fail> {
-    let (made, empty) = created(alloc, height, journal)?;
+    answered_by(rt, alloc, "create", height, journal, parts)
+}
+
+// Sees the same on a new store that this command makes.
+pub(super) fn answered_by(
+    rt: &impl Abort,
+    alloc: Global,
+    command: &str,
+    height: &str,
+    journal: Option<&str>,
+    parts: &[Part],
+) -> Result<Vec<u8>, Fail> {
+    let (made, empty) = created_by(alloc, command, b"", height, journal)?;
     assert_eq!(rt; made, 0);
     answered_on(rt, alloc, empty.held(), parts)
 }

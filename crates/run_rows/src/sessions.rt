@@ -15,8 +15,8 @@ use std::alloc::Global;
 use std::process::Abort;
 use std::test::Fail;
 
-// The longest file of these tests, in bytes: sixteen segments and a journal of as many.
-pub(super) const LONGEST: usize = 204800;
+// The longest file of these tests, in bytes: two journals of sixteen segments, as many in each region, and an index.
+pub(super) const LONGEST: usize = 278528;
 
 // How a session goes: the room for replies, the calls of the station and of the source that fail, the first call from
 // which on each fails, and the most bytes of a script.
@@ -82,8 +82,13 @@ fn is_small(words: &[String]) -> bool
     ensures short { IsTrue result → (l : Layout) → made_by (job_of (map string_bytes words.now)) ≡ Some l → file_length l ≤ LONGEST }
 {
     match read_words(words) {
-        Some(Job::Create { height, journal }) => height <= 4 && journal <= 16,
-        Some(Job::CreateIndexed { height, journal }) => height <= 3 && journal <= 8,
+        Some(
+            Job::Create {
+                height,
+                journal,
+                ..
+            },
+        ) => height <= 4 && journal <= 16,
         Some(Job::Quick) => false,
         _ => true,
     }

@@ -5,7 +5,7 @@ ghost use Rattle.std.specs.Prelude.{◌≡◌, None, Some, codes, [], ◌∷◌}
 ghost use Rattle.pma_engine.specs.declared.words.Job.TheVariants.{Quick};
 ghost use Rattle.pma_engine.specs.Words.{job_of, made_by};
 
-use super::rows::{Part, REGION_0, answered, see_shares};
+use super::rows::{Part, REGION_0, answered_by, see_shares};
 use super::sessions::{LONGEST, Plan, SMOOTH, push_key, session, status_over, words_on_file};
 use super::updates::with_bytes;
 use Part::{Put, Remove};
@@ -24,7 +24,7 @@ pub(super) const PICKS: [Pick; 3] = [Pick::Settled, Pick::Held, Pick::Fill(0xA5)
 pub(super) type Keys = (u32, u32);
 
 // The height limit and the journal of a new store, a script on it, a line, and the keys before it and after it.
-type Update = (
+pub(super) type Update = (
     &'static str,
     Option<&'static str>,
     &'static [Part],
@@ -33,7 +33,7 @@ type Update = (
     Keys,
 );
 
-const UPDATES: [Update; 9] = [
+pub(super) const UPDATES: [Update; 9] = [
     ("0", None, &[], b"put k001\n", (1, 0), (1, 1)),
     ("0", None, &[Put(1, 3)], b"put k004\n", (1, 3), (1, 4)),
     // grows to height 1
@@ -184,8 +184,9 @@ pub(super) fn see_faults(
             return see_no_call_from(rt, alloc, file, line, call);
         }
         assert!(rt; status == 4 || status == 6);
-        if status == 6 || failed.held() != last.as_slice() {
-            see_opened_after_stops(rt, alloc, failed.held(), maps, status == 6)?;
+        let is_answered = status == 6 || !failed.said().is_empty();
+        if is_answered || failed.held() != last.as_slice() {
+            see_opened_after_stops(rt, alloc, failed.held(), maps, is_answered)?;
             last = Vec::from_slice(alloc, failed.held())?;
         }
     }
@@ -224,7 +225,8 @@ pub(super) fn noted(
     noted_by(rt, alloc, "run", file, script, SMOOTH)
 }
 
-// Sees what a crash behind so many calls leaves, with what is pending left in three ways.
+// Sees what a crash behind so many calls leaves, with what is pending left in three ways. An image like the last one, as where
+// nothing is pending, isn't opened again.
 pub(super) fn see_crash(
     rt: &impl Abort,
     alloc: Global,
@@ -234,9 +236,13 @@ pub(super) fn see_crash(
     is_answered: bool,
 ) -> Result<(), Fail> {
     assert!(rt; calls as usize <= station.noted());
+    let mut last = Vec::new(alloc);
     for pick in PICKS {
         let image = station.crash_image(alloc, calls, pick)?;
-        see_opened_after_stops(rt, alloc, &image, maps, is_answered)?;
+        if image.as_slice() != last.as_slice() {
+            see_opened_after_stops(rt, alloc, &image, maps, is_answered)?;
+            last = image;
+        }
     }
     Ok(())
 }
@@ -260,10 +266,16 @@ fn see_stops(
     Err("the session makes more calls".into())
 }
 
-// Sees what a fault or a stop at each call of an update leaves.
-fn see_update(rt: &impl Abort, alloc: Global, update: &Update, fails: bool) -> Result<(), Fail> {
+// Sees what a fault or a stop at each call of an update of a store that a command makes leaves.
+pub(super) fn see_update(
+    rt: &impl Abort,
+    alloc: Global,
+    command: &str,
+    update: &Update,
+    fails: bool,
+) -> Result<(), Fail> {
     let (height, journal, parts, line, before, after) = *update;
-    let file = answered(rt, alloc, height, journal, parts)?;
+    let file = answered_by(rt, alloc, command, height, journal, parts)?;
     see_update_of(rt, alloc, &file, line, (before, after), fails)
 }
 
@@ -290,7 +302,7 @@ pub(super) fn see_update_of(
 #[test]
 fn a_failed_call_keeps_what_was_answered(rt: HostRuntime) -> Result<(), Fail> {
     for update in &UPDATES {
-        see_update(&rt, rt.alloc(), update, true)?;
+        see_update(&rt, rt.alloc(), "create", update, true)?;
     }
     Ok(())
 }
@@ -298,7 +310,7 @@ fn a_failed_call_keeps_what_was_answered(rt: HostRuntime) -> Result<(), Fail> {
 #[test]
 fn a_stop_at_any_call_keeps_what_was_answered(rt: HostRuntime) -> Result<(), Fail> {
     for update in &UPDATES {
-        see_update(&rt, rt.alloc(), update, false)?;
+        see_update(&rt, rt.alloc(), "create", update, false)?;
     }
     Ok(())
 }
@@ -312,12 +324,32 @@ fn set_record(file: &mut [u8], place: usize, key: &[u8]) {
     }
 }
 
-// A slot format, the height limit with which a store of it may have height 2, a journal, and the place of region 0 then.
-pub(super) type Room = (u8, &'static str, Option<&'static str>, usize);
+// The command that makes a store, a slot format, the height limit with which a store of it may have height 2, a journal, and
+// the place of region 0 then.
+#[derive(Clone, Copy)]
+pub(super) struct Room {
+    pub(super) command: &'static str,
+    pub(super) format: u8,
+    pub(super) height: &'static str,
+    pub(super) journal: Option<&'static str>,
+    pub(super) region: usize,
+}
 
-const NARROW: Room = (1, "2", None, REGION_0);
+const NARROW: Room = Room {
+    command: "create",
+    format: 1,
+    height: "2",
+    journal: None,
+    region: REGION_0,
+};
 
-const WIDE: Room = (2, "3", None, 40960);
+pub(super) const WIDE: Room = Room {
+    command: "create",
+    format: 2,
+    height: "3",
+    journal: None,
+    region: 40960,
+};
 
 // A file of a slot format and height 2 whose segments hold these numbers of records, of ascending keys from `k001` on.
 pub(super) fn with_counts(
@@ -326,10 +358,11 @@ pub(super) fn with_counts(
     room: Room,
     counts: &[u32; 4],
 ) -> Result<Vec<u8>, Fail> {
-    let (format, height, journal, region) = room;
-    let size = usize::from(format);
-    let empty = answered(rt, alloc, height, journal, &[])?;
-    let mut file = with_bytes(alloc, &empty, &[(1024, 2), (1028, format)])?;
+    let region = room.region;
+    let size = usize::from(room.format);
+    let empty = answered_by(rt, alloc, room.command, room.height, room.journal, &[])?;
+    let changes = [(1024, 2), (1028, room.format), (704, 0)];
+    let mut file = with_bytes(alloc, &empty, &changes)?;
     let mut key = Vec::new(alloc);
     let mut number = 0u32;
     for (segment, count) in counts.iter().enumerate() {
@@ -367,14 +400,19 @@ fn an_opening_repairs(rt: HostRuntime) -> Result<(), Fail> {
     Ok(())
 }
 
+// Sees that an opening spreads the segments of the first row in a store of such room, also once it was stopped.
+pub(super) fn see_repair(rt: &impl Abort, alloc: Global, room: Room) -> Result<(), Fail> {
+    let (counts, _, total) = REPAIRS[0];
+    let file = with_counts(rt, alloc, room, &counts)?;
+    let map = range_reply(alloc, (1, total))?;
+    let opened = see_opened(rt, alloc, &file, (&map, &map), true)?;
+    assert!(rt; opened.held() != file.as_slice());
+    see_opened_after_stops(rt, alloc, &file, (&map, &map), true)?;
+    see_stops(rt, alloc, &file, b"", (&map, &map))
+}
+
 /// So they are in slot format 2.
 #[test]
 fn an_opening_repairs_in_format_2(rt: HostRuntime) -> Result<(), Fail> {
-    let (counts, _, total) = REPAIRS[0];
-    let file = with_counts(&rt, rt.alloc(), WIDE, &counts)?;
-    let map = range_reply(rt.alloc(), (1, total))?;
-    let opened = see_opened(&rt, rt.alloc(), &file, (&map, &map), true)?;
-    assert!(rt; opened.held() != file.as_slice());
-    see_opened_after_stops(&rt, rt.alloc(), &file, (&map, &map), true)?;
-    see_stops(&rt, rt.alloc(), &file, b"", (&map, &map))
+    see_repair(&rt, rt.alloc(), WIDE)
 }

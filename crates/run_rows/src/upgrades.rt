@@ -1,10 +1,11 @@
 //! Stores that go over to slot format 2: what is said of it, what they hold then, and what a stop or a fault within an upgrade
 //! leaves.
 
-use super::rows::{Part, answered, answered_on};
-use super::sessions::{Plan, SMOOTH, created, see_session, session_by};
+use super::rows::{Part, answered, answered_by, answered_on};
+use super::sessions::{Plan, SMOOTH, see_session, session_by};
 use super::stops::{
-    CALLS, PICKS, Room, noted_by, range_reply, see_opened, see_update_of, with_counts,
+    CALLS, PICKS, Room, WIDE as WIDE_ROOM, noted_by, range_reply, see_opened, see_update_of,
+    with_counts,
 };
 use super::updates::with_bytes;
 use Part::{Lines, Put, Remove};
@@ -131,9 +132,9 @@ fn no_store_goes_over(rt: HostRuntime) -> Result<(), Fail> {
     Ok(())
 }
 
-// A store of height limit 2 with the 65 keys from `k001` on.
-fn with_65(rt: &impl Abort, alloc: Global) -> Result<Vec<u8>, Fail> {
-    answered(rt, alloc, "2", None, &[Put(1, 65)])
+// A store of height limit 2, made by this command, with the 65 keys from `k001` on.
+fn with_65(rt: &impl Abort, alloc: Global, command: &str) -> Result<Vec<u8>, Fail> {
+    answered_by(rt, alloc, command, "2", None, &[Put(1, 65)])
 }
 
 // Sees that a file has the records of a range's reply, and that an upgrade of it ends well or finds it in format 2.
@@ -152,41 +153,51 @@ fn see_either(rt: &impl Abort, alloc: Global, file: &[u8], map: &[u8]) -> Result
     Ok(())
 }
 
-#[test]
-fn a_failed_call_of_an_upgrade_keeps_the_records(rt: HostRuntime) -> Result<(), Fail> {
-    let file = with_65(&rt, rt.alloc())?;
-    let map = range_reply(rt.alloc(), (1, 65))?;
+// Sees what the upgrade of a store that a command makes leaves with each call failing.
+pub(super) fn see_failed_calls(rt: &impl Abort, alloc: Global, command: &str) -> Result<(), Fail> {
+    let file = with_65(rt, alloc, command)?;
+    let map = range_reply(alloc, (1, 65))?;
     for call in 0..CALLS {
         let fail = [call];
         let plan = Plan {
             fail: &fail,
             ..SMOOTH
         };
-        let (status, failed) = upgraded(rt.alloc(), &file, plan)?;
+        let (status, failed) = upgraded(alloc, &file, plan)?;
         if status == 0 {
             return Ok(());
         }
         assert_eq!(rt; (status, failed.said()), (4, b"".as_slice()));
-        see_either(&rt, rt.alloc(), failed.held(), &map)?;
+        see_either(rt, alloc, failed.held(), &map)?;
     }
     Err("the upgrade makes more calls".into())
 }
 
-#[test]
-fn a_stop_at_any_call_of_an_upgrade_keeps_the_records(rt: HostRuntime) -> Result<(), Fail> {
-    let file = with_65(&rt, rt.alloc())?;
-    let map = range_reply(rt.alloc(), (1, 65))?;
-    let station = noted_by(&rt, rt.alloc(), "upgrade", &file, b"", NO_SCRIPT)?;
+// And what a stop at each of its calls leaves.
+pub(super) fn see_stops(rt: &impl Abort, alloc: Global, command: &str) -> Result<(), Fail> {
+    let file = with_65(rt, alloc, command)?;
+    let map = range_reply(alloc, (1, 65))?;
+    let station = noted_by(rt, alloc, "upgrade", &file, b"", NO_SCRIPT)?;
     for calls in 0..CALLS {
         if calls as usize > station.noted() {
             return Ok(());
         }
         for pick in PICKS {
-            let image = station.crash_image(rt.alloc(), calls, pick)?;
-            see_either(&rt, rt.alloc(), &image, &map)?;
+            let image = station.crash_image(alloc, calls, pick)?;
+            see_either(rt, alloc, &image, &map)?;
         }
     }
     Err("the upgrade makes more calls".into())
+}
+
+#[test]
+fn a_failed_call_of_an_upgrade_keeps_the_records(rt: HostRuntime) -> Result<(), Fail> {
+    see_failed_calls(&rt, rt.alloc(), "create")
+}
+
+#[test]
+fn a_stop_at_any_call_of_an_upgrade_keeps_the_records(rt: HostRuntime) -> Result<(), Fail> {
+    see_stops(&rt, rt.alloc(), "create")
 }
 
 // The file that an upgrade leaves which is stopped between the selector's write and its sync.
@@ -214,7 +225,7 @@ const SELECTORS: [(u8, &[u8]); 2] = [
 /// The selector is left either way.
 #[test]
 fn a_torn_selector_names_either_format(rt: HostRuntime) -> Result<(), Fail> {
-    let file = with_65(&rt, rt.alloc())?;
+    let file = with_65(&rt, rt.alloc(), "create")?;
     let map = range_reply(rt.alloc(), (1, 65))?;
     let stopped = stopped_at_selector(&rt, rt.alloc(), &file)?;
     for (selector, want) in &SELECTORS {
@@ -227,9 +238,9 @@ fn a_torn_selector_names_either_format(rt: HostRuntime) -> Result<(), Fail> {
 }
 
 // A script on a new store of height limit 2 that went over, a line, and the keys before it and after it.
-type Update = (&'static [Part], &'static [u8], (u32, u32), (u32, u32));
+pub(super) type Update = (&'static [Part], &'static [u8], (u32, u32), (u32, u32));
 
-const WIDE: [Update; 3] = [
+pub(super) const WIDE: [Update; 3] = [
     // grows to height 1
     (&[Put(1, 64)], b"put k065\n", (1, 64), (1, 65)),
     // spreads two segments
@@ -243,11 +254,17 @@ const WIDE: [Update; 3] = [
     ),
 ];
 
-// Sees what a fault or a stop at each call of an update of a store of format 2 leaves.
-fn see_wide(rt: &impl Abort, alloc: Global, update: &Update, fails: bool) -> Result<(), Fail> {
+// Sees what a fault or a stop at each call of an update leaves, of a store of format 2 that a command made.
+pub(super) fn see_wide(
+    rt: &impl Abort,
+    alloc: Global,
+    command: &str,
+    update: &Update,
+    fails: bool,
+) -> Result<(), Fail> {
     let (parts, line, before, after) = *update;
-    let (_, empty) = created(alloc, "2", None)?;
-    let wide = see_upgraded(rt, alloc, empty.held(), (0, b""))?;
+    let empty = answered_by(rt, alloc, command, "2", None, &[])?;
+    let wide = see_upgraded(rt, alloc, &empty, (0, b""))?;
     let file = answered_on(rt, alloc, &wide, parts)?;
     see_update_of(rt, alloc, &file, line, (before, after), fails)
 }
@@ -255,13 +272,20 @@ fn see_wide(rt: &impl Abort, alloc: Global, update: &Update, fails: bool) -> Res
 #[test]
 fn a_failed_call_keeps_what_was_answered_in_format_2(rt: HostRuntime) -> Result<(), Fail> {
     for update in &WIDE {
-        see_wide(&rt, rt.alloc(), update, true)?;
+        see_wide(&rt, rt.alloc(), "create", update, true)?;
     }
     Ok(())
 }
 
 // Files with a journal of two longer segments, and with one of four.
-const JOURNALS: [Room; 2] = [(2, "3", Some("4"), 24576), (2, "3", None, 40960)];
+const JOURNALS: [Room; 2] = [
+    Room {
+        journal: Some("4"),
+        region: 24576,
+        ..WIDE_ROOM
+    },
+    WIDE_ROOM,
+];
 
 /// A removal spreads four segments of few records, in several batches and in one.
 #[test]
@@ -277,7 +301,7 @@ fn a_failed_call_of_a_spread_in_format_2(rt: HostRuntime) -> Result<(), Fail> {
 #[test]
 fn a_stop_at_any_call_keeps_what_was_answered_in_format_2(rt: HostRuntime) -> Result<(), Fail> {
     for update in &WIDE {
-        see_wide(&rt, rt.alloc(), update, false)?;
+        see_wide(&rt, rt.alloc(), "create", update, false)?;
     }
     Ok(())
 }

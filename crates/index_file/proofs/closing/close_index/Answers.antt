@@ -1,4 +1,4 @@
-use Rattle.std.proofs.Common.{◌≡◌, ℕ, List, true, length, refl, sym, ap, ◌∙◌, arith}
+use Rattle.std.proofs.Common.{◌≡◌, ◌≤◌, ℕ, List, true, length, refl, ap, subst, arith}
 use Rattle.std.proofs.lemmas.Bool.Decides.{nat_tests}
 use Rattle.station.specs.Bytes.{Touched}
 use Rattle.station.specs.View.{Told}
@@ -24,10 +24,10 @@ close_clean-requires-clause-page g c told_b =
 odd : (g : _) (c : After-close_clean g) → Told (g.S.Station.view c.args.station.now) → clean_gate (g.S.Station.view c.args.station.now).held ≡ 1
 odd g c told = let is : c.in-Ok.header.clean ≡ true = grind (arith, nat_tests, c.is_open.ensures, c.if-is_open.true) in (c.in-Ok.ensures.header told).clean_is.0 is
 
-version : (g : _) (c : After-close_clean g) → Told (g.S.Station.view c.args.station.now) → version_of (g.S.Station.view c.args.station.now).held ≡ INDEXED
+version : (g : _) (c : After-close_clean g) → Told (g.S.Station.view c.args.station.now) → INDEXED ≤ version_of (g.S.Station.view c.args.station.now).held
 version g c told =
-    let is : c.in-Ok.header.layout.version ≡ INDEXED = grind (arith, nat_tests, c.is_open.ensures, c.if-is_open.true) in
-    ap (λ (l : Layout). l.version) (sym (c.in-Ok.ensures.header told).layout_is) ∙ is
+    let is : INDEXED ≤ c.in-Ok.header.layout.version = grind (arith, nat_tests, c.is_open.ensures, c.if-is_open.true) in
+    subst (λ (l : Layout). INDEXED ≤ l.version) (c.in-Ok.ensures.header told).layout_is is
 
 closes : (g : _) (c : After-close_clean g) → Steps (Touched IsCleanPlace) (g.S.Station.view c.args.station.now) (g.S.Station.view c.close_clean.new.station)
 closes g c = on_same c.read_header.ensures.steps c.close_clean.ensures.steps (λ d. record { size = refl; rest = λ k out. refl })

@@ -43,7 +43,7 @@ returns-clause-left g c =
     let same = c.sync.ensures.steps.held told_d in
     let steps = returns-clause-steps g c in
     let nodes = nodes_stay l c.height.result n.fences (g.S.Station.view c.write_nodes.new.station).held (g.S.Station.view c.write_counts.new.station).held (omega (arith, c.height.ensures.height, c.requires.leave.low)) (c.write_counts.ensures.steps.held told_b).rest (c.in_ok-write_nodes.ensures.written told) in
-    area_left l c.args.region c.height.result t n (g.S.Station.view c.args.station.now).held (g.S.Station.view c.sync.new.self).held (λ paired. omega (arith, paired, c.requires.leave.file.indexed)) (c.requires.leave.ready _ (inl (told, refl))) c.height.ensures.height c.requires.leave.index_height
+    area_left l c.args.region c.height.result t n (g.S.Station.view c.args.station.now).held (g.S.Station.view c.sync.new.self).held (c.requires.leave.ready _ (inl (told, refl))) c.height.ensures.height c.requires.leave.index_height
     (steps.held told)
     (subst (λ (f : List ℕ). AreNodesOf wide l c.height.result n.fences (2 ^ c.height.result - 1) f) (sym same) nodes)
     (subst (λ (f : List ℕ). AreCountsOf l t.counts (2 ^ t.height) f) (sym same) (c.in_ok-write_counts.ensures.written told_b)))

@@ -4,17 +4,22 @@ use Rattle.station.specs.View.{Told}
 use Rattle.station.proofs.Composition.{each_held, nothing_on, told_back}
 use Rattle.density_rule.specs.Marks.{no_marks}
 use Rattle.header_gate.specs.declared.layout.Layout.{Layout}
+use Rattle.header_gate.specs.declared.layout.TheConstants.{INDEXED}
+use Rattle.header_gate.specs.InPlace.{IsBare}
 use Rattle.header_gate.specs.declared.reason.Reason.{Reason}
 use Rattle.header_gate.specs.declared.reason.Reason.TheVariants.{Index}
 use Rattle.header_gate.specs.Header.{layout_in}
 use Rattle.header_gate.specs.Places.{file_length}
-use Rattle.recovery.specs.Parts.{AgreesWith}
+use Rattle.recovery.specs.Parts.{AreParts, AgreesWith, turn_of}
+use Rattle.redo_journal.specs.Frames.{Batch}
+use Rattle.redo_journal.specs.Replaying.{gate_after}
+use Rattle.redo_journal.specs.Rest.{RestsAt}
 use Rattle.redo_journal.specs.declared.place.Place.{Place}
 use Rattle.window_tally.specs.View.{TallyView}
 use Rattle.index_file.specs.Judging.{counts_read, area_reason}
 use Rattle.index_file.specs.Reading.{after_area, area_calls}
 use Rattle.index_file.specs.Writing.{AreNodesOf}
-use Rattle.index_file.proofs.QuickLaws.{quick_agrees, loaded_parts, loaded_marks}
+use Rattle.index_file.proofs.QuickLaws.{quick_agrees, quick_rests, loaded_parts, loaded_marks}
 use Rattle.index_file.proofs.SoundLaws.{left_sound}
 use Rattle.index_file.proofs.quick.load_parts.Goals as goal
 
@@ -25,7 +30,13 @@ returns-in-Ok-load_area-clause-opened g c =
     let kept = c.load_area.ensures.counts.kept in
     let next : c.load_area.new.tally.height ≡ c.in-Ok.parts.tally.height = ap (λ (t : TallyView). t.height) kept in
     let nothing = nothing_on (g.met.S.Station.lawful c.args.station.now) c.requires.known.nothing c.load_area.ensures.steps in
-    let fits = loaded_parts parts.place parts.tally c.load_area.new.tally parts.index c.load_area.new.index parts.frames.journal c.in-Ok.ensures.parts kept c.load_area.ensures.counts.is_tally c.load_area.ensures.fences.hmax c.load_area.ensures.fences.height c.in-Ok-load_area.ensures.balanced in
+    let after = c.set_turn.ensures.after in
+    let made : AreParts c.in-Ok.parts.place c.in-Ok.parts.tally c.in-Ok.parts.index c.set_turn.new.self.journal = subst (AreParts c.in-Ok.parts.place c.in-Ok.parts.tally c.in-Ok.parts.index) (sym (ap (λ (x : Batch). x.journal) after)) c.in-Ok.ensures.parts in
+    let turn : c.set_turn.new.self.turn ≡ gate_after c.args.header.now.layout (turn_of c.args.header.now.gate) = ap (λ (x : Batch). x.turn) after ∙ ap (gate_after c.args.header.now.layout) c.turn_said.ensures.said in
+    let rests = quick_rests c.args.header.now.layout c.args.header.now.gate (g.met.S.Station.lawful c.load_area.new.station) c.load_area.ensures.steps nothing (λ told.
+    let is = c.requires.known.header_is told in
+    record { bare = subst (λ (l : Layout). IsBare l (g.S.Station.view c.args.station.now).held) (sym is.layout_is) (c.requires.left told).bare; gate_is = is.gate_is }) in
+    let fits = loaded_parts parts.place parts.tally c.load_area.new.tally parts.index c.load_area.new.index c.set_turn.new.self.journal made kept c.load_area.ensures.counts.is_tally c.load_area.ensures.fences.hmax c.load_area.ensures.fences.height c.in-Ok-load_area.ensures.balanced in
     record {
       agrees = each_held (g.S.Station.view c.load_area.new.station) (AgreesWith c.in-Ok.parts.place c.load_area.new.tally c.load_area.new.index) (g.met.S.Station.lawful c.load_area.new.station) nothing (λ told_b.
           let told : Told (g.S.Station.view c.args.station.now) = told_back c.load_area.ensures.steps.frame told_b in
@@ -41,10 +52,10 @@ returns-in-Ok-load_area-clause-opened g c =
           subst (AgreesWith c.in-Ok.parts.place c.load_area.new.tally c.load_area.new.index) (sym (c.load_area.ensures.steps.held told)) own);
       fits = fits;
       reach = subst (λ (l : Layout). file_length l ≤ (g.S.Station.view c.args.station.now).fixed.reach) (sym layout) c.requires.known.reach;
-      indexed = ap (λ (l : Layout). l.version) layout ∙ c.requires.indexed;
+      indexed = subst (λ (l : Layout). INDEXED ≤ l.version) (sym layout) c.requires.indexed;
       unrested = loaded_marks parts.tally c.load_area.new.tally kept (ap (λ (t : TallyView). t.marks) c.in-Ok.ensures.tally ∙ ap (λ (t : TallyView). no_marks t.height) (sym c.in-Ok.ensures.tally));
       no_intent = c.in-Ok.ensures.intent;
-      turn = c.in-Ok.ensures.turn;
+      rests = subst (λ (l : Layout). RestsAt l c.set_turn.new.self.turn (g.S.Station.view c.load_area.new.station)) (sym layout) (subst (λ (t : ℕ). RestsAt c.args.header.now.layout t (g.S.Station.view c.load_area.new.station)) (sym turn) rests);
       travel = c.in-Ok-load_area.ensures.travel ∙ ap (λ (h : ℕ). after_area c.in-Ok.parts.place.layout h (g.S.Station.view c.args.station.now).travel) (sym next);
       calls = omega (arith, c.load_area.ensures.calls, ap area_calls next);
     }

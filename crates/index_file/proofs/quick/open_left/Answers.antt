@@ -1,4 +1,5 @@
-use Rattle.std.proofs.Common.{◌≡◌, true, sym, ap, ◌∙◌, arith}
+use Rattle.std.proofs.Common.{◌≡◌, ◌≤◌, true, subst, arith}
+use Rattle.header_gate.specs.declared.layout.TheConstants.{INDEXED}
 use Rattle.header_gate.specs.declared.layout.Layout.{Layout}
 use Rattle.index_file.specs.Opening.{is_quick}
 use Rattle.index_file.proofs.QuickLaws.{quick_header}
@@ -9,4 +10,4 @@ load_parts-requires-clause-left g c told =
     let may : is_quick c.args.header.now ≡ true = grind (arith, c.may_open.ensures, c.if-not-may_open.false) in
     let header = quick_header c.args.header.now may in
     let is = c.requires.known.header_is told in
-    c.requires.clean told (ap (λ (l : Layout). l.version) (sym is.layout_is) ∙ header.0) (is.clean_is.0 header.1)
+    c.requires.clean told (subst (λ (l : Layout). INDEXED ≤ l.version) is.layout_is header.0, (c.requires.known.sound told).version) (is.clean_is.0 header.1)

@@ -35,8 +35,8 @@ open_left-requires-clause-known g c =
 pub returns-in-Ok-read_header-clause-indexed : goal.returns-in-Ok-read_header-clause-indexed
 returns-in-Ok-read_header-clause-indexed g c = given_weaker c.open_left.result _ _ (λ parts is. is.indexed) c.open_left.ensures.opened
 
-pub returns-in-Ok-read_header-clause-turn : goal.returns-in-Ok-read_header-clause-turn
-returns-in-Ok-read_header-clause-turn g c = given_weaker c.open_left.result _ _ (λ parts is. is.turn) c.open_left.ensures.opened
+pub returns-in-Ok-read_header-clause-rests : goal.returns-in-Ok-read_header-clause-rests
+returns-in-Ok-read_header-clause-rests g c = given_weaker c.open_left.result _ _ (λ parts is. is.rests) c.open_left.ensures.opened
 
 pub returns-in-Ok-read_header-clause-settled : goal.returns-in-Ok-read_header-clause-settled
 returns-in-Ok-read_header-clause-settled g c =

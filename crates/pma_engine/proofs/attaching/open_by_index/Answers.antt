@@ -34,11 +34,8 @@ open_parts-requires-clause-quick g c told_q =
     let told = told_back c.open_quick.ensures.steps.frame told_q in
     subst IsQuick (sym (c.open_quick.ensures.steps.held told)) (given _ _ _ c.in-Ok-Some.field-0-is c.in-Ok-Some.ensures.quick told)
 
-pub open_parts-requires-clause-indexed : goal.open_parts-requires-clause-indexed
-open_parts-requires-clause-indexed g c = given _ _ _ c.in-Ok-Some.field-0-is c.in-Ok-Some.ensures.indexed
-
-pub open_parts-requires-clause-turn : goal.open_parts-requires-clause-turn
-open_parts-requires-clause-turn g c = given _ _ _ c.in-Ok-Some.field-0-is c.in-Ok-Some.ensures.turn
+pub open_parts-requires-clause-rests : goal.open_parts-requires-clause-rests
+open_parts-requires-clause-rests g c = given _ _ _ c.in-Ok-Some.field-0-is c.in-Ok-Some.ensures.rests
 
 pub open_parts-requires-clause-reach : goal.open_parts-requires-clause-reach
 open_parts-requires-clause-reach g c = omega (arith, given _ _ _ c.in-Ok-Some.field-0-is c.in-Ok-Some.ensures.reach, ap (λ (f : Fixed). f.reach) c.open_quick.ensures.steps.frame.fixed)

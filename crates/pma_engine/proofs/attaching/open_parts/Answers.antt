@@ -17,7 +17,8 @@ returns-in-Ok-clause-takes g c =
     let b = g.S.Station.view c.close_clean.new.station in
     record {
       store = c.from_parts.ensures.store;
-      on = subst (λ (s : StoreView). IsOpenOn s b) (sym c.from_parts.ensures.store) (opens_parts c.args.parts a b (g.met.S.Station.lawful c.close_clean.new.station) c.requires.agrees c.requires.quick c.requires.indexed c.requires.turn c.requires.reach closing.steps c.in-Ok.ensures.settled);
+      on = subst (λ (s : StoreView). IsOpenOn s b) (sym c.from_parts.ensures.store) (opens_parts c.args.parts a b (g.met.S.Station.lawful c.close_clean.new.station) c.requires.agrees c.requires.quick c.requires.rests c.requires.reach closing.steps c.in-Ok.ensures.settled);
+      settled = c.in-Ok.ensures.settled;
       steps = closing.steps;
       closed = c.in-Ok.ensures.closed;
       cost = closing.cost;
@@ -31,6 +32,7 @@ returns-in-Err-clause-takes g c =
     record {
       store = tt;
       on = tt;
+      settled = tt;
       steps = closing.steps;
       closed = tt;
       cost = closing.cost;

@@ -3,7 +3,6 @@ use Rattle.station.specs.View.{Fixed, Told}
 use Rattle.pma_engine.proofs.Dumping.{Comes, comes_opened, comes_unopened}
 use Rattle.pma_engine.proofs.Closing.{keeps_staying, stays_look}
 use Rattle.pma_engine.proofs.Opening.{clean_opened, clean_unopened}
-use Rattle.pma_engine.proofs.StoreLaws.{nothing_yet}
 use Rattle.pma_engine.proofs.dump.dump_file.Goals as goal
 
 pub returns-in-Err : goal.returns-in-Err
@@ -25,4 +24,7 @@ returns-in-Ok g c =
     let on : Told b → Told d = λ told. ap (λ (f : Fixed). f.tells_held) (c.dump_opened.ensures.looks.run.fixed) ∙ told in
     let comes : Comes c.dump_opened.result a d =
     comes_opened a b (g.met.S.Station.lawful c.args.station.now) c.open_file.ensures.steps c.in-Ok.store c.in-Ok.ensures.opened c.dump_opened.result d c.dump_opened.ensures in
-    record { status = comes.status_is; attached = comes.attached; clean = clean_opened a b d (g.met.S.Station.lawful c.args.station.now) law_b c.open_file.ensures.steps c.open_file.ensures.clean (nothing_yet c.in-Ok.store c.in-Ok.ensures.opened.store.on) (keeps_staying on c.in-Ok.ensures.opened.shut (stays_look law_b (g.met.S.Station.lawful c.dump_opened.new.station) c.dump_opened.ensures.looks)); dumped = comes.dumped; disk = comes.disk; reply = comes.reply }
+    record { status = comes.status_is; attached = comes.attached; clean = clean_opened a b d (g.met.S.Station.lawful c.args.station.now) law_b c.open_file.ensures.steps c.open_file.ensures.clean c.in-Ok.ensures.settled (keeps_staying on c.in-Ok.ensures.opened.shut (stays_look law_b (g.met.S.Station.lawful c.dump_opened.new.station) c.dump_opened.ensures.looks)); dumped = comes.dumped; disk = comes.disk; reply = comes.reply }
+
+pub dump_opened-requires-clause-nothing : goal.dump_opened-requires-clause-nothing
+dump_opened-requires-clause-nothing g c = c.in-Ok.ensures.settled

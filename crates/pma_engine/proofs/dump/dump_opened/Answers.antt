@@ -8,7 +8,6 @@ use Rattle.redo_journal.specs.declared.place.Place.{Place}
 use Rattle.pma_store.proofs.Resting.{readable_held}
 use Rattle.pma_engine.specs.Dumping.{DumpsOpened}
 use Rattle.pma_engine.proofs.Dumping.{dumped_of}
-use Rattle.pma_engine.proofs.StoreLaws.{nothing_yet}
 use Rattle.pma_engine.proofs.dump.dump_opened.Goals as goal
 use Rattle.pma_engine.proofs.dump.dump_opened.Goals.{After-sweep_all-sweep}
 
@@ -37,6 +36,6 @@ returns g c =
     let b = g.S.Station.view c.say_sweep-said.new.station in
     let d = g.S.Station.view c.end_served.new.station in
     subst (λ n. DumpsOpened n a d) (sym c.end_served.ensures.status)
-    (dumped_of c.sweep_all-sweep.result c.say_sweep-said.new.sweep a b (g.met.S.Station.lawful c.args.station.now) (g.met.S.Station.lawful c.say_sweep-said.new.station) (nothing_yet c.args.store c.requires.open.on)
+    (dumped_of c.sweep_all-sweep.result c.say_sweep-said.new.sweep a b (g.met.S.Station.lawful c.args.station.now) (g.met.S.Station.lawful c.say_sweep-said.new.station) c.requires.nothing
     (λ told. c.sweep_all-sweep.ensures.all a.held (stands_by g here told)) c.say_sweep-said.result c.say_sweep-said.ensures d c.end_served.ensures.says
     (λ none. ap g.S.Station.view (c.end_served.ensures.silent none)) c.end_served.ensures.line)

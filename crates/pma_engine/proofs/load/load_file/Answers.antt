@@ -3,7 +3,6 @@ use Rattle.station.specs.View.{Fixed, Told}
 use Rattle.pma_engine.proofs.Loading.{Comes, comes_opened, comes_unopened, untaken_of}
 use Rattle.pma_engine.proofs.Closing.{keeps_staying}
 use Rattle.pma_engine.proofs.Opening.{clean_opened, clean_unopened}
-use Rattle.pma_engine.proofs.StoreLaws.{nothing_yet}
 use Rattle.pma_engine.proofs.load.load_file.Goals as goal
 
 pub returns-in-Err : goal.returns-in-Err
@@ -41,10 +40,13 @@ returns-in-Ok g c =
     record {
       status = comes.status_is;
       attached = comes.attached;
-      clean = clean_opened a b d (g.met.S.Station.lawful c.args.station.now) law_b c.open_file.ensures.steps c.open_file.ensures.clean (nothing_yet c.in-Ok.store c.in-Ok.ensures.opened.store.on) (keeps_staying on c.in-Ok.ensures.opened.shut (c.load_opened.ensures.shut));
+      clean = clean_opened a b d (g.met.S.Station.lawful c.args.station.now) law_b c.open_file.ensures.steps c.open_file.ensures.clean c.in-Ok.ensures.settled (keeps_staying on c.in-Ok.ensures.opened.shut (c.load_opened.ensures.shut));
       loaded = comes.loaded;
       untaken = λ none. c.load_opened.ensures.untaken (untaken_of c.args.most s0 s1 a b law c.open_file.ensures.steps c.in-Ok.store c.in-Ok.ensures.opened c.load_opened.result d c.load_opened.ensures.loads none);
       disk = comes.disk;
       script = comes.script;
       went = c.load_opened.ensures.went;
     }
+
+pub load_opened-requires-clause-nothing : goal.load_opened-requires-clause-nothing
+load_opened-requires-clause-nothing g c = c.in-Ok.ensures.settled

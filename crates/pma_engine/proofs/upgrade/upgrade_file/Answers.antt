@@ -3,7 +3,6 @@ use Rattle.station.specs.View.{Fixed, Told}
 use Rattle.pma_engine.proofs.Upgrading.{Comes, comes_opened, comes_unopened}
 use Rattle.pma_engine.proofs.Closing.{keeps_staying}
 use Rattle.pma_engine.proofs.Opening.{clean_opened, clean_unopened}
-use Rattle.pma_engine.proofs.StoreLaws.{nothing_yet}
 use Rattle.pma_engine.proofs.upgrade.upgrade_file.Goals as goal
 
 pub returns-in-Err : goal.returns-in-Err
@@ -25,4 +24,7 @@ returns-in-Ok g c =
     let on : Told b → Told d = λ told. ap (λ (f : Fixed). f.tells_held) (c.upgrade_opened.ensures.upgrades.run.fixed) ∙ told in
     let comes : Comes c.upgrade_opened.result a d =
     comes_opened a b (g.met.S.Station.lawful c.args.station.now) c.open_file.ensures.steps c.in-Ok.store c.in-Ok.ensures.opened c.upgrade_opened.result d c.upgrade_opened.ensures.upgrades in
-    record { status = comes.status_is; attached = comes.attached; clean = clean_opened a b d (g.met.S.Station.lawful c.args.station.now) law_b c.open_file.ensures.steps c.open_file.ensures.clean (nothing_yet c.in-Ok.store c.in-Ok.ensures.opened.store.on) (keeps_staying on c.in-Ok.ensures.opened.shut (c.upgrade_opened.ensures.shut)); upgraded = comes.upgraded; disk = comes.disk }
+    record { status = comes.status_is; attached = comes.attached; clean = clean_opened a b d (g.met.S.Station.lawful c.args.station.now) law_b c.open_file.ensures.steps c.open_file.ensures.clean c.in-Ok.ensures.settled (keeps_staying on c.in-Ok.ensures.opened.shut (c.upgrade_opened.ensures.shut)); upgraded = comes.upgraded; disk = comes.disk }
+
+pub upgrade_opened-requires-clause-nothing : goal.upgrade_opened-requires-clause-nothing
+upgrade_opened-requires-clause-nothing g c = c.in-Ok.ensures.settled
