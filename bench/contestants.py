@@ -44,7 +44,7 @@ def build():
 
 
 def known(program, folder):
-    """Which of the words that came later this program knows: cursors, prev and quick."""
+    """Which of the words that came later this program knows: cursors, prev, quick and create-paired."""
     file, found = str(folder / "probe"), set()
     subprocess.run([program, "create", file, "0"], check=True)
     done = subprocess.run([program, "run", file], input=b"open c * *\nprev c\n", stdout=subprocess.PIPE, check=True)
@@ -58,13 +58,16 @@ def known(program, folder):
         if subprocess.run([program, "quick", file], stdin=nothing, stdout=nothing).returncode == 0:
             found.add("quick")
         os.unlink(file)
+    if subprocess.run([program, "create-paired", file, "0"], stdout=nothing).returncode == 0:
+        found.add("create-paired")
+        os.unlink(file)
     return found
 
 
 class Contestant:
-    def __init__(self, name, command, file, settings, height=None, journal=None):
+    def __init__(self, name, command, file, settings, height=None, journal=None, maker="create"):
         self.name, self.words, self.file, self.settings = name, command, pathlib.Path(file), settings
-        self.height, self.journal = height, journal
+        self.height, self.journal, self.maker = height, journal, maker
         self.indexed = self.file.with_name(name + "-indexed")
         self.text = {"lmdb": "lmdb", "nothing": "nothing"}.get(name, "records")  # the form of its load text
 
@@ -84,12 +87,14 @@ class Contestant:
             return tool and [tool, "-n", file]
         return [self.words[0], file, *(self.words[1:] or [""]), word]
 
-    def make(self, file=None, word="create"):
+    def make(self, file=None, indexed=False):
+        """Makes the store anew; with `indexed` one whose file has room for an index in any case."""
         file = pathlib.Path(file or self.file)
         self.clear(file)
         if self.height is not None:
             journal = [] if self.journal is None else [str(self.journal)]
-            subprocess.run([self.words[0], word, str(file), str(self.height), *journal], check=True)
+            maker = "create-indexed" if indexed and self.maker == "create" else self.maker
+            subprocess.run([self.words[0], maker, str(file), str(self.height), *journal], check=True)
 
     def files(self, file=None):
         file = pathlib.Path(file or self.file)
@@ -127,18 +132,20 @@ def height_for(records):
     raise Missing(f"no store holds {records} records")
 
 
-def contestants(there, program, workloads, folder):
+def contestants(there, program, words, workloads, folder):
     records, most = workloads.records, workloads.most_records()
     height, cache = height_for(most), max(16, most * 160 >> 20)
     large = records >= CACHE_FROM
     found = []
 
-    def add(name, words, settings, height=None, journal=None):
-        found.append(Contestant(name, words, folder / name, settings, height, journal))
+    def add(name, command, settings, height=None, journal=None, maker="create"):
+        found.append(Contestant(name, command, folder / name, settings, height, journal, maker))
 
     add("pma", [program], f"HEIGHT {height}, default JOURNAL", height)
     if 2**height > 1024:
         add("pma-1024", [program], f"HEIGHT {height}, JOURNAL 1024", height, 1024)
+    if "create-paired" in words:
+        add("pma-paired", [program], f"HEIGHT {height}, two journals, default JOURNAL", height, maker="create-paired")
     if "sqlite" in there:
         driver = str(OUT / "sqlite")
         table = "prepared statements, `WITHOUT ROWID`, `synchronous=FULL`, a load in one transaction, journal mode "

@@ -9,7 +9,8 @@ MEMORY, QUICK_MEMORY = "memory of open, one get", "memory of open, one get by qu
 BULK = ["bulk, load", "bulk, dump"]
 WORKLOADS = [*UPDATES, *READS, "half and half", "mostly scans", *BULK, OPEN, QUICK]
 CONTESTANTS = [
-    "pma", "pma-1024", "sqlite-delete", "sqlite-wal", "sqlite-wal-cache", "lmdb", "leveldb", "leveldb-cache", "nothing",
+    "pma", "pma-1024", "pma-paired", "sqlite-delete", "sqlite-wal", "sqlite-wal-cache", "lmdb", "leveldb", "leveldb-cache",
+    "nothing",
 ]
 TABLES = ["times", "pauses", "sizes", "puts", "charges", "blocks", "contestants", "setup"]
 

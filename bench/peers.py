@@ -42,7 +42,7 @@ class Run:
         self.folder = folder / str(records)
         self.folder.mkdir()
         self.bench = Bench(self.folder)
-        self.all = contestants(there, program, self.work, self.folder)
+        self.all = contestants(there, program, words, self.work, self.folder)
         self.stores = [c for c in self.all if c.name != "nothing"]
         self.loaders = [c for c in self.all if c.bulk("load") and c.bulk("dump")]
         self.words = words
@@ -114,7 +114,7 @@ class Run:
         """Stores of the same records with an index in the file, which a run has left; they must answer as those without."""
         lines = [b"range * *\n", *(b"get %s\n" % k for k in self.work.keys[:1000])]
         for one in self.indexed:
-            one.make(one.indexed, "create-indexed")
+            one.make(one.indexed, indexed=True)
             self.bench.run(one.command(one.indexed, "load"), of=self.text(one))
             self.bench.run(one.command(one.indexed), of=os.devnull)
             self.same("quick", lines, {one.name: one.command(), f"{one.name}-quick": one.command(one.indexed, "quick")})
@@ -307,7 +307,8 @@ def measured(arguments, there, folder, disk):
     if not can_trace:
         print("left out: bytes and syncs, since strace isn't there (Debian: strace)")
     words = known(arguments.program, folder)
-    for word, what in (("cursors", "cursor"), ("prev", "cursor back"), ("quick", "open, one get by quick")):
+    for word, what in (("cursors", "cursor"), ("prev", "cursor back"), ("quick", "open, one get by quick"),
+                       ("create-paired", "the store with two journals")):
         if word not in words:
             print(f"left out: {what}, since this program doesn't know {word}")
     for tool in ("mdb_load", "mdb_dump"):

@@ -8,6 +8,7 @@ from numbers_of_runs import BATCH, READS, by_contestant, number, unit, where
 COLOURS = {
     "pma": "#b5302a",
     "pma-1024": "#e08a5f",
+    "pma-paired": "#f0c040",
     "sqlite-delete": "#1f4e79",
     "sqlite-wal": "#3f7fbf",
     "sqlite-wal-cache": "#9cc3e6",

@@ -35,7 +35,9 @@ printf '%-30s %7s s %10s s\n' 'range * *' "$(least "$folder/scan" scan)" "$(leas
 printf '%-30s %7s s %10s s\n' 'cat of the file' "$(least "$folder/scan" cat "$folder/many.pma")" "$(least /dev/null cat "$folder/many.pma")"
 rm -f "$folder/scan"
 
-store=$folder/store.pma many=$folder/many.pma script=$folder/script
+store=$folder/store.pma many=$folder/many.pma pair=$folder/pair.pma script=$folder/script
+"$program" create-paired "$pair" 6
+seq -f 'put key-%02.0f value-of-some-bytes' 1 99 | "$program" run "$pair" >/dev/null
 
 # The instructions that the program executes on a store and the script.
 instructions() {
@@ -87,6 +89,9 @@ if command -v strace >/dev/null; then
     count 'system calls' now before
     count 'get of a present key' "$(each "$(many_of 'get key-07')" calls "$store" all)" 2
     count 'put of a present key' "$(each "$(many_of 'put key-07 value-of-some-bytes')" calls "$store" all)" 11
+    count 'the same, two journals' "$(each "$(many_of 'put key-07 value-of-some-bytes')" calls "$pair" all)" -
+    count 'its syncs' "$(each "$(many_of 'put key-07 value-of-some-bytes')" calls "$store" fdatasync)" 4
+    count 'its syncs, two journals' "$(each "$(many_of 'put key-07 value-of-some-bytes')" calls "$pair" fdatasync)" -
     count 'range of 100, 30 records a segment' "$(each "$folder/hundreds" calls "$many" all)" 10
     count "reads of a scan of $records" "$(each "$folder/all" calls "$many" pread64)" 32768
     count 'its writes' "$(each "$folder/all" calls "$many" write)" 32768

@@ -326,6 +326,13 @@ if command -v strace >/dev/null; then
         'flock s;fdatasync s;pwrite64 s;pwrite64 s;fdatasync s;pwrite64 s;fdatasync s;pwrite64 s;fdatasync s;pwrite64 s;fdatasync s;write said;' \
         "$(calls "$program" run s)"
 
+    # In a store with two journals a put writes table and image of the other journal and syncs, then the gate and syncs, and last
+    # the segment, which isn't synced before the reply.
+    "$program" create-paired pair 0
+    want_that 'the calls of a put with two journals' \
+        'flock pair;fdatasync pair;fdatasync pair;pwrite64 pair;pwrite64 pair;fdatasync pair;pwrite64 pair;fdatasync pair;pwrite64 pair;write said;' \
+        "$(calls "$program" run pair | sed 's/write said;.*/write said;/')"
+
     # A create: the lock, the folder, the length, two writes, and the sync. The folder is synced where the file was there too.
     mkdir place
     made='ftruncate t;pwrite64 t;pwrite64 t;fdatasync t;'

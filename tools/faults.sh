@@ -13,7 +13,9 @@ script='put a 1\nget a\nbatch put b ; remove a\nopen x * *\nnext x\nrange * *\nc
 "$program" create "$folder/plain.pma" 2
 "$program" create "$folder/empty.pma" 2
 "$program" create-indexed "$folder/indexed.pma" 2
-for store in plain indexed; do
+"$program" create-paired "$folder/paired.pma" 2
+"$program" create-paired "$folder/empty_pair.pma" 2
+for store in plain indexed paired; do
     printf 'put c 3\nput d\n' | "$program" run "$folder/$store.pma" >"$folder/said"
 done
 
@@ -35,14 +37,22 @@ came() {
 form gen '' gen 10 1
 form create '' create new.pma 2
 form create-indexed '' create-indexed new.pma 2
+form create-paired '' create-paired new.pma 2
 form run "$script" run plain.pma
 form run-of-an-indexed-store "$script" run indexed.pma
 form quick "$script" quick indexed.pma
+form run-of-a-pair "$script" run paired.pma
+form quick-of-a-pair "$script" quick paired.pma
 form load 'record a 1\nrecord b\nend 2\n' load empty.pma
+form load-into-a-pair 'record a 1\nrecord b\nend 2\n' load empty_pair.pma
 form dump '' dump indexed.pma
 form upgrade '' upgrade indexed.pma
+form upgrade-of-a-pair '' upgrade paired.pma
 
-stores=(--data "plain.pma=$folder/plain.pma" --data "empty.pma=$folder/empty.pma" --data "indexed.pma=$folder/indexed.pma")
+stores=()
+for store in plain empty indexed paired empty_pair; do
+    stores+=(--data "$store.pma=$folder/$store.pma")
+done
 for n in $(seq 1 64); do
     rt try --fail-alloc "$n" "${stores[@]}" --cases "$folder/cases" -- >"$folder/said" 2>"$folder/log" || true
     for words in "$folder"/cases/*.args; do

@@ -2,12 +2,18 @@
 """What there is to read behind a clause: the definitions that it names, and what these cite, one definition at a time.
 
     tools/reading.py CHECKOUT [CLAUSE] [--list] [--requires] [--no-traits] [--until NAME]... [--why NAME]
+    tools/reading.py CHECKOUT --order [--list]
 
 CLAUSE is a clause of `run_words` (`headline` by default) or CRATE::FUNCTION.CLAUSE; `*` in a clause's place is all of them.
 Printed are definitions and lines by crate: of code, of code folded at 100 columns, of comment. A type of the code is read
 as the logic sees it, so one with a model by its values alone; a trait by its contracts. Names of the library and of the
 kit's crates are counted, not followed. A definition of `--until` is taken at its word: it is counted, and what it cites isn't.
 `hidden` are definitions whose name is bound otherwise where it stands.
+
+`--order` reads docs/DEFINITIONS.md: how many citations there are between definitions of different rows, and how many of them
+point forward, to a row that stands later. A word that no row has is read where it is cited, so what it cites counts there. A
+name is defined by the first cell of a row, or else by a paragraph that begins with a name between backticks; it is that of the
+file, or of the crate, that its row or its heading names.
 """
 from __future__ import annotations
 
@@ -163,6 +169,66 @@ def clause(house: House, asked: str, conditions: bool) -> Definition:
     raise SystemExit(f"no clause {asked}")
 
 
+class Document:
+    """The rows and paragraphs of docs/DEFINITIONS.md that define a name, in their order, and what they define."""
+
+    def __init__(self, house: House):
+        self.house, self.named = house, {}
+        for f in sorted(f for d in ("specs/**/*.antt", "src/**/*.rt") for f in (house.top / "crates").glob(f"*/{d}")):
+            u = house.unit(f.relative_to(house.top / "crates").parts[0], f)
+            for name, d in u.defs.items():
+                self.named.setdefault(name, []).append(d)
+        lines = (house.top / "docs/DEFINITIONS.md").read_text().split("\n")
+        self.row: dict[Definition, int] = {}
+        self.homeless: list[tuple[int, str]] = []
+        rows, texts, heading, table = [], [], "", False
+        for n, x in enumerate(lines, 1):
+            if x.startswith("#"):
+                heading, table = x, False
+            elif x.startswith("|"):
+                cells = x.strip("|").split(" | ")
+                table = table or cells[0].split() == ["name"]
+                if table:
+                    rows.append((n, cells[0], cells[1] if len(cells) > 2 else "", heading))
+            else:
+                table = False
+                if re.match(r"(\*\*)?`[\w'-]+`", x) and not lines[n - 2].strip():
+                    said = " ".join(lines[n - 1:next(m for m in range(n, len(lines)) if not lines[m].strip())])
+                    texts.append((n, said, said, heading))
+        for n, names, file, heading in rows + texts:
+            for name in re.findall(r"`([\w'-]+)(?: [A-Z])?`", names):
+                self.define(n, name, file, heading)
+
+    def define(self, n: int, name: str, file: str, heading: str) -> None:
+        """Gives the name its row: the definition in a file that is named beside it, or above it, or else in a crate that is."""
+        found = [d for d in self.named.get(name, []) if d not in self.row]
+        crates = set(re.findall(r"\w+", file + heading))
+        at_home, near = [d for d in found if d.unit.crate in crates], []
+        for hints in (file, heading):
+            paths = re.findall(r"[\w/]+\.(?:antt|rt)", hints)
+            near = near or [d for d in at_home if any(f"/{d.unit.path}".endswith(f"/{p}") for p in paths)]
+        self.row.update({d: n for d in (near or at_home)[:1]})
+        self.homeless += [] if near or at_home else [(n, name)]
+
+    def cited(self, d: Definition) -> set[Definition]:
+        """The definitions with a row that one cites, by itself or by words that have none."""
+        queue = [d]
+        for e in queue:
+            if e is d or e not in self.row:
+                queue += [x for x in self.house.cites(e)[0] if x not in queue]
+        return {e for e in queue[1:] if e in self.row}
+
+
+def order(house: House, listed: bool) -> None:
+    page = Document(house)
+    pairs = [(d, e) for d in page.row for e in page.cited(d) if page.row[e] != page.row[d]]
+    forward = sorted((page.row[d], page.row[e], d.name, e.name) for d, e in pairs if page.row[e] > page.row[d])
+    print(f"names: {len(page.row)}; citations: {len(pairs)}; forward: {len(forward)}; names that are no definition: {len(page.homeless)}")
+    if listed:
+        print("\n".join(f"{n}: {name} cites {other} of {m}" for n, m, name, other in forward))
+        print("no definition:", ", ".join(f"{name} ({n})" for n, name in sorted(page.homeless)))
+
+
 def main() -> None:
     p = argparse.ArgumentParser(description=__doc__, formatter_class=argparse.RawDescriptionHelpFormatter)
     p.add_argument("checkout", type=Path)
@@ -171,9 +237,12 @@ def main() -> None:
     p.add_argument("--requires", action="store_true", help="the function's conditions are read with the clause")
     p.add_argument("--no-traits", action="store_true", help="stop at `S.view` and `I.view`, whose contracts stay unread")
     p.add_argument("--until", metavar="NAME", action="append", default=[], help="a definition that is taken at its word, as Means")
+    p.add_argument("--order", action="store_true", help="how many citations of docs/DEFINITIONS.md point forward")
     p.add_argument("--why", metavar="NAME", help="the chain of citations by which a definition is met")
     a = p.parse_args()
     house = House(a.checkout)
+    if a.order:
+        return order(house, a.list)
     start = clause(house, a.clause, a.requires)
     met: dict[Definition, Definition | None] = {start: None}
     queue, seen = [start], [set(), set(), set()]

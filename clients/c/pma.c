@@ -447,7 +447,7 @@ pma_code pma_create(const char *program, const char *file, unsigned height, unsi
     int ours, status = -1;
     pid_t run;
     snprintf(high, sizeof high, "%u", height), snprintf(pages, sizeof pages, "%u", journal);
-    char *words[] = {(char *)program, "create", (char *)file, high, journal ? pages : NULL, NULL};
+    char *words[] = {(char *)program, "create-paired", (char *)file, high, journal ? pages : NULL, NULL};
     pma_code code = start(words, &ours, &run);
     if (code)
         return code;

@@ -67,8 +67,9 @@ typedef struct {
     unsigned long stored, replaced, removed, absent;
 } pma_changes;
 
-/* Makes the empty store in a file that is missing or empty, with room for 2^height * (64 - height) records. journal: pages of its
-   journal, 0 what the program takes. */
+/* Makes the empty store in a file that is missing or empty, with room for 2^height * (64 - height) records. It has two journals
+   and room for an index, so that an update takes two syncs. journal: pages of each journal, 0 what the program takes. A store
+   that the program made otherwise is opened as well. */
 pma_code pma_create(const char *program, const char *file, unsigned height, unsigned journal);
 
 /* Opens a store; program is its name on the path, or where it is. *store is to be closed whatever is answered. */

@@ -41,10 +41,10 @@ def _received(stream: socket.socket) -> bytes:
         return b""
 
 
-def create(program: str, file: bytes, height: int, journal: Optional[int]) -> None:
+def create(program: str, file: bytes, height: int, journal: Optional[int], paired: bool) -> None:
     if journal is None:
         journal = min(max(SMALLEST_JOURNAL, 2**height), GREATEST_JOURNAL) if 0 <= height <= 16 else SMALLEST_JOURNAL
-    status, said = command(program, [b"create", file, b"%d" % height, b"%d" % journal])
+    status, said = command(program, [b"create-paired" if paired else b"create", file, b"%d" % height, b"%d" % journal])
     if status == 2:
         raise ValueError(f"no store can be made of height {height} with a journal of {journal} pages, or its name is no UTF-8")
     if status == 4:
@@ -72,11 +72,12 @@ def filled(file: bytes) -> bool:
         return False
 
 
-def put_in_place(program: str, file: bytes, height: int, journal: Optional[int], keep: bool, held: contextlib.ExitStack) -> None:
+def put_in_place(program: str, file: bytes, height: int, journal: Optional[int], paired: bool, keep: bool,
+                 held: contextlib.ExitStack) -> None:
     """Makes a new, empty store in this file, or with `keep` only where none is. What was there is locked until `held` ends."""
     new = os.path.join(os.path.dirname(file), b".pma-" + secrets.token_hex(8).encode())
     try:
-        create(program, new, height, journal)
+        create(program, new, height, journal, paired)
         try:
             os.link(new, file)  # which replaces nothing
         except FileExistsError:

@@ -269,20 +269,21 @@ class _Values(ValuesView[bytes]):
 
 
 def open(path: Union[str, bytes, "os.PathLike[Any]"], flag: str = "r", *, height: int = 12, journal: Optional[int] = None,
-         program: str = "pma") -> Store:
+         paired: bool = True, program: str = "pma") -> Store:
     """Opens the store in the file `path`, by a process of the program, which keeps the file locked until `close`.
 
     flag: 'r' a store that is there, for reading; 'w' for reading and writing; 'c' makes it where it is missing; 'n' makes a new,
     empty one in any case. height, from 0 to 16: a store that is made has room for 2^height * (64 - height) records, 212992 where
-    it isn't given. journal: its pages, from 4 to max(4, 2^height); where it isn't given as many, or 1024 if that is less.
-    program: its name on the path, or where it is.
+    it isn't given. journal: the pages of a journal, from 4 to max(4, 2^height); where it isn't given as many, or 1024 if that is
+    less. paired: a store that is made has two journals and room for an index, so that an update takes two syncs; else it has one
+    journal, and an update takes four. program: its name on the path, or where it is.
     """
     if flag not in FLAGS:
         raise ValueError("flag must be one of 'r', 'w', 'c', or 'n'")
     file = os.fsencode(os.path.realpath(path))
     with contextlib.ExitStack() as held:
         if flag == "n" or flag == "c" and not making.filled(file):
-            making.put_in_place(program, file, height, journal, flag == "c", held)
+            making.put_in_place(program, file, height, journal, paired, flag == "c", held)
         elif not os.path.exists(file):
             raise FileNotFoundError(errno.ENOENT, "no store is there", os.fsdecode(file))
         return Store(program, file, flag == "r")

@@ -263,6 +263,15 @@ class StoreTest(StoreCase):
         self.assertRaises(pma.DiskFault, self.open, "c", os.path.join(self.folder, "missing", "store"))
         self.assertEqual(os.listdir(self.folder), [])
 
+    def test_which_store_is_made(self):
+        for more, version in (({}, 4), ({"paired": True}, 4), ({"paired": False}, 2)):
+            with self.open("n", **more) as store:
+                store[b"k"] = b"v"
+            with open(self.file, "rb") as file:
+                self.assertEqual(file.read()[3080], version)
+            with self.open("c", paired=not more.get("paired", True)) as store:  # what is there is opened as it is
+                self.assertEqual(store[b"k"], b"v")
+
 
 if __name__ == "__main__":
     unittest.main()
