@@ -132,12 +132,18 @@ static int stepped(sqlite3_stmt *statement, struct record *found)
     return 1;
 }
 
+// Puts the statement of a cursor before a bound, and takes its first step.
+static int sought(sqlite3_stmt **statement, const char *text, struct bytes bound, struct record *found)
+{
+    if (!*statement)
+        *statement = prepared(text);
+    sqlite3_bind_blob(*statement, 1, bound.at, (int)bound.count, SQLITE_TRANSIENT); // it outlives the line
+    return stepped(*statement, found);
+}
+
 int store_seek(int cursor, struct bytes low, struct record *found)
 {
-    if (!cursors[cursor])
-        cursors[cursor] = prepared("select key, value from records where key >= ?1 order by key");
-    sqlite3_bind_blob(cursors[cursor], 1, low.at, (int)low.count, SQLITE_TRANSIENT);
-    return store_step(cursor, found);
+    return sought(&cursors[cursor], "select key, value from records where key >= ?1 order by key", low, found);
 }
 
 int store_step(int cursor, struct record *found)
@@ -147,10 +153,7 @@ int store_step(int cursor, struct record *found)
 
 int store_seek_back(int cursor, struct bytes high, struct record *found)
 {
-    if (!backs[cursor])
-        backs[cursor] = prepared("select key, value from records where key < ?1 order by key desc");
-    sqlite3_bind_blob(backs[cursor], 1, high.at, (int)high.count, SQLITE_TRANSIENT);
-    return store_step_back(cursor, found);
+    return sought(&backs[cursor], "select key, value from records where key < ?1 order by key desc", high, found);
 }
 
 int store_step_back(int cursor, struct record *found)
