@@ -51,10 +51,8 @@ impl<'a> SegmentView<'a> {
         ensures ok { IfOk result (λ rows. IsSegment (format_of bytes.now) rows bytes.now) }
         ensures bad { IfErr result (λ error. first_bad_slot (format_of bytes.now) bytes.now ≡ Some error.slot) }
     {
-        match count_rows(bytes) {
-            Ok(count) => Ok(SegmentView::again(bytes, count)),
-            Err(bad) => Err(bad),
-        }
+        let count = count_rows(bytes)?;
+        Ok(SegmentView::again(bytes, count))
     }
 
     /// The rows of 4096 or 8192 bytes that a store has read as its segment of this number, for which it keeps `kept` rows.
@@ -68,10 +66,8 @@ impl<'a> SegmentView<'a> {
         ensures damage { IfErr result (λ fault. (why : Damage) × (damage_of (format_of bytes.now) bytes.now kept ≡ Some why) × (fault ≡ StoreFault.Damaged segment why)) }
         ensures other { (found other : ℕ) → result ≡ Err (StoreFault.Damaged segment (Damage.OtherCount found other)) → (other ≡ kept) × (found ≢ kept) }
     {
-        match judge_kept(bytes, segment, kept) {
-            Ok(()) => Ok(SegmentView::again(bytes, kept)),
-            Err(fault) => Err(fault),
-        }
+        judge_kept(bytes, segment, kept)?;
+        Ok(SegmentView::again(bytes, kept))
     }
 
     /// The rows of bytes that were judged before, with their number, for a caller that keeps both. Nothing is read.
