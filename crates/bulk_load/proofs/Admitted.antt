@@ -21,5 +21,5 @@ admitted format most r0 s0 s rows (Line n) text few told less is = no_line (is.1
 admitted format most r0 s0 s rows (Full n) text few told less is = no_full (sym (is.1.1 told) ∙ text_read format most (raw_lines (rest r0 s0)) rows text few)
 admitted format most r0 s0 s rows Disk text few told less is = record {}
 admitted format most r0 s0 s rows (Damaged segment why) text few told less is = record {}
-admitted format most r0 s0 s rows Script text few told less is = is.1
+admitted format most r0 s0 s rows Script text few told less is = is.1.0
 admitted format most r0 s0 s rows Spent text few told less is = let all = (is.1 told).all in omega (arith, all, less)

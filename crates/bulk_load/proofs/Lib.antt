@@ -14,5 +14,6 @@ pub mod LoadLaws
 pub mod DumpLaws
 pub mod TextLaws
 pub mod TextFaults
+pub mod DueLaws
 pub mod Admitted
 mod Vectors

@@ -71,14 +71,25 @@ module _ (format most : ℕ) (r0 : ReaderView) (s0 : SourceView) (given : List (
   reading_fault r s (Full n) next = absurd next
   reading_fault r s Disk next = absurd next
   reading_fault r s (Damaged segment why) next = absurd next
-  reading_fault r s Script next = next.1
+  reading_fault r s Script next = (
+    next.1,
+    λ told. record {
+      given = given;
+      cut = next.0 told;
+      rows = rows;
+      ended = ended;
+      reading = loaded told;
+    },
+  )
   reading_fault r s Spent next = λ told. record {
-    given = given;
-    cut = (next told).0;
+    read = record {
+      given = given;
+      cut = (next told).0;
+      rows = rows;
+      ended = ended;
+      reading = loaded told;
+    };
     all = (next told).1;
-    rows = rows;
-    ended = ended;
-    reading = loaded told;
   }
 
   module _ (k : ℕ) (line : LoadLine) (r : ReaderView) (s : SourceView) (gives : GivesEntry format r0 s0 given line r s) (k_is : k ≡ length given + 1) where

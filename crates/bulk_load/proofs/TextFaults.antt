@@ -114,16 +114,16 @@ goes_on format most more k le rows now ended is_ended (raw ∷ lines) few e =
 
 -- The line at which reading stops.
 
-record StopsAt (format most k n : ℕ) (rows : List Record) (ended : Bool) (lines : List (List ℕ)) : Type 0 where
-  done : List (List ℕ)
-  raw : List ℕ
-  rest : List (List ℕ)
-  lines_are : lines ≡ done ++ raw ∷ rest
-  now : List Record
-  now_ended : Bool
-  reading : load_from format most k (reads rows ended) done ≡ reads now now_ended
-  number : n ≡ k + length done
-  stops : after_line most n now now_ended (load_line_raw format raw) ≡ wrong n
+pub record StopsAt (format most k n : ℕ) (rows : List Record) (ended : Bool) (lines : List (List ℕ)) : Type 0 where
+  pub done : List (List ℕ)
+  pub raw : List ℕ
+  pub rest : List (List ℕ)
+  pub lines_are : lines ≡ done ++ raw ∷ rest
+  pub now : List Record
+  pub now_ended : Bool
+  pub reading : load_from format most k (reads rows ended) done ≡ reads now now_ended
+  pub number : n ≡ k + length done
+  pub stops : after_line most n now now_ended (load_line_raw format raw) ≡ wrong n
 
 -- a line that is wrong has its own number
 own_number : (most k n : ℕ) (rows : List Record) (ended : Bool) (line : LoadLine) → after_line most k rows ended line ≡ wrong n → n ≡ k
@@ -145,7 +145,7 @@ own_number most k n rows true (End m) e = let m : suc k ≡ suc n = ap number_of
 own_number most k n rows false Bad e = let m : suc k ≡ suc n = ap number_of e in omega (arith, m)
 own_number most k n rows true Bad e = let m : suc k ≡ suc n = ap number_of e in omega (arith, m)
 
-stops_at : (format most k n : ℕ) (rows : List Record) (ended : Bool) (lines : List (List ℕ)) → load_from format most k (reads rows ended) lines ≡ wrong n → StopsAt format most k n rows ended lines
+pub stops_at : (format most k n : ℕ) (rows : List Record) (ended : Bool) (lines : List (List ℕ)) → load_from format most k (reads rows ended) lines ≡ wrong n → StopsAt format most k n rows ended lines
 stops_at format most k n rows ended [] e = absurd (no_wrong (sym e))
 stops_at format most k n rows ended (raw ∷ lines) e = by (λ mid mid_ended f. stops_at format most (k + 1) n mid mid_ended lines f) (load_step format most k (reads rows ended) raw) refl
   where
@@ -185,7 +185,7 @@ stops_at format most k n rows ended (raw ∷ lines) e = by (λ mid mid_ended f. 
 abbrev pub end_raw : ℕ → List ℕ
 end_raw n = codes "end " ++ decimal n
 
-begins : (format most : ℕ) (lines : List (List ℕ)) (rows : List Record) (ended : Bool) → most < 2 ^ 32 → length rows ≤ most → Reads format lines rows ended → BeginsText format lines
+pub begins : (format most : ℕ) (lines : List (List ℕ)) (rows : List Record) (ended : Bool) → most < 2 ^ 32 → length rows ≤ most → Reads format lines rows ended → BeginsText format lines
 begins format most lines rows false small few so = record {
   behind = end_raw (length rows) ∷ [];
   rows = rows;

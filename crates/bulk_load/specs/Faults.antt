@@ -18,14 +18,18 @@ abbrev pub load_fault_of : StoreFault → LoadFault
 load_fault_of store.Failed = Disk
 load_fault_of (store.Damaged segment why) = Damaged segment why
 
--- all bytes were taken that may be, and the complete lines among them may begin a text
-pub record IsSpentIn (format most : ℕ) (r0 : ReaderView) (s0 s : SourceView) : Type 0 where
+-- the complete lines among the bytes that were taken make no refusal due
+pub record IsCutIn (format most : ℕ) (r0 : ReaderView) (s0 s : SourceView) : Type 0 where
   pub given : List (List ℕ)
   pub cut : IsCutShort (rest r0 s0) s.left given
-  pub all : length s0.left ≡ length s.left + r0.room
   pub rows : List Record
   pub ended : Bool
   pub reading : loading format most given ≡ reads rows ended
+
+-- and all bytes were taken that may be
+pub record IsSpentIn (format most : ℕ) (r0 : ReaderView) (s0 s : SourceView) : Type 0 where
+  pub read : IsCutIn format most r0 s0 s
+  pub all : length s0.left ≡ length s.left + r0.room
 
 -- a fault of one line, by what comes of the lines up to it: it is wrong there, or has a record too many. A disk call may
 -- fail in any
@@ -39,12 +43,13 @@ IsLineFault most s Script = ⊥
 IsLineFault most s Spent = ⊥
 
 -- Why reading ended before the end, by what comes of the lines, where the source tells them. `Script` comes only where a
--- read failed, and `Spent` only where all bytes were taken that may be, and the complete lines among them aren't at fault.
+-- read failed, and `Spent` only where all bytes were taken that may be; and either only where the complete lines among the bytes
+-- that were taken aren't at fault.
 abbrev pub IsReadingFault : ℕ → ℕ → ReaderView → SourceView → SourceView → LoadFault → Type 0
 IsReadingFault format most r0 s0 s (Line n) = SourceTold s0 → IsWrongLine format most (raw_lines (rest r0 s0)) n
 IsReadingFault format most r0 s0 s (Full n) = (n ≡ most) × (SourceTold s0 → loading format most (raw_lines (rest r0 s0)) ≡ full)
 IsReadingFault format most r0 s0 s Disk = Unit {0}
-IsReadingFault format most r0 s0 s Script = SourceRose s0 s
+IsReadingFault format most r0 s0 s Script = SourceRose s0 s × (SourceTold s0 → IsCutIn format most r0 s0 s)
 IsReadingFault format most r0 s0 s Spent = SourceTold s0 → IsSpentIn format most r0 s0 s
 IsReadingFault format most r0 s0 s (NotEmpty n) = ⊥
 IsReadingFault format most r0 s0 s (Damaged segment why) = ⊥

@@ -1,6 +1,6 @@
 //! What holds of load texts: laws over the definitions, each the contract of a function that does nothing.
 
-ghost use Rattle.std.specs.Prelude.{◌≡◌, ℕ, ◌+◌, ◌^◌, ◌<◌, ◌≤◌, true, false, List, length, All};
+ghost use Rattle.std.specs.Prelude.{◌≡◌, ℕ, ◌+◌, ◌^◌, ◌<◌, ◌≤◌, Bool, true, false, List, length, All};
 ghost use Rattle.key_slot.specs.Format.{wide};
 ghost use Rattle.std.specs.List.{flat_map};
 ghost use Rattle.std.specs.FinMap.{entries, from_sorted, len};
@@ -14,13 +14,14 @@ ghost use Rattle.command_text.specs.Reply.{reply_text};
 ghost use Rattle.command_text.specs.ReadsBack.{MayBeRecord};
 ghost use Rattle.bulk_load.specs.declared.fault.LoadFault.{LoadFault};
 ghost use Rattle.bulk_load.specs.Faults.{IsLoadFault, IsOutsideFault};
-ghost use Rattle.bulk_load.specs.LoadText.{IsLoadText, IsFirstWrong, IsUnfinished, IsOneTooMany};
-ghost use Rattle.bulk_load.specs.Loading.{loading, reads, wrong, full};
+ghost use Rattle.bulk_load.specs.LoadText.{IsLoadText, IsFirstWrong, IsUnfinished, IsOneTooMany, IsRefusedAt, MayGoOn};
+ghost use Rattle.bulk_load.specs.Loading.{IsWrongLine, loading, reads, wrong, full};
 
 /// A law: what comes of lines that are read one at a time is what they are as a load text. Those that are read whole are a
 /// text with these records, and a text is read whole where the store may hold as many. A wrong line is the first that no
 /// text can have there; where lines end before the line with their number of records, some text begins with them, and they
-/// are none. Where they are too many, some text begins with lines that have one record more than the store may hold.
+/// are none. Where they are too many, some text begins with lines that have one record more than the store may hold. No more
+/// records than it may hold come before a line that is wrong, and of lines with which reading goes on no refusal is due.
 pub fn texts_are_read_by_lines()
     ensures text { (format most : ℕ) (lines : List (List ℕ)) (rows : List Record) → loading format most lines ≡ reads rows true → IsLoadText format lines rows }
     ensures read { (format most : ℕ) (lines : List (List ℕ)) (rows : List Record) → IsLoadText format lines rows → length rows ≤ most → loading format most lines ≡ reads rows true }
@@ -28,6 +29,14 @@ pub fn texts_are_read_by_lines()
     ensures unfinished { (format most : ℕ) (lines : List (List ℕ)) (rows : List Record) → most < 2 ^ 32 → loading format most lines ≡ reads rows false → IsUnfinished format lines }
     ensures full { (format most : ℕ) (lines : List (List ℕ)) → most + 1 < 2 ^ 32 → loading format most lines ≡ full → IsOneTooMany format most lines }
     ensures few { (format most : ℕ) (lines : List (List ℕ)) (rows : List Record) → loading format most lines ≡ reads rows true → length rows ≤ most }
+    ensures refused { (format most n : ℕ) (lines : List (List ℕ)) → most < 2 ^ 32 → IsWrongLine format most lines n → IsRefusedAt format most lines n }
+    ensures going { (format most : ℕ) (lines : List (List ℕ)) (rows : List Record) (ended : Bool) → most < 2 ^ 32 → loading format most lines ≡ reads rows ended → MayGoOn format most lines }
+{}
+
+/// A law: a text has one refusal. Where a line of it is refused, no record too many comes before that; and where there is one
+/// record too many, no line before it is refused.
+pub fn refusals_exclude_each_other()
+    ensures { (format most n : ℕ) (lines : List (List ℕ)) → IsRefusedAt format most lines n → IsOneTooMany format most lines → ⊥ }
 {}
 
 /// A law: the lines of all records of a map, and the line with their number, as a range over all keys is answered, are a

@@ -12,7 +12,10 @@
 
 pub use dumping::sweep_all;
 pub use fault::{LoadFault, Loaded};
-pub use laws::{admitted_texts_are_loaded, dumps_are_load_texts, texts_are_read_by_lines};
+pub use laws::{
+    admitted_texts_are_loaded, dumps_are_load_texts, refusals_exclude_each_other,
+    texts_are_read_by_lines,
+};
 pub use loading::load_rows;
 
 mod aside;

@@ -9,6 +9,7 @@ use Rattle.station.specs.declared.travel.Travel.{Travel}
 use Rattle.station.proofs.Sayings.{run_of_steps, run_in, run_on}
 use Rattle.key_slot.specs.Record.{Record}
 use Rattle.header_gate.specs.Header.{layout_in}
+use Rattle.index_file.specs.Clean.{IsShut}
 use Rattle.map_model.specs.ArrayState.{ArrayState}
 use Rattle.map_model.specs.Image.{map_of}
 use Rattle.map_model.specs.Store.{Map}
@@ -144,6 +145,7 @@ module _ (a b : View) (law : Lawful a) (ab : Steps Reopens (attached_by false a)
         refused = λ e. absurd (other REFUSED ((λ x. omega (arith, x)), (λ x. omega (arith, x))) e);
         memory = λ e. unopened.memory (memory e);
         settled = λ e. absurd (elim e [ inl x ↦ other DONE ((λ y. omega (arith, y)), (λ y. omega (arith, y))) x | inr x ↦ other REPLY_FAULT ((λ y. omega (arith, y)), (λ y. omega (arith, y))) x ]);
+        shut = λ e. absurd (elim e [ inl x ↦ other DONE ((λ y. omega (arith, y)), (λ y. omega (arith, y))) x | inr x ↦ other REPLY_FAULT ((λ y. omega (arith, y)), (λ y. omega (arith, y))) x ]);
         complete = λ told m here calm_disk calm_reply. elim is [ inl e ↦ absurd (calm_disk (unopened.failed (failed e))) | inr e ↦ inr e ];
         unwritten = unopened.unwritten;
         kept = λ no_disk told rest. elim is [ inl e ↦ absurd (no_disk e) | inr e ↦ but_of (unopened.memory (memory e)).closes told ];
@@ -169,6 +171,7 @@ module _ (a b : View) (law : Lawful a) (ab : Steps Reopens (attached_by false a)
         refused = λ e. refused;
         memory = λ e. absurd (omega (arith, e));
         settled = λ e. absurd (elim e [ inl x ↦ omega (arith, x) | inr x ↦ omega (arith, x) ]);
+        shut = λ e. absurd (elim e [ inl x ↦ omega (arith, x) | inr x ↦ omega (arith, x) ]);
         complete = λ told m here. absurd (never told m here);
         unwritten = λ told rest. subst (WritesGate a.held a.travel.written) (sym (ap (λ (x : Travel). x.written) says.travel)) (unopened.unwritten told rest);
         kept = λ other told rest. subst (IsButClosed a.held a.held) (sym says.held) (kept told rest);
@@ -252,6 +255,7 @@ module _ (a b : View) (law : Lawful a) (ab : Steps Reopens (attached_by false a)
         };
         memory = λ e. absurd (elim dumps.status_is [ inl x ↦ omega (arith, e, x) | inr (inl x) ↦ omega (arith, e, x) | inr (inr (inl x)) ↦ omega (arith, e, x) | inr (inr (inr x)) ↦ omega (arith, e, x) ]);
         settled = dumps.settled;
+        shut = λ e told. subst IsShut (sym (dumps.looks.held (on told))) (opened.shut b.held (inl (on told, refl)));
         complete = λ told m here calm_disk calm_reply. elim dumps.status_is [
           | inl e ↦ inl e
           | inr (inl e) ↦ absurd (dumps.undamaged e (on told))

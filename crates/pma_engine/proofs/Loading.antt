@@ -1,5 +1,5 @@
 -- What comes of a load, from the map that its file means at the entry.
-use Rattle.std.proofs.Common.{◌≡◌, ◌⊎◌, inl, inr, ℕ, zero, suc, ◌+◌, ◌-◌, ◌*◌, ◌^◌, ◌<◌, ◌≤◌, List, [], true, false, length, Some, None, Result, Ok, Err, refl, sym, ◌∙◌, ap, subst, arith, sum}
+use Rattle.std.proofs.Common.{◌≡◌, ◌⊎◌, inl, inr, ℕ, zero, suc, ◌+◌, ◌-◌, ◌*◌, ◌^◌, ◌<◌, ◌≤◌, Bool, List, [], true, false, length, Some, None, Result, Ok, Err, refl, sym, ◌∙◌, ap, subst, arith, sum}
 use Rattle.std.specs.Prelude.{OnOk, IfOk, IfErr, IsErrOf}
 use Rattle.std.specs.FinMap.{empty_of_len, from_sorted, len, len-empty}
 use Rattle.station.specs.Bytes.{Same}
@@ -29,9 +29,9 @@ use Rattle.batch_intent.proofs.Meanings.{meant_one, means_idle}
 use Rattle.batch_intent.proofs.OpeningReasons.{means_of_none}
 use Rattle.range_scan.proofs.Checks.{counted_all}
 use Rattle.segment_frames.specs.Standing.{StandsFor}
-use Rattle.bulk_load.specs.Faults.{IsLoadFault, IsNoDamage, IsNoDisk, IsOutsideFault}
-use Rattle.bulk_load.specs.LoadText.{IsFirstWrong, IsLoadText, IsOneTooMany, IsUnfinished}
-use Rattle.bulk_load.specs.Loading.{TakesAtMost, full, loading, reads, wrong}
+use Rattle.bulk_load.specs.Faults.{IsCutIn, IsLoadFault, IsNoDamage, IsNoDisk, IsOutsideFault}
+use Rattle.bulk_load.specs.LoadText.{IsLoadText, IsOneTooMany, IsRefusedAt, MayGoOn}
+use Rattle.bulk_load.specs.Loading.{IsWrongLine, TakesAtMost, full, loading, reads}
 use Rattle.bulk_load.proofs.ReadLaws.{takes_none}
 use Rattle.bulk_load.specs.Loads.{IsLoaded, Loads, TextFor, most_records}
 use Rattle.bulk_load.specs.declared.fault.LoadFault.{LoadFault}
@@ -43,8 +43,8 @@ use Rattle.command_text.specs.declared.reply.Reply.{Reply}
 use Rattle.command_text.specs.declared.reply.Reply.TheVariants as reply
 use Rattle.pma_store.specs.Readying.{clear_cost}
 use Rattle.pma_store.specs.Store.{StoreView, IsOpenOn}
-use Rattle.pma_engine.specs.Loading.{AnswersLoad, HasText, IsCutText, IsFileLoaded, IsLoadRefused, IsLoadStatus, IsWrongAt, LoadsFile, LoadsOpened, MayLoad, line_of_load, load_cost, status_of_load, text_cost}
-use Rattle.pma_engine.specs.Closing.{IsButClosed, WritesGate}
+use Rattle.pma_engine.specs.Loading.{AnswersLoad, HasText, IsCutEarly, IsCutText, IsFileLoaded, IsLoadRefused, IsLoadStatus, IsWrongAt, LoadsFile, LoadsOpened, MayLoad, line_of_load, load_cost, status_of_load, text_cost}
+use Rattle.pma_engine.specs.Closing.{IsButClosed, StaysShut, WritesGate}
 use Rattle.pma_engine.specs.Opening.{IsOpened, IsUnopened, Reopens}
 use Rattle.pma_engine.specs.Jobs.{TakesNothing}
 use Rattle.pma_engine.specs.Outcome.{empty_map}
@@ -65,8 +65,8 @@ zero_or (suc n) = inr (omega arith)
 pub record Laws : Type 0 where
   pub text : (format most : ℕ) (lines : List (List ℕ)) (rows : List Record) → loading format most lines ≡ reads rows true → IsLoadText format lines rows
   pub few : (format most : ℕ) (lines : List (List ℕ)) (rows : List Record) → loading format most lines ≡ reads rows true → length rows ≤ most
-  pub wrong_is : (format most n : ℕ) (lines : List (List ℕ)) → most < 2 ^ 32 → loading format most lines ≡ wrong n → IsFirstWrong format lines n
-  pub unfinished : (format most : ℕ) (lines : List (List ℕ)) (rows : List Record) → most < 2 ^ 32 → loading format most lines ≡ reads rows false → IsUnfinished format lines
+  pub refused : (format most n : ℕ) (lines : List (List ℕ)) → most < 2 ^ 32 → IsWrongLine format most lines n → IsRefusedAt format most lines n
+  pub going : (format most : ℕ) (lines : List (List ℕ)) (rows : List Record) (ended : Bool) → most < 2 ^ 32 → loading format most lines ≡ reads rows ended → MayGoOn format most lines
   pub full_is : (format most : ℕ) (lines : List (List ℕ)) → most + 1 < 2 ^ 32 → loading format most lines ≡ full → IsOneTooMany format most lines
   pub admitted : (format most : ℕ) (reader : ReaderView) (before after : SourceView) (rows : List Record) (fault : LoadFault) → IsLoadText format (raw_lines (rest reader before)) rows → length rows ≤ most → SourceTold before → length before.left < reader.room
       → IsLoadFault format most 0 reader before after fault → IsOutsideFault before after fault
@@ -102,6 +102,14 @@ module _ (laws : Laws) (most : ℕ) (s : StoreView) (s0 s1 : SourceView) (layout
   has_text : (rows : List Record) → TextFor s.place.layout (fresh_reader most) s0 rows → HasText s.place.layout s0 rows
   has_text rows text told =
       (laws.text s.place.layout.format (most_records s.place.layout) (raw_lines s0.left) rows (text told), laws.few s.place.layout.format (most_records s.place.layout) (raw_lines s0.left) rows (text told))
+
+  -- what was read so far makes no refusal due
+  cut_early : IsCutIn s.place.layout.format (most_records s.place.layout) (fresh_reader most) s0 s1 → IsCutEarly s.place.layout s0 s1
+  cut_early is = record {
+    taken = is.cut.taken;
+    is = is.cut.is;
+    lines = subst (MayGoOn s.place.layout.format (most_records s.place.layout)) (sym is.cut.complete) (laws.going s.place.layout.format (most_records s.place.layout) is.given is.rows is.ended (omega (arith, small)) is.reading);
+  }
 
   -- a store without records means the empty map
   no_records : Told a → sum s.tally.counts ≡ 0 → (m : Map) (here : MeansMap (layout_in a.held) a.held m) → m ≡ empty_map
@@ -211,6 +219,7 @@ module _ (laws : Laws) (most : ℕ) (s : StoreView) (s0 s1 : SourceView) (layout
       takes = facts.takes;
       too_long = λ e. absurd (omega (arith, e));
       cut = λ e. absurd (elim e [ inl x ↦ omega (arith, x) | inr x ↦ omega (arith, x) ]);
+      early = λ e. absurd (elim e [ inl x ↦ omega (arith, x) | inr x ↦ omega (arith, x) ]);
       admitted = λ told_s told none rows text short calm_disk calm_script. absurd (no_text told_s told none rows text short calm_disk calm_script);
       written = λ e. absurd (omega (arith, e));
       disk = λ e. absurd (omega (arith, e));
@@ -222,8 +231,8 @@ module _ (laws : Laws) (most : ℕ) (s : StoreView) (s0 s1 : SourceView) (layout
 
     -- a fault of which nothing is said
     stopped_by : (status : ℕ) → (status ≡ DISK_FAULT) ⊎ IsCutText status → ((status ≡ DISK_FAULT → ⊥) → IsNoDisk fault) → (status ≡ DISK_FAULT → fault ≡ load.Disk) → (status ≡ SCRIPT_FAULT → SourceRose s0 s1)
-        → (status ≡ TOO_LONG → SourceTold s0 → length s0.left ≡ length s1.left + most) → (IsCutText status → sum s.tally.counts ≡ 0) → NoText b → LoadsOpened status most s.place.layout (sum s.tally.counts) 0 s0 s1 a b
-    stopped_by status is no_disk disk_is script_is spent none no_text = record {
+        → (status ≡ TOO_LONG → SourceTold s0 → length s0.left ≡ length s1.left + most) → (IsCutText status → sum s.tally.counts ≡ 0) → (IsCutText status → SourceTold s0 → IsCutEarly s.place.layout s0 s1) → NoText b → LoadsOpened status most s.place.layout (sum s.tally.counts) 0 s0 s1 a b
+    stopped_by status is no_disk disk_is script_is spent none early no_text = record {
       status_is = elim is [ inl e ↦ inr (inr e) | inr (inl e) ↦ inl (inr (inl e)) | inr (inr e) ↦ inl (inr (inr e)) ];
       run = runs (Err fault) b facts;
       held = λ told. each (Err fault) b facts b.held (inl (told_on (Err fault) b facts told, refl));
@@ -239,6 +248,7 @@ module _ (laws : Laws) (most : ℕ) (s : StoreView) (s0 s1 : SourceView) (layout
       takes = facts.takes;
       too_long = spent;
       cut = none;
+      early = early;
       admitted = λ told_s told zero_is rows text short calm_disk calm_script. absurd (no_text told_s told zero_is rows text short calm_disk calm_script);
       written = λ e. absurd (other DONE e ((λ x. omega (arith, x)), (λ x. omega (arith, x)), (λ x. omega (arith, x))));
       disk = λ e. facts.failed (ap Err (disk_is e));
@@ -287,6 +297,7 @@ module _ (laws : Laws) (most : ℕ) (s : StoreView) (s0 s1 : SourceView) (layout
       takes = facts.takes;
       too_long = λ e. absurd (omega (arith, e));
       cut = λ e. facts.none_before;
+      early = λ e. absurd (elim e [ inl x ↦ omega (arith, x) | inr x ↦ omega (arith, x) ]);
       admitted = λ told_s told zero_is text_rows text short calm_disk calm_script. refl;
       written = λ e told.
           let spent : b.travel.written ≤ a.travel.written + text_cost s.place.layout (height_of b.held) =
@@ -308,25 +319,22 @@ module _ (laws : Laws) (most : ℕ) (s : StoreView) (s0 s1 : SourceView) (layout
         (λ told_s told none rows text short calm_disk calm_script. outside (load.Line n) b facts told_s none rows text short)
       where
         wrong_at : IsWrongAt s.place.layout s0 n
-        wrong_at told = elim (facts.fault.1 told) [
-          | inl is ↦ inl (laws.wrong_is s.place.layout.format (most_records s.place.layout) n (raw_lines s0.left) (omega (arith, small)) is)
-          | inr unfinished ↦ inr (laws.unfinished s.place.layout.format (most_records s.place.layout) (raw_lines s0.left) unfinished.0 (omega (arith, small)) unfinished.1, unfinished.2)
-        ]
+        wrong_at told = laws.refused s.place.layout.format (most_records s.place.layout) n (raw_lines s0.left) (omega (arith, small)) (facts.fault.1 told)
     loaded_of (Err (load.Full n)) facts says silent line =
         refused_by (load.Full n) b facts d (reply.LoadFull n) tt says (line (reply.LoadFull n) refl)
         (λ told. inr (inr (facts.fault.0, ap reply.LoadFull facts.fault.1.0, (λ told_s. laws.full_is s.place.layout.format (most_records s.place.layout) (raw_lines s0.left) small (facts.fault.1.1 told_s))))) tt
         (λ told_s told none rows text short calm_disk calm_script. outside (load.Full n) b facts told_s none rows text short)
     loaded_of (Err load.Disk) facts says silent line = subst (LoadsOpened DISK_FAULT most s.place.layout (sum s.tally.counts) 0 s0 s1 a) (sym (silent refl))
-        (stopped_by load.Disk b facts DISK_FAULT (inl refl) (λ never. absurd (never refl)) (λ e. refl) (λ e. absurd (omega (arith, e))) (λ e. absurd (omega (arith, e))) (λ e. absurd (elim e [ inl x ↦ omega (arith, x) | inr x ↦ omega (arith, x) ]))
+        (stopped_by load.Disk b facts DISK_FAULT (inl refl) (λ never. absurd (never refl)) (λ e. refl) (λ e. absurd (omega (arith, e))) (λ e. absurd (omega (arith, e))) (λ e. absurd (elim e [ inl x ↦ omega (arith, x) | inr x ↦ omega (arith, x) ])) (λ e. absurd (elim e [ inl x ↦ omega (arith, x) | inr x ↦ omega (arith, x) ]))
         (λ told_s told none rows text short calm_disk calm_script. calm_disk (facts.failed refl)))
     loaded_of (Err (load.Damaged segment why)) facts says silent line =
         refused_by (load.Damaged segment why) b facts d (reply.Damaged segment why) tt says (line (reply.Damaged segment why) refl) (λ told. absurd (facts.damaged told)) tt
         (λ told_s told none rows text short calm_disk calm_script. facts.damaged told)
     loaded_of (Err load.Script) facts says silent line = subst (LoadsOpened SCRIPT_FAULT most s.place.layout (sum s.tally.counts) 0 s0 s1 a) (sym (silent refl))
-        (stopped_by load.Script b facts SCRIPT_FAULT (inr (inl refl)) (λ never. tt) (λ e. absurd (omega (arith, e))) (λ e. facts.fault.1) (λ e. absurd (omega (arith, e))) (λ e. facts.fault.0)
-        (λ told_s told none rows text short calm_disk calm_script. calm_script facts.fault.1))
+        (stopped_by load.Script b facts SCRIPT_FAULT (inr (inl refl)) (λ never. tt) (λ e. absurd (omega (arith, e))) (λ e. facts.fault.1.0) (λ e. absurd (omega (arith, e))) (λ e. facts.fault.0) (λ e told_s. cut_early (facts.fault.1.1 told_s))
+        (λ told_s told none rows text short calm_disk calm_script. calm_script facts.fault.1.0))
     loaded_of (Err load.Spent) facts says silent line = subst (LoadsOpened TOO_LONG most s.place.layout (sum s.tally.counts) 0 s0 s1 a) (sym (silent refl))
-        (stopped_by load.Spent b facts TOO_LONG (inr (inr refl)) (λ never. tt) (λ e. absurd (omega (arith, e))) (λ e. absurd (omega (arith, e))) (λ e told. (facts.fault.1 told).all) (λ e. facts.fault.0)
+        (stopped_by load.Spent b facts TOO_LONG (inr (inr refl)) (λ never. tt) (λ e. absurd (omega (arith, e))) (λ e. absurd (omega (arith, e))) (λ e told. (facts.fault.1 told).all) (λ e. facts.fault.0) (λ e told_s. cut_early (facts.fault.1 told_s).read)
         (λ told_s told none rows text short calm_disk calm_script. outside load.Spent b facts told_s none rows text short))
 
 -- What the whole job comes to.
@@ -358,12 +366,14 @@ module _ (most : ℕ) (s : SourceView) (a b : View) (law : Lawful a) (ab : Steps
       done = λ e. absurd (other DONE e ((λ x. omega (arith, x)), (λ x. omega (arith, x))));
       whole = λ e. absurd (other DONE e ((λ x. omega (arith, x)), (λ x. omega (arith, x))));
       settled = λ e. absurd (other DONE e ((λ x. omega (arith, x)), (λ x. omega (arith, x))));
+      shut = λ e. absurd (elim e [ inl x ↦ other DONE x ((λ y. omega (arith, y)), (λ y. omega (arith, y))) | inr (inl x) ↦ other SCRIPT_FAULT x ((λ y. omega (arith, y)), (λ y. omega (arith, y))) | inr (inr x) ↦ other TOO_LONG x ((λ y. omega (arith, y)), (λ y. omega (arith, y))) ]);
       kept = λ not_done not_disk nothing. each_opened a ab nothing;
       silent = λ quiet. ab.frame.said;
       refused = λ e. absurd (other REFUSED e ((λ x. omega (arith, x)), (λ x. omega (arith, x))));
       memory = λ e. unopened.memory (memory e);
       takes = λ told. takes_none most s;
       too_long = λ e. absurd (other TOO_LONG e ((λ x. omega (arith, x)), (λ x. omega (arith, x))));
+      early = λ e. absurd (elim e [ inl x ↦ other SCRIPT_FAULT x ((λ y. omega (arith, y)), (λ y. omega (arith, y))) | inr x ↦ other TOO_LONG x ((λ y. omega (arith, y)), (λ y. omega (arith, y))) ]);
       complete = λ told m here calm. inr (inl (ends calm));
       admitted = λ told_s told here rows text short calm calm_script. inr (ends calm);
       written = λ e. absurd (other DONE e ((λ x. omega (arith, x)), (λ x. omega (arith, x))));
@@ -389,12 +399,14 @@ module _ (most : ℕ) (s : SourceView) (a b : View) (law : Lawful a) (ab : Steps
       done = λ e. absurd (omega (arith, e));
       whole = λ e. absurd (omega (arith, e));
       settled = λ e. absurd (omega (arith, e));
+      shut = λ e. absurd (elim e [ inl x ↦ omega (arith, x) | inr (inl x) ↦ omega (arith, x) | inr (inr x) ↦ omega (arith, x) ]);
       kept = λ not_done not_disk nothing. each_says (KeepsMeaning a.held) says (each_opened a ab nothing);
       silent = λ other. absurd (other refl);
       refused = λ e. refused;
       memory = λ e. absurd (omega (arith, e));
       takes = λ told. takes_none most s;
       too_long = λ e. absurd (omega (arith, e));
+      early = λ e. absurd (elim e [ inl x ↦ omega (arith, x) | inr x ↦ omega (arith, x) ]);
       complete = λ told m here. absurd (never told m here);
       admitted = λ told_s told here. absurd (never told empty_map here);
       written = λ e. absurd (omega (arith, e));
@@ -507,8 +519,8 @@ module _ (most : ℕ) (s0 s1 : SourceView) (a b : View) (law : Lawful a) (ab : S
       subst (λ (x : Layout). IsFileLoaded x s0 d.held) (opened.layout told) (loads.loaded e (on told)),
     )
 
-    pub comes_opened : Comes status most s0 s1 a d
-    comes_opened = record {
+    pub comes_opened : StaysShut b d → Comes status most s0 s1 a d
+    comes_opened stays = record {
       status_is = elim loads.status_is [ inl e ↦ inl e | inr (inl e) ↦ inr (inl e) | inr (inr e) ↦ inr (inr (inl e)) ];
       attached = loads.run.attached ∙ ab.frame.attached;
       loaded = record {
@@ -520,12 +532,14 @@ module _ (most : ℕ) (s0 s1 : SourceView) (a b : View) (law : Lawful a) (ab : S
         done = was_loaded;
         whole = loads.whole;
         settled = loads.settled;
+        shut = λ e told. stays.after opened.shut d.held (inl (ap (λ f. f.tells_held) loads.run.fixed ∙ on told, refl));
         kept = λ not_done not_disk nothing image left. keeps_on (keeps_opened (ab.held (told_back image left))) (loads.kept not_done not_disk image left);
         silent = λ other. loads.silent other ∙ ab.frame.said;
         refused = was_refused;
         memory = λ e. absurd (elim loads.status_is [ inl (inl x) ↦ omega (arith, e, x) | inl (inr (inl x)) ↦ omega (arith, e, x) | inl (inr (inr x)) ↦ omega (arith, e, x) | inr (inl x) ↦ omega (arith, e, x) | inr (inr x) ↦ omega (arith, e, x) ]);
         takes = loads.takes;
         too_long = loads.too_long;
+        early = λ e told_s told. subst (λ (x : Layout). IsCutEarly x s0 s1) (opened.layout told) (loads.early e told_s);
         complete = λ told m here calm. elim loads.status_is [
           | inl (inl e) ↦ inl e
           | inl (inr e) ↦ inr (inr (inr (none_is told (loads.cut e) m here, e)))

@@ -42,6 +42,7 @@ loads_refused s a law opened nothing most s0 records same some d says line = rec
   takes = λ told. takes_none most s0;
   too_long = λ e. absurd (omega (arith, e));
   cut = λ e. absurd (elim e [ inl x ↦ omega (arith, x) | inr x ↦ omega (arith, x) ]);
+  early = λ e. absurd (elim e [ inl x ↦ omega (arith, x) | inr x ↦ omega (arith, x) ]);
   admitted = λ told_s told zero. absurd (omega (arith, zero, some, same));
   written = λ e. absurd (omega (arith, e));
   disk = λ e. absurd (omega (arith, e));
@@ -73,6 +74,7 @@ module _ {T : Type 0} {r : Result T StoreFault} (s t : StoreView) (a b : View) (
     takes = λ told. takes_none most s0;
     too_long = λ e. absurd (omega (arith, e));
     cut = λ e. none;
+    early = λ e. absurd (elim e [ inl x ↦ omega (arith, x) | inr x ↦ omega (arith, x) ]);
     admitted = λ told_s told zero rows text short calm. absurd (calm rose);
     written = λ e. absurd (omega (arith, e));
     disk = λ e. rose;
@@ -130,6 +132,7 @@ module _ {T : Type 0} {r : Result T StoreFault} (s t : StoreView) (a b : View) (
       takes = loads.takes;
       too_long = loads.too_long;
       cut = loads.cut;
+      early = loads.early;
       admitted = λ told_s told zero rows text short calm. loads.admitted told_s (told_settled s t a b opened settles told) zero rows text short (λ rose. calm (omega (arith, rose, settles.meant.frame.disk_faults)));
       written = λ e told. omega (arith, loads.written e (told_settled s t a b opened settles told), settles.cost);
       disk = λ e. omega (arith, loads.disk e, settles.meant.frame.disk_faults);

@@ -41,7 +41,7 @@ use Rattle.command_text.specs.declared.reply.Reply.{Reply}
 use Rattle.command_text.specs.declared.reply.Reply.TheVariants as reply
 use Rattle.pma_store.specs.Readying.{clear_cost}
 use Rattle.pma_store.specs.Store.{StoreView, IsOpenOn}
-use Rattle.pma_engine.specs.Closing.{IsButClosed, WritesGate}
+use Rattle.pma_engine.specs.Closing.{IsButClosed, StaysShut, WritesGate}
 use Rattle.pma_engine.specs.Opening.{IsOpened, IsUnopened, Reopens, reopening_cost}
 use Rattle.pma_engine.specs.Refusing.{IsRefusal, SaysLine, line_text, line_of_opening, status_of_opening}
 use Rattle.pma_engine.specs.Upgrading.{IsUpgradeStatus, AnswersUpgrade, IsUpgradeRefused, IsUpgraded, KeepsMeaning, MayUpgrade, next_height, opened_height, UpgradesFile, UpgradesOpened, line_of_upgrade, status_of_upgrade, upgrade_cost, widen_cost}
@@ -300,6 +300,7 @@ module _ (a b : View) (law : Lawful a) (ab : Steps Reopens (attached_by false a)
         kept = λ not_done not_disk told. keeps_opened (ab.held told);
         done = λ e. absurd (other DONE ((λ x. omega (arith, x)), (λ x. omega (arith, x))) e);
         settled = λ e. absurd (other DONE ((λ x. omega (arith, x)), (λ x. omega (arith, x))) e);
+        shut = λ e. absurd (other DONE ((λ x. omega (arith, x)), (λ x. omega (arith, x))) e);
         silent = λ e. ab.frame.said;
         refused = λ e. absurd (other REFUSED ((λ x. omega (arith, x)), (λ x. omega (arith, x))) e);
         memory = λ e. unopened.memory (memory e);
@@ -323,6 +324,7 @@ module _ (a b : View) (law : Lawful a) (ab : Steps Reopens (attached_by false a)
         kept = λ not_done not_disk told. subst (KeepsMeaning a.held) (sym says.held) (keeps_opened (ab.held told));
         done = λ e. absurd (omega (arith, e));
         settled = λ e. absurd (omega (arith, e));
+        shut = λ e. absurd (omega (arith, e));
         silent = λ other. absurd (other refl);
         refused = λ e. refused;
         memory = λ e. absurd (omega (arith, e));
@@ -422,8 +424,8 @@ module _ (a b : View) (law : Lawful a) (ab : Steps Reopens (attached_by false a)
           none_some : {r : Reason} → None ≡ Some r → ⊥
           none_some is = cc
 
-      pub comes_opened : Comes status a d
-      comes_opened = record {
+      pub comes_opened : StaysShut b d → Comes status a d
+      comes_opened stays = record {
         status_is = elim upgrades.status_is [ inl e ↦ inl e | inr (inl e) ↦ inr (inl e) | inr (inr e) ↦ inr (inr (inl e)) ];
         attached = upgrades.run.attached ∙ ab.frame.attached;
         upgraded = record {
@@ -440,6 +442,7 @@ module _ (a b : View) (law : Lawful a) (ab : Steps Reopens (attached_by false a)
           ];
           done = was_upgraded;
           settled = upgrades.settled;
+          shut = λ e told. stays.after opened.shut d.held (inl (ap (λ f. f.tells_held) upgrades.run.fixed ∙ on told, refl));
           silent = λ other. upgrades.silent other ∙ ab.frame.said;
           refused = was_refused;
           memory = λ e. absurd (elim upgrades.status_is [ inl x ↦ omega (arith, e, x) | inr (inl x) ↦ omega (arith, e, x) | inr (inr x) ↦ omega (arith, e, x) ]);

@@ -5,6 +5,7 @@ use Rattle.std.specs.FinMap.{entries}
 use Rattle.station.specs.View.{View, Told, SaidTold, NothingPending, Rose, attached_by}
 use Rattle.station.specs.Steps.{Run}
 use Rattle.header_gate.specs.Header.{layout_in}
+use Rattle.index_file.specs.Clean.{IsShut}
 use Rattle.map_model.specs.Image.{map_of}
 use Rattle.map_model.specs.Store.{Map}
 use Rattle.batch_intent.specs.Means.{MeansMap, meant_map, opening_reason}
@@ -45,6 +46,8 @@ pub record DumpsFile (status : ℕ) (a b : View) : Type 0 where
   pub refused : status ≡ REFUSED → IsRefused a b
   pub memory : status ≡ OUT_OF_MEMORY → IsOutOfMemory (attached_by false a) b
   pub settled : (status ≡ DONE) ⊎ (status ≡ REPLY_FAULT) → NothingPending b
+  -- once the store was open, an index in its file means nothing
+  pub shut : (status ≡ DONE) ⊎ (status ≡ REPLY_FAULT) → Told a → IsShut b.held
   -- of a store: where no call failed, it ends so, or for want of memory
   pub complete : Told a → (m : Map) → MeansMap (layout_in a.held) a.held m → (Rose a.disk_faults b.disk_faults → ⊥) → (Rose a.say_faults b.say_faults → ⊥) → (status ≡ DONE) ⊎ (status ≡ OUT_OF_MEMORY)
   -- nothing is written but by the opening: where it has nothing to do, nothing but the gate of an open index

@@ -1,9 +1,9 @@
 -- What the load of a text into a file comes to.
-use Rattle.std.specs.Prelude.{◌≡◌, ◌⊎◌, ℕ, ◌+◌, ◌*◌, ◌^◌, ◌<◌, ◌≤◌, List, [], false, length, Option, Some, None, Result, Ok, Err}
+use Rattle.std.specs.Prelude.{◌≡◌, ◌⊎◌, ℕ, ◌+◌, ◌*◌, ◌^◌, ◌<◌, ◌≤◌, List, [], ◌++◌, false, length, Option, Some, None, Result, Ok, Err}
 use Rattle.std.specs.FinMap.{from_sorted, len}
 use Rattle.station.specs.View.{View, Told, SaidTold, EachHeld, NothingPending, Rose, attached_by}
 use Rattle.station.specs.Steps.{Run}
-use Rattle.line_source.specs.Lines.{raw_lines}
+use Rattle.line_source.specs.Lines.{complete_lines, raw_lines}
 use Rattle.line_source.specs.SourceView.{SourceView, SourceTold, SourceRose}
 use Rattle.header_gate.specs.InPlace.{IsBare}
 use Rattle.header_gate.specs.Header.{layout_in}
@@ -11,6 +11,7 @@ use Rattle.header_gate.specs.Places.{segment_size}
 use Rattle.header_gate.specs.Recovered.{recovered}
 use Rattle.header_gate.specs.declared.layout.Layout.{Layout}
 use Rattle.header_gate.specs.declared.reason.Reason.{Reason}
+use Rattle.index_file.specs.Clean.{IsShut}
 use Rattle.key_slot.specs.Record.{Record}
 use Rattle.map_model.specs.Array.{spread_over}
 use Rattle.map_model.specs.Holding.{IsBalancedArray}
@@ -19,7 +20,7 @@ use Rattle.map_model.specs.Store.{Map}
 use Rattle.batch_intent.specs.Means.{Means, MeansMap, has_pending, meant_map, opening_reason}
 use Rattle.bulk_load.specs.Loading.{TakesAtMost}
 use Rattle.bulk_load.specs.Loads.{IsLeastHeight, most_records}
-use Rattle.bulk_load.specs.LoadText.{IsLoadText, IsFirstWrong, IsUnfinished, IsOneTooMany}
+use Rattle.bulk_load.specs.LoadText.{IsLoadText, IsOneTooMany, IsRefusedAt, MayGoOn}
 use Rattle.bulk_load.specs.declared.fault.LoadFault.{LoadFault}
 use Rattle.bulk_load.specs.declared.fault.LoadFault.TheVariants as load
 use Rattle.bulk_load.specs.declared.fault.Loaded.{Loaded}
@@ -96,9 +97,9 @@ pub record IsReadWhole (most : ℕ) (s0 s1 : SourceView) : Type 0 where
   pub short : length s0.left < most
 
 -- where the source tells it, line n is the first that no load text can have there, or one more than there are, where the lines
--- end before the one with the number of records
+-- end before the one with the number of records; and before it are no more records than a store of this layout may hold
 abbrev pub IsWrongAt : Layout → SourceView → ℕ → Type 0
-IsWrongAt l s n = SourceTold s → IsFirstWrong l.format (raw_lines s.left) n ⊎ (IsUnfinished l.format (raw_lines s.left) × (n ≡ length (raw_lines s.left) + 1))
+IsWrongAt l s n = SourceTold s → IsRefusedAt l.format (most_records l) (raw_lines s.left) n
 
 -- where the source tells it, a record follows as many as a store of this layout may hold
 abbrev pub IsTooLong : Layout → SourceView → Type 0
@@ -142,6 +143,12 @@ load_cost l height = clear_cost l + text_cost l height
 abbrev pub IsCutText : ℕ → Type 0
 IsCutText status = (status ≡ SCRIPT_FAULT) ⊎ (status ≡ TOO_LONG)
 
+-- the complete lines among the bytes that were taken make no refusal due in a store of this layout
+pub record IsCutEarly (l : Layout) (s0 s1 : SourceView) : Type 0 where
+  pub taken : List ℕ
+  pub is : s0.left ≡ taken ++ s1.left
+  pub lines : MayGoOn l.format (most_records l) (complete_lines taken)
+
 -- `load`, of whose text at most so many bytes are taken
 pub record LoadsFile (status most : ℕ) (s0 s1 : SourceView) (a b : View) : Type 0 where
   -- at every moment and at the return: the map stays, or, where it was empty, it is that of the whole text
@@ -150,6 +157,8 @@ pub record LoadsFile (status most : ℕ) (s0 s1 : SourceView) (a b : View) : Typ
   pub done : status ≡ DONE → Told a → (opening_reason a.held ≡ None) × (meant_map a.held ≡ empty_map) × IsFileLoaded (layout_in a.held) s0 b.held
   pub whole : status ≡ DONE → SourceTold s0 → IsReadWhole most s0 s1
   pub settled : status ≡ DONE → NothingPending b
+  -- done, or cut for the source's sake, it leaves an index that means nothing in a file that has one
+  pub shut : IsRest status → Told a → IsShut b.held
   -- with any other status but that of a disk call which failed, the map stays, in all that a crash may leave then too
   pub kept : (status ≡ DONE → ⊥) → (status ≡ DISK_FAULT → ⊥) → NothingPending a → EachHeld (KeepsMeaning a.held) b
   -- but for a line of refusal nothing is said
@@ -159,6 +168,8 @@ pub record LoadsFile (status most : ℕ) (s0 s1 : SourceView) (a b : View) : Typ
   -- at every status a front of the text was taken, of at most so many bytes
   pub takes : SourceTold s0 → TakesAtMost most s0 s1
   pub too_long : status ≡ TOO_LONG → SourceTold s0 → length s0.left ≡ length s1.left + most
+  -- it ends for the source's sake only where no line that was taken whole is to be refused
+  pub early : IsCutText status → SourceTold s0 → Told a → IsCutEarly (layout_in a.held) s0 s1
   -- of a store: where no disk call failed, it ends so, or for want of memory, or with the one answer that is due, or for the source
   pub complete : Told a → (m : Map) → MeansMap (layout_in a.held) a.held m → (Rose a.disk_faults b.disk_faults → ⊥) →
       (status ≡ DONE) ⊎ ((status ≡ OUT_OF_MEMORY) ⊎ (((status ≡ REFUSED) × ((line : Reply) × IsLoadAnswer a.held s0 s1 line)) ⊎ ((m ≡ empty_map) × IsCutText status)))
@@ -185,6 +196,7 @@ pub record LoadsOpened (status most : ℕ) (l : Layout) (records before : ℕ) (
   pub takes : SourceTold s0 → TakesAtMost most s0 s1
   pub too_long : status ≡ TOO_LONG → SourceTold s0 → length s0.left ≡ length s1.left + most
   pub cut : IsCutText status → records ≡ 0
+  pub early : IsCutText status → SourceTold s0 → IsCutEarly l s0 s1
   pub admitted : SourceTold s0 → Told a → records ≡ 0 → (rows : List Record) → HasText l s0 rows → length s0.left < most →
       (Rose a.disk_faults b.disk_faults → ⊥) → (SourceRose s0 s1 → ⊥) → status ≡ DONE
   pub written : status ≡ DONE → Told a → b.travel.written ≤ a.travel.written + (before + text_cost l (height_of b.held))

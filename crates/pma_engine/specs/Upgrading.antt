@@ -10,6 +10,7 @@ use Rattle.header_gate.specs.Places.{segment_size}
 use Rattle.header_gate.specs.Recovered.{recovered}
 use Rattle.header_gate.specs.declared.layout.Layout.{Layout}
 use Rattle.header_gate.specs.declared.reason.Reason.{Reason}
+use Rattle.index_file.specs.Clean.{IsShut}
 use Rattle.header_gate.specs.declared.reason.Reason.TheVariants.{Format}
 use Rattle.key_slot.specs.Format.{narrow, wide}
 use Rattle.map_model.specs.Array.{resized}
@@ -122,6 +123,8 @@ pub record UpgradesFile (status : ℕ) (a b : View) : Type 0 where
   pub kept : (status ≡ DONE → ⊥) → (status ≡ DISK_FAULT → ⊥) → Told a → KeepsMeaning a.held b.held
   pub done : status ≡ DONE → Told a → IsUpgraded a.held b.held
   pub settled : status ≡ DONE → NothingPending b
+  -- an index in an upgraded file means nothing
+  pub shut : status ≡ DONE → Told a → IsShut b.held
   -- but for a line of refusal nothing is said
   pub silent : (status ≡ REFUSED → ⊥) → b.said ≡ a.said
   pub refused : status ≡ REFUSED → IsUpgradeRefused a b

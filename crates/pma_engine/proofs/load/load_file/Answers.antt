@@ -36,7 +36,7 @@ returns-in-Ok g c =
     let law_b = g.met.S.Station.lawful c.open_file.new.station in
     let on : Told b → Told d = λ told. ap (λ (f : Fixed). f.tells_held) (c.load_opened.ensures.loads.run.fixed) ∙ told in
     let comes : Comes c.load_opened.result c.args.most s0 s1 a d =
-    comes_opened c.args.most s0 s1 a b law c.open_file.ensures.steps c.in-Ok.store c.in-Ok.ensures.opened c.load_opened.result d c.load_opened.ensures.loads in
+    comes_opened c.args.most s0 s1 a b law c.open_file.ensures.steps c.in-Ok.store c.in-Ok.ensures.opened c.load_opened.result d c.load_opened.ensures.loads c.load_opened.ensures.shut in
     record {
       status = comes.status_is;
       attached = comes.attached;

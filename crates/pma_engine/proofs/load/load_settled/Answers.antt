@@ -45,8 +45,8 @@ returns g c =
     let laws : Laws = record {
       text = c.texts_are_read_by_lines.ensures.text;
       few = c.texts_are_read_by_lines.ensures.few;
-      wrong_is = c.texts_are_read_by_lines.ensures.wrong;
-      unfinished = c.texts_are_read_by_lines.ensures.unfinished;
+      refused = c.texts_are_read_by_lines.ensures.refused;
+      going = c.texts_are_read_by_lines.ensures.going;
       full_is = c.texts_are_read_by_lines.ensures.full;
       admitted = c.admitted_texts_are_loaded.ensures;
     } in

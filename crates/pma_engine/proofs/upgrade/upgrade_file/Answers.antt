@@ -23,7 +23,7 @@ returns-in-Ok g c =
     let law_b = g.met.S.Station.lawful c.open_file.new.station in
     let on : Told b → Told d = λ told. ap (λ (f : Fixed). f.tells_held) (c.upgrade_opened.ensures.upgrades.run.fixed) ∙ told in
     let comes : Comes c.upgrade_opened.result a d =
-    comes_opened a b (g.met.S.Station.lawful c.args.station.now) c.open_file.ensures.steps c.in-Ok.store c.in-Ok.ensures.opened c.upgrade_opened.result d c.upgrade_opened.ensures.upgrades in
+    comes_opened a b (g.met.S.Station.lawful c.args.station.now) c.open_file.ensures.steps c.in-Ok.store c.in-Ok.ensures.opened c.upgrade_opened.result d c.upgrade_opened.ensures.upgrades c.upgrade_opened.ensures.shut in
     record { status = comes.status_is; attached = comes.attached; clean = clean_opened a b d (g.met.S.Station.lawful c.args.station.now) law_b c.open_file.ensures.steps c.open_file.ensures.clean c.in-Ok.ensures.settled (keeps_staying on c.in-Ok.ensures.opened.shut (c.upgrade_opened.ensures.shut)); upgraded = comes.upgraded; disk = comes.disk }
 
 pub upgrade_opened-requires-clause-nothing : goal.upgrade_opened-requires-clause-nothing
