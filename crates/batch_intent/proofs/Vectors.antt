@@ -1,6 +1,7 @@
 -- Worked intents.
 use Rattle.std.proofs.Common.{◌≡◌, ℕ, zero, suc, cond, nat_lt, true, false, List, [], ◌∷◌, ◌++◌, replicate, Option, Some, None, refl}
 use Rattle.std.specs.List.{flat_map, range_with_len}
+use Rattle.std.specs.Option.{option_map}
 use Rattle.std.specs.FinMap.{len, contains_key}
 use Rattle.key_slot.specs.Record.{Bytes}
 use Rattle.key_slot.specs.Format.{narrow, wide}
@@ -9,7 +10,7 @@ use Rattle.header_gate.specs.declared.layout.Layout.{Layout}
 use Rattle.header_gate.specs.declared.reason.Reason.{Reason}
 use Rattle.header_gate.specs.declared.reason.Reason.TheVariants.{Intent}
 use Rattle.map_model.specs.Store.{Map, Update, bind, unbind, map_after, effect_by}
-use Rattle.map_model.specs.Items.{first_full, first_full_from, is_full}
+use Rattle.map_model.specs.Items.{first_full, is_full}
 use Rattle.map_model.proofs.Resuming.{removal_fits}
 use Rattle.batch_intent.specs.declared.intent.IntentFault.TheVariants.{TooMany, Repeated}
 use Rattle.batch_intent.specs.Spelling.{intent_bytes, items_in, fits_item}
@@ -121,11 +122,11 @@ put_x = bind (0x78 ∷ []) []
 
 pub full_for_x : (m : Map) → contains_key m (0x78 ∷ []) ≡ false → len m ≡ 64 → full_reason (intent_bytes (put_x ∷ [])) (first_full 0 m (put_x ∷ [])) ≡ Some (Intent 3585)
 full_for_x m absent count =
-    (λ t. full_reason (intent_bytes (put_x ∷ [])) (cond (is_full (effect_by (absent t) (nat_lt (count t) (upper_of 0)) put_x)) (Some 0) (first_full_from 0 (map_after 0 m put_x) 1 [])))
+    (λ t. full_reason (intent_bytes (put_x ∷ [])) (cond (is_full (effect_by (absent t) (nat_lt (count t) (upper_of 0)) put_x)) (Some 0) None))
 
 pub one_for_another : (m : Map) (key : Bytes) → len (map_after 0 m (unbind key)) ≡ 63 → contains_key (map_after 0 m (unbind key)) (0x78 ∷ []) ≡ false → first_full 0 m (unbind key ∷ put_x ∷ []) ≡ None
 one_for_another m key count absent =
-    (λ t. cond (removal_fits key (contains_key m key) (nat_lt (len m) (upper_of 0)) t) (Some 0) (cond (is_full (effect_by (absent t) (nat_lt (count t) (upper_of 0)) put_x)) (Some 1) (first_full_from 0 (map_after 0 (map_after 0 m (unbind key)) put_x) 2 [])))
+    (λ t. cond (removal_fits key (contains_key m key) (nat_lt (len m) (upper_of 0)) t) (Some 0) (option_map (λ i. suc i) (cond (is_full (effect_by (absent t) (nat_lt (count t) (upper_of 0)) put_x)) (Some 0) None)))
 
 -- A gate byte of 3 is odd; at version 1 it means nothing.
 

@@ -1,8 +1,9 @@
 -- What whole batches are answered, and what a session is charged for one, as they are known from outside.
-use Rattle.std.proofs.Common.{◌≡◌, ℕ, ◌+◌, false, cond, nat_lt, List, [], ◌∷◌, Some, None, Option, is_none, is_some, map, length, refl, ap, ◌∙◌}
+use Rattle.std.proofs.Common.{◌≡◌, ℕ, suc, ◌+◌, false, cond, nat_lt, List, [], ◌∷◌, Some, None, Option, is_none, is_some, map, length, refl, ap, ◌∙◌}
 use Rattle.std.specs.Prelude.{codes}
 use Rattle.std.specs.FinMap.{empty, contains_key, insert, len, get-empty, get-insert, len-empty, len-insert}
 use Rattle.std.specs.Cmp.Lexicographic.{nat_list_cmp_total}
+use Rattle.std.specs.Option.{option_map}
 use Rattle.percent_encoding.specs.Percent.{percent_decode}
 use Rattle.key_slot.specs.Format.{narrow}
 use Rattle.key_slot.specs.Record.{Bytes, key_cmp}
@@ -13,9 +14,9 @@ use Rattle.map_model.specs.Array.{Array, spread, spread_over, segment_for}
 use Rattle.map_model.specs.ArrayState.{ArrayState}
 use Rattle.map_model.specs.ArrayUpdates.{broken_for, ready_for, array_after}
 use Rattle.map_model.specs.Charges.{charge_after}
-use Rattle.map_model.specs.Items.{no_items, count_items, charge_after_items, first_full, first_full_from, meets_full, is_full}
+use Rattle.map_model.specs.Items.{no_items, count_items, charge_after_items, first_full, is_full}
 use Rattle.map_model.specs.Store.{Map, State, Update, bind, unbind, map_after, height_after, effect_by, effect_map, effect_height}
-use Rattle.map_model.proofs.Resuming.{removal_fits}
+use Rattle.map_model.proofs.Resuming.{meets_full, removal_fits}
 use Rattle.cost_ledger.specs.Ledger.{LedgerView, empty_ledger, noted, cost_of}
 use Rattle.command_text.specs.Answers.{map_answers, batch_or_full}
 use Rattle.command_text.specs.Script.{commands_of}
@@ -58,7 +59,7 @@ module _ (m : Map) (no_x : contains_key m (codes "x") ≡ false) (no_y : contain
   then_64 = ap len with_x ∙ len-insert nat_list_cmp_total m (codes "x") [] ∙ (λ t. cond (no_x t) (count t) (count t + 1))
 
   second_is_full : first_full 0 m (put_x ∷ put_y ∷ []) ≡ Some 1
-  second_is_full = (λ t. cond (room_for_x t) (Some 0) (cond (is_full (effect_by (still_no_y t) (nat_lt (then_64 t) (upper_of 0)) put_y)) (Some 1) (first_full_from 0 (map_after 0 (map_after 0 m put_x) put_y) 2 [])))
+  second_is_full = (λ t. cond (room_for_x t) (Some 0) (option_map (λ i. suc i) (cond (is_full (effect_by (still_no_y t) (nat_lt (then_64 t) (upper_of 0)) put_y)) (Some 0) None)))
 
   full_batch : map_answers (of_version 2) (record { map = m; height = 0 }) (Batch (put_x ∷ put_y ∷ [])) ≡ reply.Full 64 ∷ []
   full_batch = ap (λ (i : Option ℕ). batch_or_full 64 (count_items 0 m (put_x ∷ put_y ∷ []) no_items) i ∷ []) second_is_full
@@ -107,8 +108,8 @@ admitted : first_full 0 nothing items ≡ None
 admitted =
     let third = map_after 0 (map_after 0 nothing put_a) put_b in
     (λ t. cond (is_full (effect_by (no_key (codes "a") t) (nat_lt (none t) (upper_of 0)) put_a)) (Some 0)
-    (cond (is_full (effect_by (still_no_b t) (nat_lt (one t) (upper_of 0)) put_b)) (Some 1)
-    (cond (removal_fits (codes "c") (contains_key third (codes "c")) (nat_lt (len third) (upper_of 0)) t) (Some 2) None)))
+    (option_map (λ i. suc i) (cond (is_full (effect_by (still_no_b t) (nat_lt (one t) (upper_of 0)) put_b)) (Some 0)
+    (option_map (λ i. suc i) (cond (removal_fits (codes "c") (contains_key third (codes "c")) (nat_lt (len third) (upper_of 0)) t) (Some 0) None)))))
 
 low : height_after 0 0 nothing put_a ≡ 0
 low = (λ t. effect_height (effect_by (no_key (codes "a") t) (nat_lt (none t) (upper_of 0)) put_a) 0 (none t))

@@ -8,7 +8,7 @@ use Rattle.header_gate.specs.declared.layout.Layout.{Layout}
 use Rattle.header_gate.specs.declared.layout.TheConstants.{INTENT_VERSION}
 use Rattle.header_gate.specs.Places.{height_limit}
 use Rattle.map_model.specs.ArrayState.{plain}
-use Rattle.map_model.specs.Cursors.{most_cursors, next_in, prev_in}
+use Rattle.map_model.specs.Cursors.{most_cursors, onward, back, step_in}
 use Rattle.map_model.specs.Items.{ItemCounts, no_items, count_items, first_full}
 use Rattle.map_model.specs.Scan.{scanned}
 use Rattle.map_model.specs.Store.{bind, unbind, Effect, Replaces, Adds, FindsFull, Takes, FindsNone, effect_of}
@@ -72,8 +72,8 @@ answers_are l x command.Check = refl
 answers_are l x (command.Probe key block) = let p = probe_in x.store key block in (p.segment, p.nodes, p.blocks, p.bound, refl)
 answers_are l x command.Cost = let c = cost_of x.ledger in (c.updates, c.charge, c.bound, refl)
 answers_are l x (command.Open name low high) = one_line (three_bodies (contains_key x.cursors name) (nat_lt (len x.cursors) most_cursors) reply.CursorOpen reply.Opened reply.NoRoom)
-answers_are l x (command.Next name) = one_line (next_is (next_in x.store.map x.cursors name))
-answers_are l x (command.Prev name) = one_line (next_is (prev_in x.store.map x.cursors name))
+answers_are l x (command.Next name) = one_line (next_is (step_in onward x.store.map x.cursors name))
+answers_are l x (command.Prev name) = one_line (next_is (step_in back x.store.map x.cursors name))
 answers_are l x (command.Close name) = one_line (either_body (contains_key x.cursors name) reply.Closed reply.NoCursor)
 answers_are l x command.OversizedKey = refl
 answers_are l x command.OversizedValue = refl

@@ -8,7 +8,7 @@ use Rattle.density_rule.specs.Bounds.{upper_of}
 use Rattle.header_gate.specs.declared.layout.Layout.{Layout}
 use Rattle.header_gate.specs.declared.layout.TheConstants.{INTENT_VERSION}
 use Rattle.header_gate.specs.Places.{height_limit}
-use Rattle.map_model.specs.Cursors.{Cursors, most_cursors, next_in, prev_in}
+use Rattle.map_model.specs.Cursors.{Cursors, most_cursors, onward, back, step_in}
 use Rattle.map_model.specs.Items.{accepts, no_items, count_items}
 use Rattle.map_model.specs.Scan.{scanned}
 use Rattle.map_model.specs.Store.{State, bind, unbind, Effect, Replaces, Adds, FindsFull, Takes, FindsNone, effect_of}
@@ -76,8 +76,8 @@ bodies l s k (command.Get key) = get_body (get s.map key) ∷ []
 bodies l s k (command.Range low high limit) = let rows = scanned low high limit (entries s.map) in map row_body rows ++ (codes "end " ++ decimal (length rows)) ∷ []
 bodies l s k command.Check = (codes "check ok records=" ++ decimal (len s.map) ++ codes " height=" ++ decimal s.height) ∷ []
 bodies l s k (command.Open name low high) = (if contains_key k name then codes "cursor open" else (if nat_lt (len k) most_cursors then codes "opened" else codes "no room " ++ decimal most_cursors)) ∷ []
-bodies l s k (command.Next name) = next_body (next_in s.map k name) ∷ []
-bodies l s k (command.Prev name) = next_body (prev_in s.map k name) ∷ []
+bodies l s k (command.Next name) = next_body (step_in onward s.map k name) ∷ []
+bodies l s k (command.Prev name) = next_body (step_in back s.map k name) ∷ []
 bodies l s k (command.Close name) = (if contains_key k name then codes "closed" else codes "no cursor") ∷ []
 bodies l s k command.OversizedKey = (codes "oversized key " ++ decimal (key_room l.format)) ∷ []
 bodies l s k command.OversizedValue = (codes "oversized value " ++ decimal (value_room l.format)) ∷ []

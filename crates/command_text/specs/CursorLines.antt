@@ -2,7 +2,7 @@
 use Rattle.std.specs.Prelude.{nat_lt, if◌then◌else◌, Option, Some, None}
 use Rattle.std.specs.FinMap.{contains_key, remove, len}
 use Rattle.key_slot.specs.Record.{Bytes, Record}
-use Rattle.map_model.specs.Cursors.{Cursors, most_cursors, after_open, after_next, after_prev}
+use Rattle.map_model.specs.Cursors.{Cursors, most_cursors, after_open, onward, back, after_step}
 use Rattle.map_model.specs.Store.{Map}
 use Rattle.command_text.specs.Answers.{row_line}
 use Rattle.command_text.specs.declared.command.Command.{Command}
@@ -27,7 +27,7 @@ close_line c name = if contains_key c name then reply.Closed else reply.NoCursor
 -- the cursors after a command, which finds this map
 abbrev pub cursors_after : Map → Cursors → Command → Cursors
 cursors_after m c (command.Open name low high) = after_open c name low high
-cursors_after m c (command.Next name) = after_next m c name
-cursors_after m c (command.Prev name) = after_prev m c name
+cursors_after m c (command.Next name) = after_step onward m c name
+cursors_after m c (command.Prev name) = after_step back m c name
 cursors_after m c (command.Close name) = remove c name
 cursors_after m c _ = c

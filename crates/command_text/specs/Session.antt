@@ -6,7 +6,7 @@ use Rattle.key_slot.specs.Record.{Bytes}
 use Rattle.header_gate.specs.declared.layout.Layout.{Layout}
 use Rattle.map_model.specs.Array.{counts_of}
 use Rattle.map_model.specs.ArrayState.{ArrayState}
-use Rattle.map_model.specs.Cursors.{Cursors, next_in, prev_in}
+use Rattle.map_model.specs.Cursors.{Cursors, onward, back, step_in}
 use Rattle.cost_ledger.specs.Ledger.{LedgerView, empty_ledger, noted, ledger_bound, cost_of}
 use Rattle.cost_ledger.specs.Potential.{potential}
 use Rattle.command_text.specs.Answers.{answers}
@@ -39,8 +39,8 @@ session_step l x c = record { store = array_step l x.store c; cursors = cursors_
 abbrev pub session_answers : Layout → Session → Command → List Reply
 session_answers l x command.Cost = reply.Cost (cost_of x.ledger) ∷ []
 session_answers l x (command.Open name low high) = open_line x.cursors name ∷ []
-session_answers l x (command.Next name) = next_line (next_in x.store.map x.cursors name) ∷ []
-session_answers l x (command.Prev name) = next_line (prev_in x.store.map x.cursors name) ∷ []
+session_answers l x (command.Next name) = next_line (step_in onward x.store.map x.cursors name) ∷ []
+session_answers l x (command.Prev name) = next_line (step_in back x.store.map x.cursors name) ∷ []
 session_answers l x (command.Close name) = close_line x.cursors name ∷ []
 session_answers l x c = answers l x.store c
 

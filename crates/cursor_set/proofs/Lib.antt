@@ -6,3 +6,4 @@ pub mod Lives
 pub mod Moving
 pub mod Opening
 pub mod Vectors
+pub mod Stepped

@@ -11,14 +11,15 @@ use Rattle.std.specs.Cmp.Lexicographic.{nat_list_cmp_total}
 use Rattle.std.specs.FinMap.{get, insert, remove, contains_key, len, get-insert, get-remove, slice_cmp-IsAntisymmetric, nat_cmp-IsAntisymmetric}
 use Rattle.key_slot.specs.Record.{Bytes, Record, key_cmp}
 use Rattle.map_model.specs.Store.{Map}
-use Rattle.map_model.specs.Cursors.{Cursor, Cursors, behind, has_room, after_open, moved, moved_if, most_cursors}
+use Rattle.map_model.specs.Cursors.{Cursor, Cursors, after_open, moved, most_cursors, Way, onward, back}
 use Rattle.header_gate.specs.declared.layout.Layout.{Layout}
 use Rattle.command_text.specs.CursorLines.{next_line}
 use Rattle.command_text.specs.Session.{Session, session_step}
 use Rattle.command_text.specs.declared.command.Command.{Command}
 use Rattle.command_text.specs.declared.command.Command.TheVariants as command
 use Rattle.cursor_set.specs.Lives.{way_by, gift_line, gifts_if, gifts_by, IsOpen}
-use Rattle.cursor_set.specs.Ways.{Way, onward, back, step_of}
+use Rattle.cursor_set.specs.Ways.{step_of}
+use Rattle.cursor_set.proofs.Stepped.{behind, moved_if}
 use Rattle.cursor_set.proofs.Lives.{Moves, stays, gives}
 
 order : IsTotalOrder key_cmp
@@ -54,18 +55,22 @@ module _ (name : Bytes) (m : Map) (c : Cursors) (k : Cursor) (is : get c name �
 
   -- an opening leaves it
   open_leaves : (other : Bytes) (low high : Option Bytes) → get (after_open c other low high) name ≡ Some k
-  open_leaves other low high = by_room (has_room c other) refl
+  open_leaves other low high = by_used (contains_key c other) refl
     where
       fresh : Cursor
       fresh = record { low = low; high = high; past = None }
 
-      by_tie : (b : Bool) → eq_by_cmp key_cmp name other ≡ b → has_room c other ≡ true → cond b (Some fresh) (get c name) ≡ Some k
-      by_tie false tie room = is
-      by_tie true tie room = absurd (true≢false (sym room ∙ ap (λ (b : Bool). cond b false (nat_lt (len c) most_cursors)) (ap (contains_key c) (sym (same_key name other tie)) ∙ here)))
+      by_tie : (b : Bool) → eq_by_cmp key_cmp name other ≡ b → contains_key c other ≡ false → cond b (Some fresh) (get c name) ≡ Some k
+      by_tie false tie unused = is
+      by_tie true tie unused = absurd (true≢false (sym here ∙ ap (contains_key c) (same_key name other tie) ∙ unused))
 
-      by_room : (b : Bool) → has_room c other ≡ b → get (cond b (insert c other fresh) c) name ≡ Some k
-      by_room false room = is
-      by_room true room = get-insert order c other fresh name ∙ by_tie (eq_by_cmp key_cmp name other) refl room
+      by_room : (b : Bool) → contains_key c other ≡ false → get (cond b (insert c other fresh) c) name ≡ Some k
+      by_room false unused = is
+      by_room true unused = get-insert order c other fresh name ∙ by_tie (eq_by_cmp key_cmp name other) refl unused
+
+      by_used : (b : Bool) → contains_key c other ≡ b → get (cond b c (cond (nat_lt (len c) most_cursors) (insert c other fresh) c)) name ≡ Some k
+      by_used true used = is
+      by_used false unused = by_room (nat_lt (len c) most_cursors) unused
 
   -- a step of another leaves it
   step_leaves : (gives_of : Cursor → Option Record) (other : Bytes) → eq_by_cmp key_cmp name other ≡ false → get (moved_if gives_of c other (get c other)) name ≡ Some k

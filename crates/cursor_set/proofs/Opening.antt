@@ -4,8 +4,8 @@ use Rattle.std.specs.Option.{option_map}
 use Rattle.std.specs.FinMap.{get, insert, contains_key, len, is_sorted}
 use Rattle.key_slot.specs.Record.{Bytes, Record, IsAscending}
 use Rattle.map_model.specs.Scan.{is_within}
-use Rattle.map_model.specs.Cursors.{Cursor, Cursors, next_of, prev_of, has_room, after_open, most_cursors}
-use Rattle.cursor_set.specs.Ways.{Way, onward, back, order_of, step_command, step_of, is_beyond, IsDescending, NoneBeyond}
+use Rattle.map_model.specs.Cursors.{Cursor, Cursors, after_open, most_cursors, Way, onward, back, is_beyond}
+use Rattle.cursor_set.specs.Ways.{order_of, step_command, step_of, IsDescending, NoneBeyond}
 use Rattle.cursor_set.proofs.Ahead.{step_none}
 use Rattle.header_gate.specs.declared.layout.Layout.{Layout}
 use Rattle.command_text.specs.CursorLines.{open_line, next_line}
@@ -17,20 +17,20 @@ use Rattle.cursor_set.proofs.Lives.{all_found, all_in_order, all_within, cursor_
 use Rattle.cursor_set.proofs.Moving.{inserted, moves_of}
 
 -- where an opening is answered so, there was room
-room_of : (c : Cursors) (name : Bytes) → open_line c name ∷ [] ≡ reply.Opened ∷ [] → has_room c name ≡ true
+room_of : (c : Cursors) (name : Bytes) → open_line c name ∷ [] ≡ reply.Opened ∷ [] → (contains_key c name ≡ false) × (nat_lt (len c) most_cursors ≡ true)
 room_of c name is = by_tests (contains_key c name) (nat_lt (len c) most_cursors) is
   where
-    by_tests : (b d : Bool) → cond b reply.CursorOpen (cond d reply.Opened reply.NoRoom) ∷ [] ≡ reply.Opened ∷ [] → cond b false d ≡ true
-    by_tests true d e = cc
-    by_tests false true e = refl
-    by_tests false false e = cc
+    by_tests : (b d : Bool) → cond b reply.CursorOpen (cond d reply.Opened reply.NoRoom) ∷ [] ≡ reply.Opened ∷ [] → (b ≡ false) × (d ≡ true)
+    by_tests true d e = absurd (cc)
+    by_tests false true e = (refl, refl)
+    by_tests false false e = absurd (cc)
 
 -- the cursor that is opened
 abbrev pub fresh : Option Bytes → Option Bytes → Cursor
 fresh low high = record { low = low; high = high; past = None }
 
-opened_there : (c : Cursors) (name : Bytes) (low high : Option Bytes) → has_room c name ≡ true → get (after_open c name low high) name ≡ Some (fresh low high)
-opened_there c name low high room = ap (λ (b : Bool). get (cond b (insert c name (fresh low high)) c) name) room ∙ inserted c name (fresh low high)
+opened_there : (c : Cursors) (name : Bytes) (low high : Option Bytes) → (contains_key c name ≡ false) × (nat_lt (len c) most_cursors ≡ true) → get (after_open c name low high) name ≡ Some (fresh low high)
+opened_there c name low high room = (λ i. get (cond (room.0 i) c (cond (room.1 i) (insert c name (fresh low high)) c)) name) ∙ inserted c name (fresh low high)
 
 -- where it says its end, it gives no record
 none_given : (gives : Cursor → Option Record) (c : Cursors) (name : Bytes) (j : Cursor) → get c name ≡ Some j → next_line (option_map gives (get c name)) ∷ [] ≡ reply.CursorEnd ∷ [] → gives j ≡ None
@@ -41,8 +41,8 @@ none_given gives c name j is said = by_step (gives j) (ap (λ (o : Option Cursor
     by_step (Some r) e = cc
 
 none_step : (way : Way) (l : Layout) (x : Session) (name : Bytes) (j : Cursor) → get x.cursors name ≡ Some j → session_answers l x (step_command way name) ≡ reply.CursorEnd ∷ [] → step_of way x.store.map j ≡ None
-none_step onward l x name j is said = none_given (next_of x.store.map) x.cursors name j is said
-none_step back l x name j is said = none_given (prev_of x.store.map) x.cursors name j is said
+none_step onward l x name j is said = none_given (step_of onward x.store.map) x.cursors name j is said
+none_step back l x name j is said = none_given (step_of back x.store.map) x.cursors name j is said
 
 module _ (name : Bytes) (low high : Option Bytes) (l : Layout) (s : Session) (cs : List Command) (stay : StaysOpen name low high l s cs) where
   there : get (opened name low high l s).cursors name ≡ Some (fresh low high)

@@ -2,10 +2,10 @@
 use Rattle.std.proofs.Common.{◌≡◌, ℕ, Bool, true, false, cond, List, [], ◌∷◌, ◌++◌, map, Option, Some, None, option_map, nat_lt, refl, ap}
 use Rattle.std.specs.Option.{option_to_list}
 use Rattle.std.specs.List.{range_with_len}
-use Rattle.std.specs.FinMap.{put, contains_key, get, len}
+use Rattle.std.specs.FinMap.{put, contains_key, entries, get, len}
 use Rattle.key_slot.specs.Record.{Bytes, Record, key_cmp}
 use Rattle.key_slot.specs.Ordered.{without}
-use Rattle.map_model.specs.Cursors.{Cursor, Cursors, first_ahead, last_behind, next_of, next_in, prev_of, prev_in, most_cursors}
+use Rattle.map_model.specs.Cursors.{Cursors, Way, onward, back, record_ahead, step_in, most_cursors}
 use Rattle.map_model.specs.Store.{Map}
 use Rattle.command_text.specs.CursorLines.{open_line, next_line}
 use Rattle.command_text.specs.declared.reply.Reply.TheVariants as reply
@@ -32,6 +32,10 @@ d = codes "d"
 abbrev bare : Bytes → Record
 bare key = (key, [])
 
+-- what a cursor with these bounds gives behind a key
+abbrev gives : Way → Option Bytes → Option Bytes → Option Bytes → List Record → Option Record
+gives way low past high records = record_ahead way (record { low = low; high = high; past = past }) records
+
 -- A cursor without bounds over a, b, c and d. It gives a; b is removed and bb put, and it gives bb; a0 is put behind it, and it
 -- gives c, d, and its end.
 abbrev at_first : List Record
@@ -43,56 +47,56 @@ then_bb = put key_cmp bb [] (without key_cmp b at_first)
 abbrev then_a0 : List Record
 then_a0 = put key_cmp a0 [] then_bb
 
-pub gives_a : first_ahead None None None at_first ≡ Some (bare a)
+pub gives_a : gives onward None None None at_first ≡ Some (bare a)
 gives_a = refl
 
-pub gives_bb : first_ahead None (Some a) None then_bb ≡ Some (bare bb)
+pub gives_bb : gives onward None (Some a) None then_bb ≡ Some (bare bb)
 gives_bb = refl
 
-pub gives_c : first_ahead None (Some bb) None then_a0 ≡ Some (bare c)
+pub gives_c : gives onward None (Some bb) None then_a0 ≡ Some (bare c)
 gives_c = refl
 
-pub gives_d : first_ahead None (Some c) None then_a0 ≡ Some (bare d)
+pub gives_d : gives onward None (Some c) None then_a0 ≡ Some (bare d)
 gives_d = refl
 
-pub gives_end : first_ahead None (Some d) None then_a0 ≡ None
+pub gives_end : gives onward None (Some d) None then_a0 ≡ None
 gives_end = refl
 
 -- bounds: the lower one is included, the upper one isn't
-pub gives_from_b : first_ahead (Some b) None (Some d) at_first ≡ Some (bare b)
+pub gives_from_b : gives onward (Some b) None (Some d) at_first ≡ Some (bare b)
 gives_from_b = refl
 
-pub gives_below_d : first_ahead (Some b) (Some c) (Some d) at_first ≡ None
+pub gives_below_d : gives onward (Some b) (Some c) (Some d) at_first ≡ None
 gives_below_d = refl
 
 -- Going back, a cursor without bounds begins behind d, and gives d and c. On it goes to d, and back to c; b is removed, and it
 -- gives a, and its end.
-pub back_gives_d : last_behind None None None at_first ≡ Some (bare d)
+pub back_gives_d : gives back None None None at_first ≡ Some (bare d)
 back_gives_d = refl
 
-pub back_gives_c : last_behind None (Some d) None at_first ≡ Some (bare c)
+pub back_gives_c : gives back None (Some d) None at_first ≡ Some (bare c)
 back_gives_c = refl
 
-pub then_gives_d : first_ahead None (Some c) None at_first ≡ Some (bare d)
+pub then_gives_d : gives onward None (Some c) None at_first ≡ Some (bare d)
 then_gives_d = refl
 
-pub back_gives_a : last_behind None (Some c) None (without key_cmp b at_first) ≡ Some (bare a)
+pub back_gives_a : gives back None (Some c) None (without key_cmp b at_first) ≡ Some (bare a)
 back_gives_a = refl
 
-pub back_gives_end : last_behind None (Some a) None (without key_cmp b at_first) ≡ None
+pub back_gives_end : gives back None (Some a) None (without key_cmp b at_first) ≡ None
 back_gives_end = refl
 
 -- bounds: the upper one isn't included, the lower one is; the last key may lie beyond a bound
-pub back_gives_below_d : last_behind (Some b) None (Some d) at_first ≡ Some (bare c)
+pub back_gives_below_d : gives back (Some b) None (Some d) at_first ≡ Some (bare c)
 back_gives_below_d = refl
 
-pub back_gives_from_b : last_behind (Some b) (Some c) (Some d) at_first ≡ Some (bare b)
+pub back_gives_from_b : gives back (Some b) (Some c) (Some d) at_first ≡ Some (bare b)
 back_gives_from_b = refl
 
-pub back_gives_none_below_b : last_behind (Some b) (Some b) (Some d) at_first ≡ None
+pub back_gives_none_below_b : gives back (Some b) (Some b) (Some d) at_first ≡ None
 back_gives_none_below_b = refl
 
-pub back_gives_below_high : last_behind None (Some (codes "e")) (Some d) at_first ≡ Some (bare c)
+pub back_gives_below_high : gives back None (Some (codes "e")) (Some d) at_first ≡ Some (bare c)
 back_gives_below_high = refl
 
 -- A cursor over a to e gives a; a batch removes b, puts cc and removes e, and it gives c, cc, d, and its end.
@@ -102,16 +106,16 @@ to_e = map bare (a ∷ b ∷ c ∷ d ∷ codes "e" ∷ [])
 abbrev then_batch : List Record
 then_batch = without key_cmp (codes "e") (put key_cmp (codes "cc") [] (without key_cmp b to_e))
 
-pub batch_gives_c : first_ahead None (Some a) None then_batch ≡ Some (bare c)
+pub batch_gives_c : gives onward None (Some a) None then_batch ≡ Some (bare c)
 batch_gives_c = refl
 
-pub batch_gives_cc : first_ahead None (Some c) None then_batch ≡ Some (bare (codes "cc"))
+pub batch_gives_cc : gives onward None (Some c) None then_batch ≡ Some (bare (codes "cc"))
 batch_gives_cc = refl
 
-pub batch_gives_d : first_ahead None (Some (codes "cc")) None then_batch ≡ Some (bare d)
+pub batch_gives_d : gives onward None (Some (codes "cc")) None then_batch ≡ Some (bare d)
 batch_gives_d = refl
 
-pub batch_gives_end : first_ahead None (Some d) None then_batch ≡ None
+pub batch_gives_end : gives onward None (Some d) None then_batch ≡ None
 batch_gives_end = refl
 
 -- A cursor over keys 1 to 65, which goes on once behind each of the puts of 66 to 127, gives 1 to 62.
@@ -122,7 +126,7 @@ abbrev walk : List ℕ → Option Bytes → List Record → List Record
 walk [] past records = []
 walk (n ∷ ns) past records =
     let more = put key_cmp (n ∷ []) [] records in
-    let next = first_ahead None past None more in
+    let next = gives onward None past None more in
     option_to_list next ++ walk ns (option_map (λ (r : Record). r.0) next) more
 
 pub gives_62 : walk (range_with_len 66 62) None (map keyed (range_with_len 1 65)) ≡ map keyed (range_with_len 1 62)
@@ -133,7 +137,7 @@ abbrev walk_back : List ℕ → Option Bytes → List Record → List Record
 walk_back [] past records = []
 walk_back (n ∷ ns) past records =
     let more = put key_cmp (n ∷ []) [] records in
-    let prev = last_behind None past None more in
+    let prev = gives back None past None more in
     option_to_list prev ++ walk_back ns (option_map (λ (r : Record). r.0) prev) more
 
 pub gives_back : walk_back (range_with_len 1 5) None (map keyed (range_with_len 10 5)) ≡ map keyed (14 ∷ 13 ∷ 12 ∷ 11 ∷ 10 ∷ [])
@@ -150,8 +154,5 @@ module _ (cs : Cursors) (name : Bytes) where
   taken there = ap (λ (t : Bool). cond t reply.CursorOpen (cond (nat_lt (len cs) most_cursors) reply.Opened reply.NoRoom)) there
 
   -- behind its end there is no cursor
-  pub no_cursor : (m : Map) → get cs name ≡ None → next_line (next_in m cs name) ≡ reply.NoCursor
-  no_cursor m none = ap (λ (k : Option Cursor). next_line (option_map (next_of m) k)) none
-
-  pub no_cursor_back : (m : Map) → get cs name ≡ None → next_line (prev_in m cs name) ≡ reply.NoCursor
-  no_cursor_back m none = ap (λ (k : Option Cursor). next_line (option_map (prev_of m) k)) none
+  pub no_cursor : (way : Way) (m : Map) → get cs name ≡ None → next_line (step_in way m cs name) ≡ reply.NoCursor
+  no_cursor way m none = ap (λ k. next_line (option_map (λ j. record_ahead way j (entries m)) k)) none

@@ -13,7 +13,8 @@ use Rattle.command_text.specs.declared.command.Command.{Command}
 use Rattle.command_text.specs.declared.command.Command.TheVariants as command
 use Rattle.command_text.specs.declared.reply.Reply.{Reply}
 use Rattle.command_text.specs.declared.reply.Reply.TheVariants as reply
-use Rattle.cursor_set.specs.Ways.{Way, onward, back, step_command, IsNearest}
+use Rattle.map_model.specs.Cursors.{Way, onward, back}
+use Rattle.cursor_set.specs.Ways.{step_command, IsNearest}
 
 -- a property of each state, from one to that after the commands
 abbrev pub InEach : (Session → Type 0) → Layout → Session → List Command → Type 0

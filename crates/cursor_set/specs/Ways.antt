@@ -1,19 +1,14 @@
--- The two ways in which a cursor steps.
+-- What a cursor steps to, on either way.
 use Rattle.std.specs.Prelude.{◌≡◌, Bool, true, false, T, List, Option, Some}
 use Rattle.std.specs.declared.cmp.Ordering.{Ordering}
 use Rattle.std.specs.Ordering.{is_lt}
-use Rattle.std.specs.FinMap.{contains_key, get, is_sorted}
+use Rattle.std.specs.FinMap.{contains_key, entries, get, is_sorted}
 use Rattle.key_slot.specs.Record.{Bytes, Record, key_cmp}
-use Rattle.map_model.specs.Cursors.{Cursor, is_above, next_of, prev_of}
-use Rattle.map_model.specs.Scan.{is_below, is_within}
+use Rattle.map_model.specs.Cursors.{Cursor, Way, onward, back, is_beyond, record_ahead}
+use Rattle.map_model.specs.Scan.{is_within}
 use Rattle.map_model.specs.Store.{Map}
 use Rattle.command_text.specs.declared.command.Command.{Command}
 use Rattle.command_text.specs.declared.command.Command.TheVariants as command
-
--- to the least key above, or to the greatest below
-pub data Way : Type 0 where
-  onward : Way
-  back : Way
 
 -- the command that has the cursor of a name step
 abbrev pub step_command : Way → Bytes → Command
@@ -22,18 +17,12 @@ step_command back name = command.Prev name
 
 -- what a cursor gives of a map by a step
 abbrev pub step_of : Way → Map → Cursor → Option Record
-step_of onward m k = next_of m k
-step_of back m k = prev_of m k
+step_of way m k = record_ahead way k (entries m)
 
 -- how keys compare on a way: the lesser is the one that is come by first
 abbrev pub order_of : Way → Bytes → Bytes → Ordering
 order_of onward x y = key_cmp x y
 order_of back x y = key_cmp y x
-
--- whether a key lies beyond another, where there is one
-abbrev pub is_beyond : Way → Option Bytes → Bytes → Bool
-is_beyond onward past key = is_above past key
-is_beyond back past key = is_below past key
 
 -- the keys of records fall strictly
 abbrev pub IsDescending : List Record → Type 0

@@ -7,8 +7,9 @@ ghost use Rattle.header_gate.specs.declared.layout.Layout.{Layout};
 ghost use Rattle.map_model.specs.Scan.{is_within};
 ghost use Rattle.command_text.specs.Session.{Session};
 ghost use Rattle.command_text.specs.declared.command.Command.{Command};
+ghost use Rattle.map_model.specs.Cursors.{Way, onward, back};
 ghost use Rattle.cursor_set.specs.Lives.{InEach, StaysOpen, StepsOnly, Ends, HasKey, Each, AreNearest, opened, at_end, given, last_given, records_of, times};
-ghost use Rattle.cursor_set.specs.Ways.{Way, onward, back, IsDescending, NoneBeyond};
+ghost use Rattle.cursor_set.specs.Ways.{IsDescending, NoneBeyond};
 
 /// A law of sessions: whatever commands come between, a cursor that is opened and stays open gives records within its bounds, each of
 /// which is in the map at that moment. Where it steps in one way alone, their keys strictly rise, or strictly fall; and where

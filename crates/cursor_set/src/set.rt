@@ -7,9 +7,9 @@ ghost use Rattle.station.specs.View.{Told, EachHeld, Rose};
 ghost use Rattle.station.specs.Steps.{Steps};
 ghost use Rattle.header_gate.specs.Places.{file_length};
 ghost use Rattle.map_model.specs.Image.{map_of};
-ghost use Rattle.map_model.specs.Cursors.{Cursor, after_open, next_in, prev_in, after_next, after_prev};
+ghost use Rattle.map_model.specs.Cursors.{Cursor, after_open, onward, back, step_in, after_step};
 ghost use Rattle.range_scan.specs.Seeking.{ReadsNear, ReadsBehind, later, earlier};
-ghost use Rattle.cursor_set.specs.Answers.{opening, told_by, after_step};
+ghost use Rattle.cursor_set.specs.Answers.{opening, told_by, after_answer};
 
 use super::answers::{Opened, Step};
 use super::slots::{Entry, find_entry, find_free};
@@ -105,10 +105,10 @@ impl CursorSet {
         requires store { EachHeld (R.stands store.old) (S.view station.old) }
         requires rests { R.rests store.old (S.view station.old) }
         requires reach { file_length (R.kept store.old).layout ≤ (S.view station.old).fixed.reach }
-        ensures answer { IfOk result (λ step. Told (S.view station.old) → told_by step ≡ next_in (map_of (S.view station.old).held) self.old name.now) }
+        ensures answer { IfOk result (λ step. Told (S.view station.old) → told_by step ≡ step_in onward (map_of (S.view station.old).held) self.old name.now) }
         ensures known { IfOk result (λ step. is_some (told_by step) ≡ contains_key self.old name.now) }
-        ensures after { IfOk result (λ step. self.new ≡ after_step self.old name.now step) }
-        ensures next { OnOk result (Told (S.view station.old) → self.new ≡ after_next (map_of (S.view station.old).held) self.old name.now) }
+        ensures after { IfOk result (λ step. self.new ≡ after_answer self.old name.now step) }
+        ensures next { OnOk result (Told (S.view station.old) → self.new ≡ after_step onward (map_of (S.view station.old).held) self.old name.now) }
         ensures unchanged { OnErr result (self.new ≡ self.old) }
         ensures complete { Told (S.view station.old) → ¬ Rose (S.view station.old).disk_faults (S.view station.new).disk_faults → IsOk result }
         ensures damaged { IfErr result (λ fault. Told (S.view station.old) → fault ≡ StoreFault.Failed) }
@@ -156,10 +156,10 @@ impl CursorSet {
         requires store { EachHeld (R.stands store.old) (S.view station.old) }
         requires rests { R.rests store.old (S.view station.old) }
         requires reach { file_length (R.kept store.old).layout ≤ (S.view station.old).fixed.reach }
-        ensures answer { IfOk result (λ step. Told (S.view station.old) → told_by step ≡ prev_in (map_of (S.view station.old).held) self.old name.now) }
+        ensures answer { IfOk result (λ step. Told (S.view station.old) → told_by step ≡ step_in back (map_of (S.view station.old).held) self.old name.now) }
         ensures known { IfOk result (λ step. is_some (told_by step) ≡ contains_key self.old name.now) }
-        ensures after { IfOk result (λ step. self.new ≡ after_step self.old name.now step) }
-        ensures prev { OnOk result (Told (S.view station.old) → self.new ≡ after_prev (map_of (S.view station.old).held) self.old name.now) }
+        ensures after { IfOk result (λ step. self.new ≡ after_answer self.old name.now step) }
+        ensures prev { OnOk result (Told (S.view station.old) → self.new ≡ after_step back (map_of (S.view station.old).held) self.old name.now) }
         ensures unchanged { OnErr result (self.new ≡ self.old) }
         ensures complete { Told (S.view station.old) → ¬ Rose (S.view station.old).disk_faults (S.view station.new).disk_faults → IsOk result }
         ensures damaged { IfErr result (λ fault. Told (S.view station.old) → fault ≡ StoreFault.Failed) }

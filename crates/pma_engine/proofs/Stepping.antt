@@ -8,7 +8,7 @@ use Rattle.station.specs.declared.travel.Travel.{Travel}
 use Rattle.key_slot.specs.Record.{Bytes, Record}
 use Rattle.key_slot.specs.Row.{record_of}
 use Rattle.redo_journal.specs.Rest.{RestsAt}
-use Rattle.map_model.specs.Cursors.{Cursor, Cursors, after_next, after_open, next_in}
+use Rattle.map_model.specs.Cursors.{Cursor, Cursors, after_open, onward, after_step, step_in}
 use Rattle.map_model.specs.Image.{map_of}
 use Rattle.segment.specs.declared.fault.StoreFault.{StoreFault}
 use Rattle.segment.specs.declared.fault.StoreFault.TheVariants.{Failed}
@@ -18,7 +18,7 @@ use Rattle.command_text.specs.CursorLines.{open_line, next_line, close_line}
 use Rattle.command_text.specs.declared.command.Command.{Command}
 use Rattle.command_text.specs.declared.command.Command.TheVariants as command
 use Rattle.command_text.specs.declared.reply.Reply.{Reply}
-use Rattle.cursor_set.specs.Answers.{after_step, given_by, told_by}
+use Rattle.cursor_set.specs.Answers.{after_answer, given_by, told_by}
 use Rattle.cursor_set.specs.declared.answers.Step.{Step}
 use Rattle.cursor_set.specs.declared.answers.Step.TheVariants as step
 use Rattle.pma_store.specs.Metered.{MeteredView}
@@ -84,7 +84,7 @@ module _ (k q : Cursors) (name : Bytes) where
   none_moves None is = refl
   none_moves (Some c) is = absurd cc
 
-  pub step_moves : (s : Step) → is_some (told_by s) ≡ contains_key k name → q ≡ after_step k name s → MovesCursors (command.Next name) k q
+  pub step_moves : (s : Step) → is_some (told_by s) ≡ contains_key k name → q ≡ after_answer k name s → MovesCursors (command.Next name) k q
   step_moves (step.Row row) known after = (Some (record_of row), after ∙ row_moves (get k name) (record_of row))
   step_moves step.End known after = (None, after ∙ end_moves (get k name) known)
   step_moves step.NoCursor known after = (None, after ∙ none_moves (get k name) known)
@@ -114,8 +114,8 @@ module _ (m n : MeteredView) (k q : Cursors) (name : Bytes) {A : Type 0} (result
   store_kept : (closed : Bool) → n.store.closed ≡ closed → n.store ≡ record m.store { closed = closed }
   store_kept closed is = ap (λ (v : MeteredView). v.store) (is_as_before m n state closed is)
 
-  pub stepped : (s : Step) (r : Reply) → r ≡ next_line (told_by s) → (Told a → told_by s ≡ next_in (map_of a.held) k name) → is_some (told_by s) ≡ contains_key k name → q ≡ after_step k name s
-      → (Told a → q ≡ after_next (map_of a.held) k name) → n.store.closed ≡ false → EachHeld (StandsIdle n.store) b → RestsAt n.store.place.layout n.store.turn b → Executes (command.Next name) (Ok (Some r)) (with_cursors m k) (with_cursors n q) a b
+  pub stepped : (s : Step) (r : Reply) → r ≡ next_line (told_by s) → (Told a → told_by s ≡ step_in onward (map_of a.held) k name) → is_some (told_by s) ≡ contains_key k name → q ≡ after_answer k name s
+      → (Told a → q ≡ after_step onward (map_of a.held) k name) → n.store.closed ≡ false → EachHeld (StandsIdle n.store) b → RestsAt n.store.place.layout n.store.turn b → Executes (command.Next name) (Ok (Some r)) (with_cursors m k) (with_cursors n q) a b
   stepped s r line answer known after next unclosed stands rests =
       looked (with_cursors m k) (with_cursors n q) a b law here steps (unwritten_for (get k name) refl) ledger_kept (command.Next name) r (λ told. ap (λ (x : Reply). x ∷ []) (line ∙ ap next_line (answer told))) (idle_next name)
       (store_kept false unclosed) (opens_again m n state here steps.frame unclosed stands rests) (looks_for (get k name) refl) tt next (step_moves k q name s known after) (calls_for (get k name) refl)

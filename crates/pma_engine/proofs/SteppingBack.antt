@@ -9,7 +9,7 @@ use Rattle.header_gate.specs.declared.layout.Layout.{Layout}
 use Rattle.key_slot.specs.Record.{Bytes}
 use Rattle.key_slot.specs.Row.{record_of}
 use Rattle.redo_journal.specs.Rest.{RestsAt}
-use Rattle.map_model.specs.Cursors.{Cursor, Cursors, after_prev, prev_in}
+use Rattle.map_model.specs.Cursors.{Cursor, Cursors, back, after_step, step_in}
 use Rattle.map_model.specs.Image.{map_of}
 use Rattle.segment.specs.declared.fault.StoreFault.{StoreFault}
 use Rattle.segment.specs.declared.fault.StoreFault.TheVariants.{Failed}
@@ -19,7 +19,7 @@ use Rattle.range_scan.proofs.Walks.{walk_written}
 use Rattle.command_text.specs.CursorLines.{next_line}
 use Rattle.command_text.specs.declared.command.Command.TheVariants as command
 use Rattle.command_text.specs.declared.reply.Reply.{Reply}
-use Rattle.cursor_set.specs.Answers.{after_step, told_by}
+use Rattle.cursor_set.specs.Answers.{after_answer, told_by}
 use Rattle.cursor_set.specs.declared.answers.Step.{Step}
 use Rattle.cursor_set.specs.declared.answers.Step.TheVariants as step
 use Rattle.pma_store.specs.Metered.{MeteredView}
@@ -45,7 +45,7 @@ pub back_err : {A : Type 0} (B : Type 0) {end : Option Bytes} {kept : KeptRegion
 back_err B near = record { last = near.last; count = near.count; travel = near.travel; some = near.some; two = near.two; calls = near.calls; within = near.within; inside = near.inside; own = near.own; needed = near.needed; causes = near.causes }
 
 -- over any station the cursors go by what the step gave
-pub back_moves : (k q : Cursors) (name : Bytes) (s : Step) → is_some (told_by s) ≡ contains_key k name → q ≡ after_step k name s → MovesCursors (command.Prev name) k q
+pub back_moves : (k q : Cursors) (name : Bytes) (s : Step) → is_some (told_by s) ≡ contains_key k name → q ≡ after_answer k name s → MovesCursors (command.Prev name) k q
 back_moves k q name (step.Row row) known after = (Some (record_of row), after ∙ row_moves k q name (get k name) (record_of row))
 back_moves k q name step.End known after = (None, after ∙ end_moves k q name (get k name) known)
 back_moves k q name step.NoCursor known after = (None, after ∙ none_moves k q name (get k name) known)
@@ -75,8 +75,8 @@ module _ (m n : MeteredView) (k q : Cursors) (name : Bytes) {A : Type 0} (result
   store_kept : (closed : Bool) → n.store.closed ≡ closed → n.store ≡ record m.store { closed = closed }
   store_kept closed is = ap (λ (v : MeteredView). v.store) (is_as_before m n state closed is)
 
-  pub stepped_back : (s : Step) (r : Reply) → r ≡ next_line (told_by s) → (Told a → told_by s ≡ prev_in (map_of a.held) k name) → is_some (told_by s) ≡ contains_key k name → q ≡ after_step k name s
-      → (Told a → q ≡ after_prev (map_of a.held) k name) → n.store.closed ≡ false → EachHeld (StandsIdle n.store) b → RestsAt n.store.place.layout n.store.turn b → Executes (command.Prev name) (Ok (Some r)) (with_cursors m k) (with_cursors n q) a b
+  pub stepped_back : (s : Step) (r : Reply) → r ≡ next_line (told_by s) → (Told a → told_by s ≡ step_in back (map_of a.held) k name) → is_some (told_by s) ≡ contains_key k name → q ≡ after_answer k name s
+      → (Told a → q ≡ after_step back (map_of a.held) k name) → n.store.closed ≡ false → EachHeld (StandsIdle n.store) b → RestsAt n.store.place.layout n.store.turn b → Executes (command.Prev name) (Ok (Some r)) (with_cursors m k) (with_cursors n q) a b
   stepped_back s r line answer known after next unclosed stands rests =
       looked (with_cursors m k) (with_cursors n q) a b law here steps (unwritten_for (get k name) refl) ledger_kept (command.Prev name) r (λ told. ap (λ (x : Reply). x ∷ []) (line ∙ ap next_line (answer told))) (idle_prev name)
       (store_kept false unclosed) (opens_again m n state here steps.frame unclosed stands rests) (looks_for (get k name) refl) tt next (back_moves k q name s known after) (calls_for (get k name) refl)

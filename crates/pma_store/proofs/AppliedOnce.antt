@@ -105,7 +105,7 @@ module _ {a : View} (items : List Update) (s : StoreView) (numbers : List ℕ) (
     cost_covers : 8196 * s.place.layout.format * look.count ≤ updates_cost s.place.layout (state_in s a.held) items
     cost_covers =
         let edits : edits_of judged ≡ edits_in (count_items (limit_of s) (map_of a.held) items no_items) = ap edits_in counts_is in
-        let own = costs_edits s.place.layout (state_in s a.held) items 0 no_items (holds items s numbers b look judged changes ready told) (balanced items s numbers b look judged changes ready told) room in
+        let own = costs_edits s.place.layout (state_in s a.held) items no_items (holds items s numbers b look judged changes ready told) (balanced items s numbers b look judged changes ready told) room in
         omega (arith, times_up (8196 * s.place.layout.format) look.count (edits_of judged) few, own, ap (λ (n : ℕ). 8196 * s.place.layout.format * n) edits)
 
     writes : (c : View) → c.travel.written ≤ a.travel.written + (8196 * s.place.layout.format * look.count + 6) → WritesSome s.place.layout (state_in s a.held) (items_made (version_of s) (limit_of s) (map_of a.held) items) (a.travel.written + 514) c.travel.written

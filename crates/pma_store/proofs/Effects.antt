@@ -12,12 +12,12 @@ use Rattle.map_model.specs.Array.{Array}
 use Rattle.map_model.specs.ArrayState.{ArrayState, UpdateReport, next_state, report_of}
 use Rattle.map_model.specs.ArrayUpdates.{has_key}
 use Rattle.map_model.specs.Holding.{HoldsMap, IsBalancedArray}
-use Rattle.map_model.specs.Items.{ItemCounts, count_item, count_items, are_distinct, has_item, first_full_from, meets_full, is_full, effect_count}
+use Rattle.map_model.specs.Items.{ItemCounts, count_items, are_distinct, has_item, first_full, is_full, effect_count, AreAdmitted}
 use Rattle.std.specs.Cmp.Lexicographic.{nat_list_eq_equiv}
 use Rattle.key_slot.specs.Record.{Bytes}
 use Rattle.key_slot.proofs.SegmentLaws.{times_up}
-use Rattle.map_model.proofs.Resuming.{get_other}
-use Rattle.map_model.specs.Store.{Map, Update, bind, unbind, map_after, key_of, Effect, effect_by}
+use Rattle.map_model.proofs.Resuming.{get_other, meets_full, room_cons}
+use Rattle.map_model.specs.Store.{Map, Update, bind, unbind, map_after, key_of, Effect, effect_by, effect_of}
 use Rattle.map_model.proofs.UpdateLaws.{holds_after, balanced_after}
 use Rattle.map_model.proofs.Effects.{same_effect}
 use Rattle.one_commit.specs.Editing.{charge_one, charge_by}
@@ -35,17 +35,18 @@ abbrev one : Update → Bool → ℕ
 one (bind key value) there = 1
 one (unbind key) there = cond there 1 0
 
-counts_one : (m : Map) (u : Update) (c : ItemCounts) → edits_in (count_item m u c) ≡ edits_in c + one u (contains_key m (key_of u))
-counts_one m (bind key value) c = by (contains_key m key)
+counts_one : (hmax : ℕ) (m : Map) (u : Update) (c : ItemCounts) → edits_in (effect_count (effect_of hmax m u) c) ≡ edits_in c + one u (contains_key m (key_of u))
+counts_one hmax m (bind key value) c = by (contains_key m key) (nat_lt (len m) (upper_of hmax))
   where
-    by : (b : Bool) → edits_in (effect_count (effect_by b true (bind key value)) c) ≡ edits_in c + 1
-    by true = omega arith
-    by false = omega arith
-counts_one m (unbind key) c = by (contains_key m key)
+    by : (b r : Bool) → edits_in (effect_count (effect_by b r (bind key value)) c) ≡ edits_in c + 1
+    by true r = omega arith
+    by false true = omega arith
+    by false false = omega arith
+counts_one hmax m (unbind key) c = by (contains_key m key) (nat_lt (len m) (upper_of hmax))
   where
-    by : (b : Bool) → edits_in (effect_count (effect_by b true (unbind key)) c) ≡ edits_in c + cond b 1 0
-    by true = omega arith
-    by false = omega arith
+    by : (b r : Bool) → edits_in (effect_count (effect_by b r (unbind key)) c) ≡ edits_in c + cond b 1 0
+    by true r = omega arith
+    by false r = omega arith
 
 charged_one : (u : Update) (there : Bool) → charge_one there u ≡ 2 * one u there
 charged_one (bind key value) there = refl
@@ -65,9 +66,9 @@ charges_edits segments hmax m [] c distinct there = omega arith
 charges_edits segments hmax m (u ∷ us) c distinct there =
     let parts = both_true (not (has_item (key_of u) us)) (are_distinct us) distinct in
     let none = not_true (has_item (key_of u) us) parts.0 in
-    let rest = charges_edits segments hmax (map_after hmax m u) us (count_item m u c) parts.1 (λ k d lt. ap is_some (get_other hmax m u (key_of (get_or us k d)) (apart (key_of u) us k d lt none)) ∙ there (suc k) d (omega (arith, lt))) in
+    let rest = charges_edits segments hmax (map_after hmax m u) us (effect_count (effect_of hmax m u) c) parts.1 (λ k d lt. ap is_some (get_other hmax m u (key_of (get_or us k d)) (apart (key_of u) us k d lt none)) ∙ there (suc k) d (omega (arith, lt))) in
     let own : charge_one (has_key segments (key_of u)) u ≡ 2 * one u (contains_key m (key_of u)) = charged_one u (has_key segments (key_of u)) ∙ ap (λ (b : Bool). 2 * one u b) (sym (there 0 u (omega arith))) in
-    omega (arith, rest, counts_one m u c, own)
+    omega (arith, rest, counts_one hmax m u c, own)
 
 -- Each writes at least its commit.
 
@@ -95,19 +96,15 @@ has_one l s u holds room =
     by (unbind key) true r room cost = omega (arith, cost)
     by (unbind key) false r room cost = omega arith
 
-pub costs_edits : (l : Layout) (s : ArrayState) (items : List Update) (i : ℕ) (c : ItemCounts) → HoldsMap (height_limit l) s.map s.height s.array → IsBalancedArray s.height s.array → first_full_from (height_limit l) s.map i items ≡ None
+pub costs_edits : (l : Layout) (s : ArrayState) (items : List Update) (c : ItemCounts) → HoldsMap (height_limit l) s.map s.height s.array → IsBalancedArray s.height s.array → AreAdmitted (height_limit l) s.map items
     → 8196 * l.format * edits_in (count_items (height_limit l) s.map items c) ≤ 8196 * l.format * edits_in c + updates_cost l s items
-costs_edits l s [] i c holds balanced room = omega arith
-costs_edits l s (u ∷ us) i c holds balanced room =
+costs_edits l s [] c holds balanced room = omega arith
+costs_edits l s (u ∷ us) c holds balanced room =
     let hmax = height_limit l in
-    let parts = split (meets_full hmax s.map u) (first_full_from hmax (map_after hmax s.map u) (suc i) us) room in
-    let rest = costs_edits l (next_state hmax s u) us (suc i) (count_item s.map u c) (holds_after hmax s.map s.height s.array holds balanced u) (balanced_after hmax s.map s.height s.array holds balanced u) parts.1 in
+    let parts = room_cons (meets_full hmax s.map u) (first_full hmax (map_after hmax s.map u) us) room in
+    let rest = costs_edits l (next_state hmax s u) us (effect_count (effect_of hmax s.map u) c) (holds_after hmax s.map s.height s.array holds balanced u) (balanced_after hmax s.map s.height s.array holds balanced u) parts.1 in
     let sum : 8196 * l.format * (edits_in c + one u (contains_key s.map (key_of u))) ≡ 8196 * l.format * edits_in c + 8196 * l.format * one u (contains_key s.map (key_of u)) = distributes (8196 * l.format) (edits_in c) (one u (contains_key s.map (key_of u))) in
-    omega (arith, rest, ap (λ (n : ℕ). 8196 * l.format * n) (counts_one s.map u c), sum, has_one l s u holds parts.0)
+    omega (arith, rest, ap (λ (n : ℕ). 8196 * l.format * n) (counts_one hmax s.map u c), sum, has_one l s u holds parts.0)
   where
-    split : (b : Bool) (x : Option ℕ) → cond b (Some i) x ≡ None → (b ≡ false) × (x ≡ None)
-    split true x e = absurd cc
-    split false x e = (refl, e)
-
     distributes : (n x y : ℕ) → n * (x + y) ≡ n * x + n * y
     distributes n x y = grind arith

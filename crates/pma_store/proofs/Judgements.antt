@@ -1,64 +1,45 @@
 -- What items would do, one more at a time.
-use Rattle.std.proofs.Common.{◌≡◌, ℕ, zero, suc, ◌+◌, ◌<◌, Bool, true, false, cond, not, List, [], ◌∷◌, length, take, get_or, refl, sym, ap, subst, ◌∙◌, arith, Option, Some, None, is_some}
+use Rattle.std.proofs.Common.{◌≡◌, ℕ, zero, suc, ◌+◌, ◌<◌, Bool, true, false, cond, not, nat_lt, List, [], ◌∷◌, length, take, get_or, refl, sym, ap, subst, ◌∙◌, arith, Option, Some, None, is_some}
 use Rattle.std.specs.FinMap.{contains_key, len}
 use Rattle.density_rule.specs.Bounds.{upper_of}
-use Rattle.map_model.specs.Store.{Map, Update, bind, unbind, map_after, key_of, effect_by}
-use Rattle.map_model.specs.Items.{ItemCounts, no_items, count_item, count_items, meets_full, first_full, first_full_from, map_after_items, are_distinct, effect_count}
-use Rattle.map_model.proofs.Resuming.{get_before, next_item}
+use Rattle.map_model.specs.Store.{Map, Update, bind, unbind, map_after, key_of, effect_by, effect_of}
+use Rattle.map_model.specs.Items.{ItemCounts, no_items, count_items, first_full, map_after_items, are_distinct, effect_count, AreAdmitted}
+use Rattle.map_model.proofs.Resuming.{get_before, meets_full, next_item}
 use Rattle.std.proofs.lemmas.List.{take_all}
 use Rattle.std.proofs.Common.{set, inl, inr}
 use Rattle.std.proofs.lemmas.Bool.{cases_eq}
 use Rattle.std.proofs.lemmas.List.{get_or-set_other}
 use Rattle.std.proofs.lemmas.Grind.{get_or-set_at}
 use Rattle.recovery.specs.Intents.{meets_by, records_by}
-use Rattle.recovery.proofs.Rooms.{meets_is, records_is}
+use Rattle.recovery.proofs.Rooms.{full_here, full_next, meets_is, records_is}
 use Rattle.pma_store.specs.Judging.{AreFound, judged_of, counted_by}
 
 -- by whether the key is there
-pub counted_is : (m : Map) (u : Update) (c : ItemCounts) → count_item m u c ≡ counted_by u (contains_key m (key_of u)) c
-counted_is m (bind key value) c = put_counts (contains_key m key)
+pub counted_is : (hmax : ℕ) (m : Map) (u : Update) (c : ItemCounts) → effect_count (effect_of hmax m u) c ≡ counted_by u (contains_key m (key_of u)) c
+counted_is hmax m (bind key value) c = put_counts (contains_key m key) (nat_lt (len m) (upper_of hmax))
   where
-    put_counts : (b : Bool) → effect_count (effect_by b true (bind key value)) c ≡ counted_by (bind key value) b c
-    put_counts true = refl
-    put_counts false = refl
-counted_is m (unbind key) c = removal_counts (contains_key m key)
+    put_counts : (b r : Bool) → effect_count (effect_by b r (bind key value)) c ≡ counted_by (bind key value) b c
+    put_counts true r = refl
+    put_counts false true = refl
+    put_counts false false = refl
+counted_is hmax m (unbind key) c = removal_counts (contains_key m key) (nat_lt (len m) (upper_of hmax))
   where
-    removal_counts : (b : Bool) → effect_count (effect_by b true (unbind key)) c ≡ counted_by (unbind key) b c
-    removal_counts true = refl
-    removal_counts false = refl
+    removal_counts : (b r : Bool) → effect_count (effect_by b r (unbind key)) c ≡ counted_by (unbind key) b c
+    removal_counts true r = refl
+    removal_counts false r = refl
 
 -- One item more.
 
-pub count_next : (hmax : ℕ) (m : Map) (items : List Update) (k : ℕ) (d : Update) (c : ItemCounts) → k < length items → count_items hmax m (take (suc k) items) c ≡ count_item (map_after_items hmax m (take k items)) (get_or items k d) (count_items hmax m (take k items) c)
+pub count_next : (hmax : ℕ) (m : Map) (items : List Update) (k : ℕ) (d : Update) (c : ItemCounts) → k < length items → count_items hmax m (take (suc k) items) c ≡ effect_count (effect_of hmax (map_after_items hmax m (take k items)) (get_or items k d)) (count_items hmax m (take k items) c)
 count_next hmax m [] k d c lt = absurd (omega arith)
 count_next hmax m (u ∷ us) zero d c lt = refl
-count_next hmax m (u ∷ us) (suc k) d c lt = count_next hmax (map_after hmax m u) us k d (count_item m u c) (omega arith)
-
-either : (b : Bool) (i : ℕ) (x : Option ℕ) → cond b (Some i) x ≡ None → (b ≡ false) × (x ≡ None)
-either true i x e = absurd (cc)
-either false i x e = (refl, e)
-
-pub full_next : (hmax : ℕ) (m : Map) (i : ℕ) (items : List Update) (k : ℕ) (d : Update) → k < length items → first_full_from hmax m i (take k items) ≡ None → meets_full hmax (map_after_items hmax m (take k items)) (get_or items k d) ≡ false → first_full_from hmax m i (take (suc k) items) ≡ None
-full_next hmax m i [] k d lt none room = absurd (omega arith)
-full_next hmax m i (u ∷ us) zero d lt none room = ap (λ (b : Bool). cond b (Some i) None) room
-full_next hmax m i (u ∷ us) (suc k) d lt none room =
-    let parts = either (meets_full hmax m u) i (first_full_from hmax (map_after hmax m u) (suc i) (take k us)) none in
-    ap (λ (b : Bool). cond b (Some i) (first_full_from hmax (map_after hmax m u) (suc i) (take (suc k) us))) parts.0
-    ∙ full_next hmax (map_after hmax m u) (suc i) us k d (omega arith) parts.1 room
-
-pub full_here : (hmax : ℕ) (m : Map) (i : ℕ) (items : List Update) (k : ℕ) (d : Update) → k < length items → first_full_from hmax m i (take k items) ≡ None → meets_full hmax (map_after_items hmax m (take k items)) (get_or items k d) ≡ true → is_some (first_full_from hmax m i items) ≡ true
-full_here hmax m i [] k d lt none full = absurd (omega arith)
-full_here hmax m i (u ∷ us) zero d lt none full = ap (λ (b : Bool). is_some (cond b (Some i) (first_full_from hmax (map_after hmax m u) (suc i) us))) full
-full_here hmax m i (u ∷ us) (suc k) d lt none full =
-    let parts = either (meets_full hmax m u) i (first_full_from hmax (map_after hmax m u) (suc i) (take k us)) none in
-    ap (λ (b : Bool). is_some (cond b (Some i) (first_full_from hmax (map_after hmax m u) (suc i) us))) parts.0
-    ∙ full_here hmax (map_after hmax m u) (suc i) us k d (omega arith) parts.1 full
+count_next hmax m (u ∷ us) (suc k) d c lt = count_next hmax (map_after hmax m u) us k d (effect_count (effect_of hmax m u) c) (omega arith)
 
 -- k of the items were judged
 pub record IsJudged (hmax : ℕ) (m : Map) (items : List Update) (k records : ℕ) (counts : ItemCounts) : Type 0 where
   pub records_are : records ≡ len (map_after_items hmax m (take k items))
   pub counts_are : counts ≡ count_items hmax m (take k items) no_items
-  pub room : first_full_from hmax m 0 (take k items) ≡ None
+  pub room : AreAdmitted hmax m (take k items)
 
 pub none_judged : (hmax : ℕ) (m : Map) (items : List Update) (records : ℕ) → records ≡ len m → IsJudged hmax m items 0 records no_items
 none_judged hmax m items records is = record { records_are = is; counts_are = refl; room = refl }
@@ -82,7 +63,7 @@ module _ (hmax : ℕ) (m : Map) (items : List Update) (k records : ℕ) (counts 
   meets = meets_is hmax here (get_or items k d) ∙ (λ t. meets_by (get_or items k d) (finds t) (sym is.records_are t) (upper_of hmax))
 
   pub full_judged : meets_by (get_or items k d) present records (upper_of hmax) ≡ true → None ≡ judged_of hmax m items
-  full_judged full = sym (ap (λ (b : Bool). cond b None (Some (count_items hmax m items no_items))) (full_here hmax m 0 items k d lt is.room (meets ∙ full)))
+  full_judged full = sym (ap (λ (b : Bool). cond b None (Some (count_items hmax m items no_items))) (ap is_some (full_here hmax m items k d lt is.room (meets ∙ full))))
 
   pub next_judged : meets_by (get_or items k d) present records (upper_of hmax) ≡ false → (more : ℕ) (counted : ItemCounts) → more ≡ records_by (get_or items k d) present records → counted ≡ counted_by (get_or items k d) present counts → IsJudged hmax m items (suc k) more counted
   next_judged room more counted more_is counted_as = record {
@@ -94,9 +75,9 @@ module _ (hmax : ℕ) (m : Map) (items : List Update) (k records : ℕ) (counts 
     counts_are =
         counted_as
         ∙ (λ t. counted_by (get_or items k d) (sym finds t) (is.counts_are t))
-        ∙ sym (counted_is here (get_or items k d) (count_items hmax m (take k items) no_items))
+        ∙ sym (counted_is hmax here (get_or items k d) (count_items hmax m (take k items) no_items))
         ∙ sym (count_next hmax m items k d no_items lt);
-    room = full_next hmax m 0 items k d lt is.room (meets ∙ room);
+    room = full_next hmax m items k d lt is.room (meets ∙ room);
   }
 
 -- What a count's answer tells.

@@ -9,7 +9,7 @@ use Rattle.batch_intent.specs.Means.{has_pending}
 use Rattle.key_slot.specs.Record.{Bytes}
 use Rattle.key_slot.specs.Row.{record_of}
 use Rattle.key_slot.specs.declared.row.Row.{Row}
-use Rattle.map_model.specs.Cursors.{first_ahead, last_behind}
+use Rattle.map_model.specs.Cursors.{onward, back, record_ahead}
 use Rattle.map_model.specs.Image.{map_of}
 use Rattle.range_scan.specs.Seeking.{KeptRegion, ReadsNear, ReadsBehind, earlier, later}
 use Rattle.segment.specs.declared.fault.StoreFault.{StoreFault}
@@ -31,7 +31,7 @@ unclosed m = record { store = record m.store { closed = false }; ledger = m.ledg
 
 -- The next record behind a key was looked for.
 pub record Seeks (low past high : Option Bytes) (result : Result (Option Row) StoreFault) (s t : StoreView) (a b : View) : Type 0 where
-  pub answer : IfOk result (λ row. Told a → option_map record_of row ≡ first_ahead low past high (entries (map_of a.held)))
+  pub answer : IfOk result (λ row. Told a → option_map record_of row ≡ record_ahead onward (record { low = low; high = high; past = past }) (entries (map_of a.held)))
   pub steps : Steps Same a b
   pub kept : t ≡ record s { closed = is_err result }
   -- one segment or two were read, and damage is that of the one that was read last
@@ -39,7 +39,7 @@ pub record Seeks (low past high : Option Bytes) (result : Result (Option Row) St
 
 -- And the last record before one.
 pub record SeeksBack (low past high : Option Bytes) (result : Result (Option Row) StoreFault) (s t : StoreView) (a b : View) : Type 0 where
-  pub answer : IfOk result (λ row. Told a → option_map record_of row ≡ last_behind low past high (entries (map_of a.held)))
+  pub answer : IfOk result (λ row. Told a → option_map record_of row ≡ record_ahead back (record { low = low; high = high; past = past }) (entries (map_of a.held)))
   pub steps : Steps Same a b
   pub kept : t ≡ record s { closed = is_err result }
   -- one segment or two were read, the later first, and damage is that of the one that was read last

@@ -13,9 +13,8 @@ use Rattle.std.specs.FinMap.Entries.{below_all, where_key}
 use Rattle.key_slot.specs.Record.{Bytes, Record, key_cmp, IsAscending}
 use Rattle.key_slot.proofs.Truth.{first, second, passed}
 use Rattle.map_model.specs.Scan.{is_below, is_from, is_within}
-use Rattle.map_model.specs.Cursors.{is_ahead}
 use Rattle.range_scan.specs.Seeking.{later, is_at, stands_at, PlacedPast, first_below}
-use Rattle.range_scan.specs.Seeking.{NoneAhead}
+use Rattle.range_scan.specs.Seeking.{NoneAhead, is_ahead}
 use Rattle.segment.specs.Rows.{key_at}
 use Rattle.range_scan.specs.Sweeping.{first_for}
 use Rattle.range_scan.specs.ReaderView.{ReaderView}

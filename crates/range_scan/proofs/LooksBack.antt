@@ -14,7 +14,7 @@ use Rattle.key_slot.proofs.Ordered.{is_sorted-append}
 use Rattle.key_slot.proofs.Truth.{both, first, second, passed}
 use Rattle.header_gate.specs.declared.layout.Layout.{Layout}
 use Rattle.map_model.specs.Array.{Array, rows, segment_at}
-use Rattle.map_model.specs.Cursors.{is_behind, last_behind}
+use Rattle.map_model.specs.Cursors.{back, is_beyond, record_ahead}
 use Rattle.map_model.specs.Image.{array_of}
 use Rattle.map_model.specs.Scan.{is_from, is_below, is_within}
 use Rattle.map_model.specs.Standing.{StandsBalanced}
@@ -57,6 +57,10 @@ below_earlier (Some past) (Some high) key = by_bound (is_lt (key_cmp past high))
         by_key true is = ap (λ (b : Bool). is_lt (key_cmp key high) && b) (lt_le key past high is le) ∙ and_true (is_lt (key_cmp key high))
         by_key false is = ap (λ (b : Bool). b && is_lt (key_cmp key past)) is ∙ sym is
 
+-- whether a key lies behind: within two bounds, and before a third
+abbrev is_behind : Option Bytes → Option Bytes → Option Bytes → Bytes → Bool
+is_behind low past high key = is_within low high key && is_beyond back past key
+
 behind_by : (low past high : Option Bytes) (key : Bytes) → is_behind low past high key ≡ is_within low (earlier past high) key
 behind_by low past high key = by_from (is_from low key)
   where
@@ -71,7 +75,7 @@ same_tests f g same (r ∷ rs) =
     ∙ ap (λ (es : List Record). cond (g r.0) (r ∷ es) es) (same_tests f g same rs)
 
 -- the last record behind is the last within the bounds
-pub last_behind_is : (low past high end : Option Bytes) (rs : List Record) → end ≡ earlier past high → last_behind low past high rs ≡ last_or None (within low end rs)
+pub last_behind_is : (low past high end : Option Bytes) (rs : List Record) → end ≡ earlier past high → record_ahead back (record { low = low; high = high; past = past }) rs ≡ last_or None (within low end rs)
 last_behind_is low past high end rs is =
     ap (λ (es : List Record). last_or None es) (same_tests (is_behind low past high) (is_within low (earlier past high)) (behind_by low past high) rs)
     ∙ ap (λ (e : Option Bytes). last_or None (within low e rs)) (sym is)

@@ -1,14 +1,14 @@
 -- What a look for the record next to a key may read, and may find wrong.
-use Rattle.std.specs.Prelude.{◌≡◌, ℕ, ◌+◌, ◌-◌, ◌^◌, ◌<◌, ◌≤◌, Bool, false, List, [], ◌∷◌, T, take, drop, slice_get, Option, Some, None, Result, IfErr, if◌then◌else◌}
+use Rattle.std.specs.Prelude.{◌≡◌, ℕ, ◌+◌, ◌-◌, ◌^◌, ◌<◌, ◌≤◌, ◌&&◌, Bool, false, List, [], ◌∷◌, T, take, drop, slice_get, Option, Some, None, Result, IfErr, if◌then◌else◌}
 use Rattle.std.specs.Ordering.{is_lt, is_eq}
 use Rattle.header_gate.specs.declared.layout.Layout.{Layout}
 use Rattle.key_slot.specs.Record.{Bytes, Record, key_cmp}
-use Rattle.map_model.specs.Cursors.{is_ahead}
+use Rattle.map_model.specs.Cursors.{onward, is_beyond}
 use Rattle.map_model.specs.Array.{segment_at}
 use Rattle.map_model.specs.Image.{array_of}
 use Rattle.std.specs.FinMap.Entries.{where_key}
 use Rattle.std.specs.List.{last_or}
-use Rattle.map_model.specs.Scan.{is_below, is_from}
+use Rattle.map_model.specs.Scan.{is_below, is_from, is_within}
 use Rattle.segment.specs.declared.fault.StoreFault.{StoreFault}
 use Rattle.station.specs.View.{View, Told}
 use Rattle.range_scan.specs.Bounds.{are_from, are_before, are_behind}
@@ -89,6 +89,10 @@ pub record PlacedPast (start past : Option Bytes) (records : List Record) (place
   pub before : T (are_before start (take from records))
   pub behind : T (are_from start (drop from records))
   pub place_is : place ≡ (if stands_at past (slice_get (drop from records) 0) then from + 1 else from)
+
+-- whether a key lies ahead: within two bounds, and beyond a third
+abbrev pub is_ahead : Option Bytes → Option Bytes → Option Bytes → Bytes → Bool
+is_ahead low past high key = is_within low high key && is_beyond onward past key
 
 -- none of these records is ahead of a lower bound and `past`, whatever lower bound the look began with
 abbrev pub NoneAhead : Option Bytes → Option Bytes → Option Bytes → List Record → Type 0

@@ -10,7 +10,7 @@ ghost use Rattle.header_gate.specs.InPlace.{IsRecovered};
 ghost use Rattle.header_gate.specs.Places.{IsLayout, file_length, height_limit};
 ghost use Rattle.key_slot.specs.Row.{record_of};
 ghost use Rattle.key_slot.specs.Record.{Bytes};
-ghost use Rattle.map_model.specs.Cursors.{first_ahead};
+ghost use Rattle.map_model.specs.Cursors.{onward, record_ahead};
 ghost use Rattle.map_model.specs.Image.{map_of, array_of};
 ghost use Rattle.map_model.specs.Standing.{StandsBalanced};
 ghost use Rattle.range_scan.specs.Seeking.{later, first_below, PlacedPast, ReadsNear};
@@ -60,7 +60,7 @@ pub fn first_ahead_in<S: Station>(
     requires stands { Told (S.view station.old) → StandsBalanced layout region tally.now.height tally.now.counts (S.view station.old).held }
     requires readable { Told (S.view station.old) → IsRecovered layout (S.view station.old).held }
     requires begins { Told (S.view station.old) → first ≡ first_for start.now (array_of (S.view station.old).held) }
-    ensures row { IfOk result (λ row. Told (S.view station.old) → (low : Option Bytes) → start.now ≡ later low past.now → option_map record_of row ≡ first_ahead low past.now high.now (entries (map_of (S.view station.old).held))) }
+    ensures row { IfOk result (λ row. Told (S.view station.old) → (low : Option Bytes) → start.now ≡ later low past.now → option_map record_of row ≡ record_ahead onward (record { low = low; high = high.now; past = past.now }) (entries (map_of (S.view station.old).held))) }
     ensures damaged { IfErr result (λ fault. Told (S.view station.old) → fault ≡ StoreFault.Failed) }
     ensures failed { IsErrOf result StoreFault.Failed → Rose (S.view station.old).disk_faults (S.view station.new).disk_faults }
     ensures steps { Steps Same (S.view station.old) (S.view station.new) }

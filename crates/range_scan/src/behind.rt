@@ -11,7 +11,7 @@ ghost use Rattle.header_gate.specs.Places.{IsLayout, file_length, height_limit};
 ghost use Rattle.key_slot.specs.Row.{record_of};
 ghost use Rattle.key_slot.specs.Record.{Bytes};
 ghost use Rattle.map_model.specs.Array.{segment_at};
-ghost use Rattle.map_model.specs.Cursors.{last_behind};
+ghost use Rattle.map_model.specs.Cursors.{back, record_ahead};
 ghost use Rattle.map_model.specs.Image.{map_of, array_of};
 ghost use Rattle.map_model.specs.Standing.{StandsBalanced};
 ghost use Rattle.range_scan.specs.Bounds.{are_below, are_behind};
@@ -61,7 +61,7 @@ pub fn last_behind_in<S: Station>(
     requires stands { Told (S.view station.old) → StandsBalanced layout region tally.now.height tally.now.counts (S.view station.old).held }
     requires readable { Told (S.view station.old) → IsRecovered layout (S.view station.old).held }
     requires ends { Told (S.view station.old) → last ≡ last_for end.now (array_of (S.view station.old).held) }
-    ensures row { IfOk result (λ row. Told (S.view station.old) → (past high : Option Bytes) → end.now ≡ earlier past high → option_map record_of row ≡ last_behind low.now past high (entries (map_of (S.view station.old).held))) }
+    ensures row { IfOk result (λ row. Told (S.view station.old) → (past high : Option Bytes) → end.now ≡ earlier past high → option_map record_of row ≡ record_ahead back (record { low = low.now; high = high; past = past }) (entries (map_of (S.view station.old).held))) }
     ensures damaged { IfErr result (λ fault. Told (S.view station.old) → fault ≡ StoreFault.Failed) }
     ensures failed { IsErrOf result StoreFault.Failed → Rose (S.view station.old).disk_faults (S.view station.new).disk_faults }
     ensures steps { Steps Same (S.view station.old) (S.view station.new) }

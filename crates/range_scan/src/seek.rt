@@ -9,7 +9,7 @@ ghost use Rattle.station.specs.Steps.{Steps};
 ghost use Rattle.header_gate.specs.Places.{file_length};
 ghost use Rattle.key_slot.specs.Row.{record_of};
 ghost use Rattle.map_model.specs.Image.{map_of};
-ghost use Rattle.map_model.specs.Cursors.{first_ahead, last_behind};
+ghost use Rattle.map_model.specs.Cursors.{onward, back, record_ahead};
 ghost use Rattle.range_scan.specs.Seeking.{later, earlier, ReadsNear, ReadsBehind};
 
 use key_slot::{Key, Row};
@@ -52,7 +52,7 @@ pub trait Seek {
         requires store { EachHeld (stands self.old) (S.view station.old) }
         requires rests { rests self.old (S.view station.old) }
         requires reach { file_length (kept self.old).layout ≤ (S.view station.old).fixed.reach }
-        ensures row { IfOk result (λ row. Told (S.view station.old) → option_map record_of row ≡ first_ahead low past high (entries (map_of (S.view station.old).held))) }
+        ensures row { IfOk result (λ row. Told (S.view station.old) → option_map record_of row ≡ record_ahead onward (record { low = low; high = high; past = past }) (entries (map_of (S.view station.old).held))) }
         ensures damaged { IfErr result (λ fault. Told (S.view station.old) → fault ≡ StoreFault.Failed) }
         ensures failed { IsErrOf result StoreFault.Failed → Rose (S.view station.old).disk_faults (S.view station.new).disk_faults }
         ensures closed { closed self.new ≡ is_err result }
@@ -78,7 +78,7 @@ pub trait Seek {
         requires store { EachHeld (stands self.old) (S.view station.old) }
         requires rests { rests self.old (S.view station.old) }
         requires reach { file_length (kept self.old).layout ≤ (S.view station.old).fixed.reach }
-        ensures row { IfOk result (λ row. Told (S.view station.old) → option_map record_of row ≡ last_behind low past high (entries (map_of (S.view station.old).held))) }
+        ensures row { IfOk result (λ row. Told (S.view station.old) → option_map record_of row ≡ record_ahead back (record { low = low; high = high; past = past }) (entries (map_of (S.view station.old).held))) }
         ensures damaged { IfErr result (λ fault. Told (S.view station.old) → fault ≡ StoreFault.Failed) }
         ensures failed { IsErrOf result StoreFault.Failed → Rose (S.view station.old).disk_faults (S.view station.new).disk_faults }
         ensures closed { closed self.new ≡ is_err result }

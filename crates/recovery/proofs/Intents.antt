@@ -96,7 +96,7 @@ module _ (layout : Layout) (image : List ℕ) (layout_is : layout_in image ≡ l
     full_is : fullness_reason image ≡ reason_at (place_among items (first_full (height_limit layout) (map_of image) items))
     full_is =
         (λ t. full_reason (intent_area image) (first_full (height_limit (layout_is t)) (map_of image) (some_pending image (pending_is true some) t)))
-        ∙ full_same layout.format items (intent_area image) (first_full (height_limit layout) (map_of image) items) (length-intent_area image) spells (λ i is. omega (arith, full_below (height_limit layout) (map_of image) 0 items i is))
+        ∙ full_same layout.format items (intent_area image) (first_full (height_limit layout) (map_of image) items) (length-intent_area image) spells (λ i is. omega (arith, full_below (height_limit layout) (map_of image) items i is))
 
     pub some_wrong : (answer : Option Reason) → reason_at (place_among items (first_full (height_limit layout) (map_of image) items)) ≡ answer → intent_reason image ≡ answer
     some_wrong answer is = (λ t. or_else ((form_is ∙ right) t) (fullness_reason image)) ∙ full_is ∙ is

@@ -3,11 +3,12 @@ use Rattle.std.proofs.Common.{◌≡◌, ℕ, zero, suc, ◌+◌, ◌-◌, ◌<�
 use Rattle.std.specs.Cmp.Lexicographic.{nat_list_cmp_total}
 use Rattle.std.specs.FinMap.{contains_key, len, len-insert, len-remove}
 use Rattle.std.specs.List.{flat_map}
+use Rattle.std.specs.Option.{option_map}
 use Rattle.std.proofs.lemmas.Bool.{lt-ltb}
 use Rattle.density_rule.specs.Bounds.{upper_of}
 use Rattle.map_model.specs.Store.{Map, Update, bind, unbind, map_after, key_of, effect_by, effect_map}
-use Rattle.map_model.specs.Items.{meets_full, first_full, first_full_from, map_after_items, are_distinct, is_full}
-use Rattle.map_model.proofs.Resuming.{get_before, next_item, removal_fits}
+use Rattle.map_model.specs.Items.{first_full, map_after_items, are_distinct, is_full, AreAdmitted}
+use Rattle.map_model.proofs.Resuming.{admitted_cons, get_before, meets_full, next_item, removal_fits, room_cons}
 use Rattle.batch_intent.specs.Spelling.{item_bytes, intent_bytes}
 use Rattle.recovery.specs.Intents.{is_put, puts_in, meets_by, records_by, place_among, IsCounted}
 
@@ -59,13 +60,12 @@ more_puts (bind key value) us = omega arith
 more_puts (unbind key) us = omega arith
 
 -- none meets a full store
-pub few_admitted : (limit : ℕ) (m : Map) (i : ℕ) (items : List Update) → len m + puts_in items ≤ upper_of limit → first_full_from limit m i items ≡ None
-few_admitted limit m i [] le = refl
-few_admitted limit m i (u ∷ us) le =
+pub few_admitted : (limit : ℕ) (m : Map) (items : List Update) → len m + puts_in items ≤ upper_of limit → AreAdmitted limit m items
+few_admitted limit m [] le = refl
+few_admitted limit m (u ∷ us) le =
     let puts = more_puts u us in
     let room : meets_full limit m u ≡ false = meets_is limit m u ∙ room_by u (contains_key m (key_of u)) (len m) (upper_of limit) (omega (arith, le, puts)) in
-    ap (λ (b : Bool). cond b (Some i) (first_full_from limit (map_after limit m u) (suc i) us)) room
-    ∙ few_admitted limit (map_after limit m u) (suc i) us (omega (arith, le, puts, records_is limit m u room, records_rise u (contains_key m (key_of u)) (len m)))
+    admitted_cons limit m u us room (few_admitted limit (map_after limit m u) us (omega (arith, le, puts, records_is limit m u room, records_rise u (contains_key m (key_of u)) (len m))))
 
 pub puts_next : (items : List Update) (k : ℕ) (d : Update) → k < length items → puts_in (take (suc k) items) ≡ cond (is_put (get_or items k d)) (suc (puts_in (take k items))) (puts_in (take k items))
 puts_next [] k d lt = absurd (omega arith)
@@ -79,35 +79,30 @@ puts_next (unbind key ∷ us) (suc k) d lt = puts_next us k d (omega (arith, lt)
 
 -- One item more.
 
-either : (b : Bool) (i : ℕ) (x : Option ℕ) → cond b (Some i) x ≡ None → (b ≡ false) × (x ≡ None)
-either true i x e = absurd (cc)
-either false i x e = (refl, e)
+pub full_next : (limit : ℕ) (m : Map) (items : List Update) (k : ℕ) (d : Update) → k < length items → AreAdmitted limit m (take k items) → meets_full limit (map_after_items limit m (take k items)) (get_or items k d) ≡ false → AreAdmitted limit m (take (suc k) items)
+full_next limit m [] k d lt none room = absurd (omega arith)
+full_next limit m (u ∷ us) zero d lt none room = ap (λ (b : Bool). cond b (Some 0) None) room
+full_next limit m (u ∷ us) (suc k) d lt none room =
+    let parts = room_cons (meets_full limit m u) (first_full limit (map_after limit m u) (take k us)) none in
+    admitted_cons limit m u (take (suc k) us) parts.0 (full_next limit (map_after limit m u) us k d (omega arith) parts.1 room)
 
-full_next : (limit : ℕ) (m : Map) (i : ℕ) (items : List Update) (k : ℕ) (d : Update) → k < length items → first_full_from limit m i (take k items) ≡ None → meets_full limit (map_after_items limit m (take k items)) (get_or items k d) ≡ false → first_full_from limit m i (take (suc k) items) ≡ None
-full_next limit m i [] k d lt none room = absurd (omega arith)
-full_next limit m i (u ∷ us) zero d lt none room = ap (λ (b : Bool). cond b (Some i) None) room
-full_next limit m i (u ∷ us) (suc k) d lt none room =
-    let parts = either (meets_full limit m u) i (first_full_from limit (map_after limit m u) (suc i) (take k us)) none in
-    ap (λ (b : Bool). cond b (Some i) (first_full_from limit (map_after limit m u) (suc i) (take (suc k) us))) parts.0
-    ∙ full_next limit (map_after limit m u) (suc i) us k d (omega arith) parts.1 room
+pub full_here : (limit : ℕ) (m : Map) (items : List Update) (k : ℕ) (d : Update) → k < length items → AreAdmitted limit m (take k items) → meets_full limit (map_after_items limit m (take k items)) (get_or items k d) ≡ true → first_full limit m items ≡ Some k
+full_here limit m [] k d lt none full = absurd (omega arith)
+full_here limit m (u ∷ us) zero d lt none full = ap (λ (b : Bool). cond b (Some 0) (option_map (λ i. suc i) (first_full limit (map_after limit m u) us))) full
+full_here limit m (u ∷ us) (suc k) d lt none full =
+    let parts = room_cons (meets_full limit m u) (first_full limit (map_after limit m u) (take k us)) none in
+    ap (λ (b : Bool). cond b (Some 0) (option_map (λ i. suc i) (first_full limit (map_after limit m u) us))) parts.0
+    ∙ ap (option_map (λ i. suc i)) (full_here limit (map_after limit m u) us k d (omega arith) parts.1 full)
 
-full_here : (limit : ℕ) (m : Map) (i : ℕ) (items : List Update) (k : ℕ) (d : Update) → k < length items → first_full_from limit m i (take k items) ≡ None → meets_full limit (map_after_items limit m (take k items)) (get_or items k d) ≡ true → first_full_from limit m i items ≡ Some (i + k)
-full_here limit m i [] k d lt none full = absurd (omega arith)
-full_here limit m i (u ∷ us) zero d lt none full = ap (λ (b : Bool). cond b (Some i) (first_full_from limit (map_after limit m u) (suc i) us)) full ∙ ap Some (omega arith)
-full_here limit m i (u ∷ us) (suc k) d lt none full =
-    let parts = either (meets_full limit m u) i (first_full_from limit (map_after limit m u) (suc i) (take k us)) none in
-    ap (λ (b : Bool). cond b (Some i) (first_full_from limit (map_after limit m u) (suc i) us)) parts.0
-    ∙ full_here limit (map_after limit m u) (suc i) us k d (omega arith) parts.1 full
-    ∙ ap Some (omega arith)
-
-below_by : (b : Bool) (i : ℕ) (x : Option ℕ) (j most : ℕ) → i < most → (x ≡ Some j → j < most) → cond b (Some i) x ≡ Some j → j < most
-below_by true i x j most lt rest is = let same : i ≡ j = cc in omega (arith, same, lt)
-below_by false i x j most lt rest is = rest is
+below_by : (b : Bool) (o : Option ℕ) (j most : ℕ) → ((i : ℕ) → o ≡ Some i → i < most) → cond b (Some 0) (option_map (λ i. suc i) o) ≡ Some j → j < suc most
+below_by true o j most rest is = let same : 0 ≡ j = cc in omega (arith, same)
+below_by false None j most rest is = absurd (cc)
+below_by false (Some i) j most rest is = let same : suc i ≡ j = cc in omega (arith, same, rest i refl)
 
 -- which is one of the items
-pub full_below : (limit : ℕ) (m : Map) (i : ℕ) (items : List Update) (j : ℕ) → first_full_from limit m i items ≡ Some j → j < i + length items
-full_below limit m i [] j is = absurd (cc)
-full_below limit m i (u ∷ us) j is = omega (arith, below_by (meets_full limit m u) i (first_full_from limit (map_after limit m u) (suc i) us) j (suc i + length us) (omega arith) (full_below limit (map_after limit m u) (suc i) us j) is)
+pub full_below : (limit : ℕ) (m : Map) (items : List Update) (j : ℕ) → first_full limit m items ≡ Some j → j < length items
+full_below limit m [] j is = absurd (cc)
+full_below limit m (u ∷ us) j is = below_by (meets_full limit m u) (first_full limit (map_after limit m u) us) j (length us) (full_below limit (map_after limit m u) us) is
 
 -- the bytes before an item
 pub place_next : (items : List Update) (k : ℕ) (d : Update) → k < length items → length (flat_map item_bytes (take (suc k) items)) ≡ length (flat_map item_bytes (take k items)) + length (item_bytes (get_or items k d))
@@ -118,7 +113,7 @@ place_next (u ∷ us) (suc k) d lt = omega (arith, length-append (item_bytes u) 
 -- k of the items have room
 pub record HaveRoom (limit : ℕ) (m : Map) (items : List Update) (k records : ℕ) : Type 0 where
   pub records_are : records ≡ len (map_after_items limit m (take k items))
-  pub room : first_full_from limit m 0 (take k items) ≡ None
+  pub room : AreAdmitted limit m (take k items)
 
 pub none_yet : (limit : ℕ) (m : Map) (items : List Update) (records : ℕ) → records ≡ len m → HaveRoom limit m items 0 records
 none_yet limit m items records is = record { records_are = is; room = refl }
@@ -136,9 +131,7 @@ module _ (limit : ℕ) (m : Map) (items : List Update) (there : List Bool) (most
   meets = meets_is limit here (get_or items k d) ∙ (λ t. meets_by (get_or items k d) (finds t) (sym have.records_are t) (sym counted.most_is t))
 
   pub full_now : meets_by (get_or items k d) (get_or there k false) records most ≡ true → Some (length (intent_bytes (take k items))) ≡ place_among items (first_full limit m items)
-  full_now full =
-      let same : 0 + k ≡ k = omega arith in
-      sym (ap (place_among items) (full_here limit m 0 items k d lt have.room (meets ∙ full) ∙ ap Some same))
+  full_now full = sym (ap (place_among items) (full_here limit m items k d lt have.room (meets ∙ full)))
 
   pub room_now : meets_by (get_or items k d) (get_or there k false) records most ≡ false → (more : ℕ) → more ≡ records_by (get_or items k d) (get_or there k false) records → HaveRoom limit m items (suc k) more
   room_now room more more_is = record {
@@ -147,5 +140,5 @@ module _ (limit : ℕ) (m : Map) (items : List Update) (there : List Bool) (most
         ∙ (λ t. records_by (get_or items k d) (sym finds t) (have.records_are t))
         ∙ sym (records_is limit here (get_or items k d) (meets ∙ room))
         ∙ ap len (sym (next_item limit m items k d lt));
-    room = full_next limit m 0 items k d lt have.room (meets ∙ room);
+    room = full_next limit m items k d lt have.room (meets ∙ room);
   }

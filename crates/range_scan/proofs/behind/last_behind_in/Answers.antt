@@ -8,7 +8,7 @@ use Rattle.station.proofs.Composition.{same_on, told_on}
 use Rattle.station.specs.View.{Told}
 use Rattle.key_slot.specs.Record.{Bytes, Record, IsAscending}
 use Rattle.map_model.specs.Array.{Array, rows, segment_at}
-use Rattle.map_model.specs.Cursors.{last_behind}
+use Rattle.map_model.specs.Cursors.{back, record_ahead}
 use Rattle.map_model.specs.Image.{array_of, map_of}
 use Rattle.map_model.specs.Standing.{StandsWith}
 use Rattle.range_scan.specs.Bounds.{are_below, are_behind}
@@ -58,7 +58,7 @@ returns-then-place-gt0-clause-reads g c = record {
 -- the last record that is looked for, by what is read of a segment
 found : (low past high end : Option Bytes) (layout : Layout) (region height : ℕ) (counts image : List ℕ) → StandsWith layout region height counts image → (n place : ℕ) (rs : List Record) (o : Option Record)
     → end ≡ earlier past high → n < 2 ^ height → EndsBy end (n + 1) (array_of image) → rs ≡ segment_at (array_of image) n → place ≤ length rs → T (are_below end (take place rs)) → T (are_behind end (drop place rs))
-    → (n ≡ 0) ⊎ (0 < place) → o ≡ last_from low (take place rs) → o ≡ last_behind low past high (entries (map_of image))
+    → (n ≡ 0) ⊎ (0 < place) → o ≡ last_from low (take place rs) → o ≡ record_ahead back (record { low = low; high = high; past = past }) (entries (map_of image))
 found low past high end layout region height counts image stands n place rs o is inside ends same room below behind some is_last =
     let segments = array_of image in
     let there = subst (λ (es : List Record). T (are_below end (take place es))) same below in

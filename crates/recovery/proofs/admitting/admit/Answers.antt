@@ -47,7 +47,7 @@ len_is g c told =
 pub returns-then-records-count_puts-clause-room : goal.returns-then-records-count_puts-clause-room
 returns-then-records-count_puts-clause-room g c told =
     let here = (goal.at.returns-then-records-count_puts-clause-room g c).After-count_puts in
-    few_admitted (height_limit c.args.parts.now.place.layout) (map_of (g.S.Station.view c.args.station.now).held) 0 c.args.intent.now
+    few_admitted (height_limit c.args.parts.now.place.layout) (map_of (g.S.Station.view c.args.station.now).held) c.args.intent.now
     (omega (arith, len_is g here told, c.if-records-count_puts.true, most g here, c.count_puts.ensures.count))
 
 pub full_place-requires : goal.full_place-requires

@@ -2,10 +2,12 @@ use Rattle.std.proofs.Common.{◌≡◌, ◌∙◌, sym, ap, subst, Some, None, 
 use Rattle.std.specs.Option.{option_map}
 use Rattle.std.specs.FinMap.{get}
 use Rattle.key_slot.specs.Row.{record_of}
-use Rattle.map_model.specs.Cursors.{Cursors, next_of, moved_if}
+use Rattle.map_model.specs.Cursors.{Cursors, onward}
 use Rattle.map_model.specs.Image.{map_of}
 use Rattle.cursor_set.specs.Slots.{found_in, cursor_of}
 use Rattle.cursor_set.specs.declared.answers.Step.TheVariants as step
+use Rattle.cursor_set.specs.Ways.{step_of}
+use Rattle.cursor_set.proofs.Stepped.{moved_if}
 use Rattle.cursor_set.proofs.Places.{get-cursors_in}
 use Rattle.cursor_set.proofs.Changes.{after_is, cursor_there, step_answer, step_row, step_end, step_keeps}
 use Rattle.cursor_set.proofs.Looks.{near_for, not_both}
@@ -22,7 +24,7 @@ absent g c none =
 pub returns-in_default-clause-answer : goal.returns-in_default-clause-answer
 returns-in_default-clause-answer g c told =
     let here = (goal.at.returns-in_default-clause-answer g c).After-find_entry in
-    sym (ap (option_map (next_of (map_of (g.S.Station.view c.args.station.now).held))) (absent g here c.in_default.is))
+    sym (ap (option_map (step_of onward (map_of (g.S.Station.view c.args.station.now).held))) (absent g here c.in_default.is))
 
 pub returns-in_default-clause-known : goal.returns-in_default-clause-known
 returns-in_default-clause-known g c =
@@ -32,7 +34,7 @@ returns-in_default-clause-known g c =
 pub returns-in_default-clause-next : goal.returns-in_default-clause-next
 returns-in_default-clause-next g c told =
     let here = (goal.at.returns-in_default-clause-next g c).After-find_entry in
-    sym (ap (moved_if (next_of (map_of (g.S.Station.view c.args.station.now).held)) c.args.self.now c.args.name.now) (absent g here c.in_default.is))
+    sym (ap (moved_if (step_of onward (map_of (g.S.Station.view c.args.station.now).held)) c.args.self.now c.args.name.now) (absent g here c.in_default.is))
 
 pub returns-in_default-clause-reads : goal.returns-in_default-clause-reads
 returns-in_default-clause-reads g c k at =
@@ -100,7 +102,7 @@ invariant_of-self-in-Ok-None g c =
 pub returns-in-Ok-Some-clause-answer : goal.returns-in-Ok-Some-clause-answer
 returns-in-Ok-Some-clause-answer g c told =
     step_answer c.self.inside.slots c.in-Some.place c.in-Some.entry c.args.name.now c.self.invariant c.in-Some.ensures.there c.in-Some.ensures.named c.args.self.now c.self.view_is
-    (next_of (map_of (g.S.Station.view c.args.station.now).held)) (Some (record_of c.in-Ok-Some.row)) (sym (ap (option_map record_of) c.in-Ok-Some.field-0-is) ∙ c.in-Ok-Some.ensures.row told)
+    (step_of onward (map_of (g.S.Station.view c.args.station.now).held)) (Some (record_of c.in-Ok-Some.row)) (sym (ap (option_map record_of) c.in-Ok-Some.field-0-is) ∙ c.in-Ok-Some.ensures.row told)
 
 pub returns-in-Ok-Some-clause-known : goal.returns-in-Ok-Some-clause-known
 returns-in-Ok-Some-clause-known g c =
@@ -112,7 +114,7 @@ returns-in-Ok-Some-clause-after g c =
 
 pub returns-in-Ok-Some-clause-next : goal.returns-in-Ok-Some-clause-next
 returns-in-Ok-Some-clause-next g c told =
-    let gives = next_of (map_of (g.S.Station.view c.args.station.now).held) in
+    let gives = step_of onward (map_of (g.S.Station.view c.args.station.now).held) in
     step_row c.self.inside.slots c.in-Some.place c.in-Some.entry c.args.name.now c.self.invariant c.in-Some.ensures.there c.in-Some.ensures.named c.args.self.now c.self.view_is c.in-Ok-Some.row
     ∙ after_is gives c.args.self.now c.args.name.now (step.Row c.in-Ok-Some.row)
     (step_answer c.self.inside.slots c.in-Some.place c.in-Some.entry c.args.name.now c.self.invariant c.in-Some.ensures.there c.in-Some.ensures.named c.args.self.now c.self.view_is
@@ -121,7 +123,7 @@ returns-in-Ok-Some-clause-next g c told =
 pub returns-in-Ok-None-clause-answer : goal.returns-in-Ok-None-clause-answer
 returns-in-Ok-None-clause-answer g c told =
     step_answer c.self.inside.slots c.in-Some.place c.in-Some.entry c.args.name.now c.self.invariant c.in-Some.ensures.there c.in-Some.ensures.named c.args.self.now c.self.view_is
-    (next_of (map_of (g.S.Station.view c.args.station.now).held)) None (sym (ap (option_map record_of) c.in-Ok-None.field-0-is) ∙ c.in-Ok-None.ensures.row told)
+    (step_of onward (map_of (g.S.Station.view c.args.station.now).held)) None (sym (ap (option_map record_of) c.in-Ok-None.field-0-is) ∙ c.in-Ok-None.ensures.row told)
 
 pub returns-in-Ok-None-clause-known : goal.returns-in-Ok-None-clause-known
 returns-in-Ok-None-clause-known g c =
@@ -133,7 +135,7 @@ returns-in-Ok-None-clause-after g c =
 
 pub returns-in-Ok-None-clause-next : goal.returns-in-Ok-None-clause-next
 returns-in-Ok-None-clause-next g c told =
-    let gives = next_of (map_of (g.S.Station.view c.args.station.now).held) in
+    let gives = step_of onward (map_of (g.S.Station.view c.args.station.now).held) in
     step_end c.self.inside.slots c.in-Some.place c.in-Some.entry c.args.name.now c.self.invariant c.in-Some.ensures.there c.in-Some.ensures.named c.args.self.now c.self.view_is
     ∙ after_is gives c.args.self.now c.args.name.now step.End
     (step_answer c.self.inside.slots c.in-Some.place c.in-Some.entry c.args.name.now c.self.invariant c.in-Some.ensures.there c.in-Some.ensures.named c.args.self.now c.self.view_is

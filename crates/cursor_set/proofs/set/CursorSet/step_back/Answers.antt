@@ -3,10 +3,12 @@ use Rattle.std.specs.Option.{option_map}
 use Rattle.std.proofs.lemmas.Result.{err_from_is_err_and}
 use Rattle.std.specs.FinMap.{get}
 use Rattle.key_slot.specs.Row.{record_of}
-use Rattle.map_model.specs.Cursors.{Cursors, prev_of, moved_if}
+use Rattle.map_model.specs.Cursors.{Cursors, back}
 use Rattle.map_model.specs.Image.{map_of}
 use Rattle.cursor_set.specs.Slots.{found_in, cursor_of}
 use Rattle.cursor_set.specs.declared.answers.Step.TheVariants as step
+use Rattle.cursor_set.specs.Ways.{step_of}
+use Rattle.cursor_set.proofs.Stepped.{moved_if}
 use Rattle.cursor_set.proofs.Places.{get-cursors_in}
 use Rattle.cursor_set.proofs.Changes.{after_is, cursor_there, step_answer, step_row, step_end, step_keeps}
 use Rattle.cursor_set.proofs.Looks.{behind_for, not_both}
@@ -23,7 +25,7 @@ absent g c none =
 pub returns-in_default-clause-answer : goal.returns-in_default-clause-answer
 returns-in_default-clause-answer g c told =
     let here = (goal.at.returns-in_default-clause-answer g c).After-find_entry in
-    sym (ap (option_map (prev_of (map_of (g.S.Station.view c.args.station.now).held))) (absent g here c.in_default.is))
+    sym (ap (option_map (step_of back (map_of (g.S.Station.view c.args.station.now).held))) (absent g here c.in_default.is))
 
 pub returns-in_default-clause-known : goal.returns-in_default-clause-known
 returns-in_default-clause-known g c =
@@ -33,7 +35,7 @@ returns-in_default-clause-known g c =
 pub returns-in_default-clause-prev : goal.returns-in_default-clause-prev
 returns-in_default-clause-prev g c told =
     let here = (goal.at.returns-in_default-clause-prev g c).After-find_entry in
-    sym (ap (moved_if (prev_of (map_of (g.S.Station.view c.args.station.now).held)) c.args.self.now c.args.name.now) (absent g here c.in_default.is))
+    sym (ap (moved_if (step_of back (map_of (g.S.Station.view c.args.station.now).held)) c.args.self.now c.args.name.now) (absent g here c.in_default.is))
 
 pub returns-in_default-clause-reads : goal.returns-in_default-clause-reads
 returns-in_default-clause-reads g c k at =
@@ -102,7 +104,7 @@ invariant_of-self g c =
 pub returns-clause-answer : goal.returns-clause-answer
 returns-clause-answer g c told =
     step_answer c.self.inside.slots c.in-Some.place c.in-Some.entry c.args.name.now c.self.invariant c.in-Some.ensures.there c.in-Some.ensures.named c.args.self.now c.self.view_is
-    (prev_of (map_of (g.S.Station.view c.args.station.now).held)) (Some (record_of c.in-Some-2.row)) (sym (ap (option_map record_of) c.in-Some-2.is) ∙ c.in_ok-row.ensures.row told)
+    (step_of back (map_of (g.S.Station.view c.args.station.now).held)) (Some (record_of c.in-Some-2.row)) (sym (ap (option_map record_of) c.in-Some-2.is) ∙ c.in_ok-row.ensures.row told)
 
 pub returns-clause-known : goal.returns-clause-known
 returns-clause-known g c =
@@ -114,7 +116,7 @@ returns-clause-after g c =
 
 pub returns-clause-prev : goal.returns-clause-prev
 returns-clause-prev g c told =
-    let gives = prev_of (map_of (g.S.Station.view c.args.station.now).held) in
+    let gives = step_of back (map_of (g.S.Station.view c.args.station.now).held) in
     step_row c.self.inside.slots c.in-Some.place c.in-Some.entry c.args.name.now c.self.invariant c.in-Some.ensures.there c.in-Some.ensures.named c.args.self.now c.self.view_is c.in-Some-2.row
     ∙ after_is gives c.args.self.now c.args.name.now (step.Row c.in-Some-2.row)
     (step_answer c.self.inside.slots c.in-Some.place c.in-Some.entry c.args.name.now c.self.invariant c.in-Some.ensures.there c.in-Some.ensures.named c.args.self.now c.self.view_is
@@ -123,7 +125,7 @@ returns-clause-prev g c told =
 pub returns-in_default-2-clause-answer : goal.returns-in_default-2-clause-answer
 returns-in_default-2-clause-answer g c told =
     step_answer c.self.inside.slots c.in-Some.place c.in-Some.entry c.args.name.now c.self.invariant c.in-Some.ensures.there c.in-Some.ensures.named c.args.self.now c.self.view_is
-    (prev_of (map_of (g.S.Station.view c.args.station.now).held)) None (sym (ap (option_map record_of) c.in_default-2.is) ∙ c.in_ok-row.ensures.row told)
+    (step_of back (map_of (g.S.Station.view c.args.station.now).held)) None (sym (ap (option_map record_of) c.in_default-2.is) ∙ c.in_ok-row.ensures.row told)
 
 pub returns-in_default-2-clause-known : goal.returns-in_default-2-clause-known
 returns-in_default-2-clause-known g c =
@@ -135,7 +137,7 @@ returns-in_default-2-clause-after g c =
 
 pub returns-in_default-2-clause-prev : goal.returns-in_default-2-clause-prev
 returns-in_default-2-clause-prev g c told =
-    let gives = prev_of (map_of (g.S.Station.view c.args.station.now).held) in
+    let gives = step_of back (map_of (g.S.Station.view c.args.station.now).held) in
     step_end c.self.inside.slots c.in-Some.place c.in-Some.entry c.args.name.now c.self.invariant c.in-Some.ensures.there c.in-Some.ensures.named c.args.self.now c.self.view_is
     ∙ after_is gives c.args.self.now c.args.name.now step.End
     (step_answer c.self.inside.slots c.in-Some.place c.in-Some.entry c.args.name.now c.self.invariant c.in-Some.ensures.there c.in-Some.ensures.named c.args.self.now c.self.view_is
