@@ -11,6 +11,7 @@ pub mod ReadLaws
 pub mod LineLaws
 pub mod FitLaws
 pub mod LoadLaws
+pub mod MostLaws
 pub mod DumpLaws
 pub mod TextLaws
 pub mod TextFaults

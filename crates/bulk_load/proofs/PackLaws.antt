@@ -25,13 +25,16 @@ use Rattle.segment_frames.specs.Parts.{InParts}
 pub room_fits : (l : Layout) (b : Batch) → IsLayout l → b.journal ≡ l.journal → room_in l ≤ places l.format b
 room_fits l b known same = omega (arith, div_rises (min l.journal MOST_FRAMES) b.journal l.format known.format.least (omega (arith, same)))
 
--- some places are used
-pub room_some : (l : Layout) → IsLayout l → 1 ≤ room_in l
-room_some l known = by (cases_lt l.format 2)
+-- two places are used at least
+pub room_two : (l : Layout) → IsLayout l → 2 ≤ room_in l
+room_two l known = by (cases_lt l.format 2)
   where
-    by : (l.format < 2) ⊎ (2 ≤ l.format) → 1 ≤ room_in l
+    by : (l.format < 2) ⊎ (2 ≤ l.format) → 2 ≤ room_in l
     by (inl low) = let one : l.format ≡ 1 = omega (arith, low, known.format.least) in omega (arith, ap (λ (f : ℕ). min l.journal MOST_FRAMES / f) one, known.least)
     by (inr high) = let two : l.format ≡ 2 = omega (arith, high, known.format.most) in omega (arith, ap (λ (f : ℕ). min l.journal MOST_FRAMES / f) two, known.least)
+
+pub room_some : (l : Layout) → IsLayout l → 1 ≤ room_in l
+room_some l known = omega (arith, room_two l known)
 
 -- a store has at most 2^16 segments
 pub few_segments : (l : Layout) → IsLayout l → 2 ^ height_limit l ≤ 2 ^ 16

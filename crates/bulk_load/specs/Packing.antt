@@ -1,5 +1,5 @@
 -- Records packed in the order in which they come, 64 a segment: first in the frames, then in the region that isn't live.
-use Rattle.std.specs.Prelude.{◌≡◌, ℕ, ◌+◌, ◌-◌, ◌*◌, ◌/◌, ◌<◌, ◌≤◌, ◌&&◌, not, min, Bool, List, [], ◌∷◌, T, length, take, drop, Result, OnOk, IfErr, IsErrOf}
+use Rattle.std.specs.Prelude.{◌≡◌, ◌⊎◌, ℕ, ◌+◌, ◌-◌, ◌*◌, ◌/◌, ◌<◌, ◌≤◌, ◌&&◌, not, min, Bool, List, [], ◌∷◌, T, length, take, drop, Result, OnOk, IfErr, IsErrOf}
 use Rattle.std.specs.List.{list_all}
 use Rattle.station.specs.View.{View, Told, EachHeld, Rose}
 use Rattle.station.specs.Steps.{Steps}
@@ -73,6 +73,10 @@ pub record WritesPacked {X : Type 0} (place : Place) (result : Result X StoreFau
 -- whether a record may follow those that were taken
 abbrev pub goes_on_by : Taken → Record → Bool
 goes_on_by t r = not t.ended && begins_above t.last (r ∷ [])
+
+-- Whatever came of the packing of one record more, no call was made, or one, which was to write all the frames that are used.
+abbrev pub TriesRun : Layout → Taken → ℕ → ℕ → Type 0
+TriesRun l t before after = (after ≤ before) ⊎ ((after ≤ before + 1) × (SEGMENT_SLOTS * (t.written + room_in l) ≤ t.records + 1))
 
 -- Between two counts of calls, segments from one number to another were written, by one call for each whole run of so many.
 abbrev pub WritesRuns : ℕ → ℕ → ℕ → ℕ → ℕ → Type 0

@@ -1,9 +1,9 @@
 -- What was read of a text, and what of it is packed.
-use Rattle.std.specs.Prelude.{◌≡◌, ℕ, ◌+◌, ◌-◌, ◌*◌, ◌≤◌, length, List, [], ◌∷◌, ◌++◌, T, Option, Some, None, Result, Ok, Err, OnOk, IfErr, IsErrOf}
+use Rattle.std.specs.Prelude.{◌≡◌, ◌⊎◌, ℕ, ◌+◌, ◌-◌, ◌*◌, ◌^◌, ◌≤◌, length, List, [], ◌∷◌, ◌++◌, T, Option, Some, None, Result, Ok, Err, OnOk, IfErr, IsErrOf}
 use Rattle.station.specs.View as station
 use Rattle.station.specs.Steps.{Steps}
 use Rattle.header_gate.specs.declared.layout.Layout.{Layout}
-use Rattle.header_gate.specs.Places.{segment_size}
+use Rattle.header_gate.specs.Places.{height_limit, segment_size}
 use Rattle.key_slot.specs.declared.sizes.TheConstants.{SEGMENT_SLOTS}
 use Rattle.key_slot.specs.Record.{Record, is_record}
 use Rattle.key_slot.specs.Row.{record_of}
@@ -76,6 +76,9 @@ pub record TakesOn {X : Type 0} (place : Place) (k : ℕ) (line : LoadLine) (res
   pub steps : Steps (Spares place.layout place.region) a b
   pub cost : OnOk result (b.travel.written ≤ a.travel.written + segment_size place.layout * (new.written - old.written))
   pub calls : OnOk result (WritesRuns (room_in place.layout) old.written new.written a.calls b.calls)
+  -- and whatever was answered
+  pub most_cost : b.travel.written ≤ a.travel.written + segment_size place.layout * (2 ^ height_limit place.layout - old.written)
+  pub most_calls : (b.calls ≤ a.calls) ⊎ ((b.calls ≤ a.calls + 1) × (SEGMENT_SLOTS * (old.written + room_in place.layout) ≤ most_records place.layout))
   pub failed : IsErrOf result Disk → station.Rose a.disk_faults b.disk_faults
 
 -- All lines were read and come to these records. Those that aren't written yet are in the frames.

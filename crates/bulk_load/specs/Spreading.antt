@@ -15,7 +15,7 @@ use Rattle.segment_frames.specs.Lists.{page_at}
 use Rattle.segment_frames.specs.Reading.{IsPageFault}
 use Rattle.bulk_load.specs.Packing.{AreRows, HasPacked, room_in}
 use Rattle.bulk_load.specs.declared.packed.Packed.{Packed}
-use Rattle.segment_frames.specs.Parts.{parts}
+use Rattle.segment_frames.specs.Parts.{parts, GoesInParts}
 use Rattle.resize_region.specs.Source.{copy_calls}
 use Rattle.header_gate.specs.declared.layout.Layout.{Layout}
 
@@ -81,6 +81,10 @@ pub record ReadsPacked {T : Type 0} (place : Place) (n : ℕ) (result : Result T
   pub damaged : IfErr result (λ fault. Told a → (rows : List Record) → ArePacked place n rows s f a.held → fault ≡ Failed)
   pub cause : IfErr result (HasCause place.layout.format n g)
   pub failed : IsErrOf result Failed → Rose a.disk_faults b.disk_faults
+
+-- Between two counts of calls, packed segments from one number on were read in parts, whatever came of the last of them.
+abbrev pub TriesParts : ℕ → ℕ → ℕ → ℕ → ℕ → Type 0
+TriesParts room count from before after = (to : ℕ) × GoesInParts room count from to before after
 
 -- the calls that write so many records packed, and spread them over so many segments, and those of a flip
 abbrev pub load_calls : Layout → ℕ → ℕ → ℕ

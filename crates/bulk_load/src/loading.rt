@@ -74,6 +74,10 @@ pub fn load_rows<I: Source, S: Station>(
     ensures cost { IfOk result (λ loaded. (S.view station.new).travel.written ≤ (S.view station.old).travel.written + (2 * segment_size place.old.layout * 2 ^ loaded.height + 9)) }
     ensures calls { IfOk result (λ loaded. (S.view station.new).calls ≤ (S.view station.old).calls + load_calls place.old.layout loaded.records (2 ^ loaded.height)) }
 
+    // Whatever is answered, it costs no more than a load of the most records that the store may hold.
+    ensures most_cost { (S.view station.new).travel.written ≤ (S.view station.old).travel.written + (2 * segment_size place.old.layout * 2 ^ height_limit place.old.layout + 9) }
+    ensures most_calls { (S.view station.new).calls ≤ (S.view station.old).calls + load_calls place.old.layout (most_records place.old.layout) (2 ^ height_limit place.old.layout) }
+
     // Whatever is answered, what was taken is a front of the text, and no more than the reader might take.
     ensures takes { SourceTold (I.view source.old) → TakesAtMost reader.old.room (I.view source.old) (I.view source.new) }
 
@@ -121,6 +125,8 @@ fn write_text<I: Source, S: Station>(
     ensures steps { Steps (Spares place.now.layout place.now.region) (S.view station.old) (S.view station.new) }
     ensures cost { IfOk result (λ loaded. (S.view station.new).travel.written ≤ (S.view station.old).travel.written + 2 * segment_size place.now.layout * 2 ^ loaded.height) }
     ensures calls { IfOk result (λ loaded. (S.view station.new).calls + 4 ≤ (S.view station.old).calls + load_calls place.now.layout loaded.records (2 ^ loaded.height)) }
+    ensures most_cost { (S.view station.new).travel.written ≤ (S.view station.old).travel.written + 2 * segment_size place.now.layout * 2 ^ height_limit place.now.layout }
+    ensures most_calls { (S.view station.new).calls + 4 ≤ (S.view station.old).calls + load_calls place.now.layout (most_records place.now.layout) (2 ^ height_limit place.now.layout) }
     ensures damaged { IfErr result (λ fault. Told (S.view station.old) → IsNoDamage fault) }
     ensures shown { IfErr result (IsShownBy place.now.layout.format frames.new) }
     ensures journal { frames.new.journal ≡ frames.old.journal }

@@ -10,7 +10,7 @@ ghost use Rattle.segment_frames.specs.Held.{grouped, HoldsRows};
 ghost use Rattle.segment_frames.specs.Lists.{page_at, rows_at};
 ghost use Rattle.segment_frames.specs.Reading.{IsPageFault};
 ghost use Rattle.bulk_load.specs.Packing.{CanFill};
-ghost use Rattle.bulk_load.specs.Spreading.{used_by, packed_count, IsPacked, HoldsPacked, ReadsPacked};
+ghost use Rattle.bulk_load.specs.Spreading.{used_by, packed_count, IsPacked, HoldsPacked, ReadsPacked, TriesParts};
 ghost use Rattle.segment_frames.specs.Parts.{GoesInParts};
 
 use crate::aside::read_aside;
@@ -55,6 +55,7 @@ pub(crate) fn read_packed<S: Station>(
     requires some { 0 < packed.old.rest }
     ensures reads { ReadsPacked place.now records result packed.old packed.new frames.old frames.new (S.view station.old) (S.view station.new) }
     ensures calls { OnOk result (GoesInParts packed.old.room (used_by records) (used_by records - packed.old.unread) (used_by records - packed.new.unread) (S.view station.old).calls (S.view station.new).calls) }
+    ensures tried { TriesParts packed.old.room (used_by records) (used_by records - packed.old.unread) (S.view station.old).calls (S.view station.new).calls }
     ensures onward { OnOk result (packed.new.unread < packed.old.unread) }
     ensures same { packed.new.rest ≡ packed.old.rest }
     ensures others { OnOk result ((i : ℕ) → packed.old.room ≤ i → i < places place.now.layout.format frames.old →

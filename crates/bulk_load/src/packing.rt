@@ -9,7 +9,7 @@ ghost use Rattle.key_slot.specs.Record.{Record, is_record};
 ghost use Rattle.key_slot.specs.Row.{record_of};
 ghost use Rattle.map_model.specs.Reasons.{begins_above};
 ghost use Rattle.map_model.specs.Regions.{Spares};
-ghost use Rattle.bulk_load.specs.Packing.{room_in, CanFill, IsTaken, HasPlace, HasPacked, WritesPacked, WritesRuns};
+ghost use Rattle.bulk_load.specs.Packing.{room_in, CanFill, IsTaken, HasPlace, HasPacked, TriesRun, WritesPacked, WritesRuns};
 ghost use Rattle.bulk_load.specs.Spreading.{used_by};
 ghost use Rattle.segment_frames.specs.Parts.{GoesInParts};
 
@@ -61,6 +61,8 @@ pub(crate) fn pack<S: Station>(
     ensures steps { Steps (Spares place.now.layout place.now.region) (S.view station.old) (S.view station.new) }
     ensures cost { OnOk result ((S.view station.new).travel.written ≤ (S.view station.old).travel.written + segment_size place.now.layout * (taken.new.written - taken.old.written)) }
     ensures calls { OnOk result (WritesRuns (room_in place.now.layout) taken.old.written taken.new.written (S.view station.old).calls (S.view station.new).calls) }
+    ensures most_cost { (S.view station.new).travel.written ≤ (S.view station.old).travel.written + segment_size place.now.layout * (2 ^ height_limit place.now.layout - taken.old.written) }
+    ensures tried { TriesRun place.now.layout taken.old (S.view station.old).calls (S.view station.new).calls }
     ensures fault { IfErr result (λ fault. fault ≡ StoreFault.Failed) }
     ensures failed { IsErrOf result StoreFault.Failed → Rose (S.view station.old).disk_faults (S.view station.new).disk_faults }
 {
@@ -119,8 +121,8 @@ pub(crate) fn flush_rest<S: Station>(
     requires room { taken.old.records ≤ SEGMENT_RECORDS * 2 ^ height_limit place.now.layout }
     ensures writes { WritesPacked place.now result taken.old taken.new frames.old frames.new (S.view station.old) (S.view station.new) }
     ensures written { OnOk result (taken.new.written ≡ used_by taken.old.records) }
-    ensures calls { OnOk result (GoesInParts (room_in place.now.layout) (used_by taken.old.records) taken.old.written taken.new.written (S.view station.old).calls (S.view station.new).calls) }
-    ensures cost { OnOk result ((S.view station.new).travel.written ≤ (S.view station.old).travel.written + segment_size place.now.layout * (taken.new.written - taken.old.written)) }
+    ensures calls { GoesInParts (room_in place.now.layout) (used_by taken.old.records) taken.old.written (used_by taken.old.records) (S.view station.old).calls (S.view station.new).calls }
+    ensures cost { (S.view station.new).travel.written ≤ (S.view station.old).travel.written + segment_size place.now.layout * (used_by taken.old.records - taken.old.written) }
 {
     let rest = taken.records - SEGMENT_RECORDS * taken.written;
     if rest == 0 {

@@ -1,9 +1,9 @@
 //! A text is read to its end, and its records are packed into the region that isn't live.
 
-ghost use Rattle.std.specs.Prelude.{◌≡◌, ℕ, ◌+◌, ◌*◌, ◌<◌, ◌≤◌, ◌==◌, ◌&&◌, not, true, false, List, [], length, OnOk, IfOk, IfErr, IsErrOf, IsSome, IfSome};
+ghost use Rattle.std.specs.Prelude.{◌≡◌, ℕ, ◌+◌, ◌*◌, ◌^◌, ◌<◌, ◌≤◌, ◌==◌, ◌&&◌, not, true, false, List, [], length, OnOk, IfOk, IfErr, IsErrOf, IsSome, IfSome};
 ghost use Rattle.station.specs.View.{Rose};
 ghost use Rattle.station.specs.Steps.{Steps};
-ghost use Rattle.header_gate.specs.Places.{segment_size};
+ghost use Rattle.header_gate.specs.Places.{height_limit, segment_size};
 ghost use Rattle.key_slot.specs.Format.{wide};
 ghost use Rattle.key_slot.specs.Record.{Record};
 ghost use Rattle.key_slot.specs.Row.{record_of};
@@ -17,6 +17,8 @@ ghost use Rattle.bulk_load.specs.Faults.{IsReadingFault};
 ghost use Rattle.bulk_load.specs.Loading.{IsUnread, TakesAtMost};
 ghost use Rattle.bulk_load.specs.Loads.{most_records};
 ghost use Rattle.bulk_load.specs.Packing.{CanFill, goes_on_by, WritesRuns, room_in};
+ghost use Rattle.segment_frames.specs.Parts.{parts};
+ghost use Rattle.bulk_load.specs.Spreading.{used_by};
 ghost use Rattle.bulk_load.specs.Reading.{IsNextEntry, FitsLine, IsTaking, TakesOn, IsRead};
 
 use crate::fault::{LoadFault, of_file};
@@ -50,6 +52,8 @@ pub(crate) fn read_text<I: Source, S: Station>(
     ensures steps { Steps (Spares place.now.layout place.now.region) (S.view station.old) (S.view station.new) }
     ensures cost { IfOk result (λ taken. (S.view station.new).travel.written ≤ (S.view station.old).travel.written + segment_size place.now.layout * taken.written) }
     ensures calls { IfOk result (λ taken. WritesRuns (room_in place.now.layout) 0 taken.written (S.view station.old).calls (S.view station.new).calls) }
+    ensures most_cost { (S.view station.new).travel.written ≤ (S.view station.old).travel.written + segment_size place.now.layout * 2 ^ height_limit place.now.layout }
+    ensures most_calls { (S.view station.new).calls ≤ (S.view station.old).calls + parts (room_in place.now.layout) (used_by (most_records place.now.layout)) }
     ensures failed { IsErrOf result LoadFault.Disk → Rose (S.view station.old).disk_faults (S.view station.new).disk_faults }
     ensures went { Went (I.view source.old) (I.view source.new) }
 {

@@ -16,7 +16,7 @@ ghost use Rattle.map_model.specs.Regions.{Spares};
 ghost use Rattle.resize_region.specs.Aside.{HasWritten};
 ghost use Rattle.resize_region.specs.Shares.{places, HasShares, share_in};
 ghost use Rattle.bulk_load.specs.Packing.{CanFill, AreRows, HasPacked, room_in};
-ghost use Rattle.bulk_load.specs.Spreading.{used_by, IsPacked, ArePacked, ReadsPacked, HasCause};
+ghost use Rattle.bulk_load.specs.Spreading.{used_by, IsPacked, ArePacked, ReadsPacked, HasCause, TriesParts};
 ghost use Rattle.segment_frames.specs.Parts.{GoesInParts};
 ghost use Rattle.resize_region.specs.Source.{copy_calls};
 
@@ -52,7 +52,7 @@ pub(crate) fn spread_aside<S: Station>(
     ensures turn { frames.new.turn ≡ frames.old.turn }
     ensures steps { Steps (Spares place.now.layout place.now.region) (S.view station.old) (S.view station.new) }
     ensures cost { (S.view station.new).travel.written ≤ (S.view station.old).travel.written + segment_size place.now.layout * segments }
-    ensures calls { OnOk result ((S.view station.new).calls ≤ (S.view station.old).calls + copy_calls (room_in place.now.layout) (used_by records) segments) }
+    ensures calls { (S.view station.new).calls ≤ (S.view station.old).calls + copy_calls (room_in place.now.layout) (used_by records) segments }
     ensures damaged { IfErr result (λ fault. Told (S.view station.old) → (rows : List Record) → AreRows place.now.layout.format rows → length rows ≡ records →
         HasPacked place.now rows (used_by records) (S.view station.old).held → fault ≡ StoreFault.Failed) }
     ensures cause { IfErr result (HasCause place.now.layout.format records frames.new) }
@@ -106,6 +106,7 @@ fn fill_places<S: Station>(
     requires empty { (i : ℕ) → i < count → share_in place.now.layout.format (packed.old.room + i) frames.old ≡ [] }
     ensures reads { ReadsPacked place.now records result packed.old packed.new frames.old frames.new (S.view station.old) (S.view station.new) }
     ensures calls { OnOk result (GoesInParts packed.old.room (used_by records) (used_by records - packed.old.unread) (used_by records - packed.new.unread) (S.view station.old).calls (S.view station.new).calls) }
+    ensures tried { TriesParts packed.old.room (used_by records) (used_by records - packed.old.unread) (S.view station.old).calls (S.view station.new).calls }
     ensures rest { OnOk result (packed.new.rest ≡ low * records / segments) }
     ensures filled { OnOk result (Told (S.view station.old) → (rows : List Record) → ArePacked place.now records rows packed.old frames.old (S.view station.old).held →
         (i : ℕ) → i < count → share_in place.now.layout.format (packed.old.room + i) frames.new ≡ segment_at (spread_over segments rows) (low + i)) }
@@ -147,6 +148,7 @@ fn fill_share<S: Station>(
     requires enough { share ≤ packed.old.rest }
     ensures reads { ReadsPacked place.now records result packed.old packed.new frames.old frames.new (S.view station.old) (S.view station.new) }
     ensures calls { OnOk result (GoesInParts packed.old.room (used_by records) (used_by records - packed.old.unread) (used_by records - packed.new.unread) (S.view station.old).calls (S.view station.new).calls) }
+    ensures tried { TriesParts packed.old.room (used_by records) (used_by records - packed.old.unread) (S.view station.old).calls (S.view station.new).calls }
     ensures rest { OnOk result (packed.new.rest + share ≡ packed.old.rest) }
     ensures filled { OnOk result (Told (S.view station.old) → (rows : List Record) → ArePacked place.now records rows packed.old frames.old (S.view station.old).held →
         share_in place.now.layout.format f frames.new ≡ slice_range rows packed.new.rest packed.old.rest) }

@@ -1,4 +1,4 @@
-use Rattle.std.proofs.Common.{arith, ◌≡◌, inl, ℕ, ◌+◌, ◌*◌, ◌^◌, ◌≤◌, sym, ap, subst, ◌∙◌}
+use Rattle.std.proofs.Common.{arith, ◌≡◌, inl, ℕ, ◌+◌, ◌-◌, ◌*◌, ◌^◌, ◌≤◌, sym, ap, subst, ◌∙◌}
 use Rattle.std.proofs.Math.Nat.{pow-le-pow_right}
 use Rattle.std.proofs.lemmas.Result.{err_from_is_err_and}
 use Rattle.station.specs.View.{Told}
@@ -19,6 +19,7 @@ use Rattle.bulk_load.proofs.PackLaws.{packed_none, cost_on}
 use Rattle.resize_region.specs.Source.{copy_calls}
 use Rattle.bulk_load.specs.Packing.{room_in}
 use Rattle.bulk_load.specs.Spreading.{used_by}
+use Rattle.bulk_load.proofs.MostLaws.{load_calls_rise, packed_calls, packed_cost, packing_rises}
 use Rattle.bulk_load.proofs.PackLaws.{runs_parts, room_some}
 use Rattle.bulk_load.proofs.loading.write_text.Goals as goal
 use Rattle.bulk_load.proofs.loading.write_text.Goals.{After-segments_at-segments, In-Ok}
@@ -145,7 +146,7 @@ returns-in-Ok-spread_aside-clause-cost g c =
     let t = c.in_ok-taken.taken in
     let u = c.flush_rest.new.taken in
     let behind : t.written ≤ u.written = omega (arith, r.1.behind, r.1.taken.count, c.in-Ok.ensures.written) in
-    let one = cost_on size t.written u.written (g.S.Station.view c.args.station.now).travel.written (g.S.Station.view c.read_text.new.station).travel.written (g.S.Station.view c.flush_rest.new.station).travel.written behind c.in_ok-taken.ensures.cost c.in-Ok.ensures.cost in
+    let one = cost_on size t.written u.written (g.S.Station.view c.args.station.now).travel.written (g.S.Station.view c.read_text.new.station).travel.written (g.S.Station.view c.flush_rest.new.station).travel.written behind c.in_ok-taken.ensures.cost (omega (arith, c.flush_rest.ensures.cost, ap (λ (n : ℕ). size * (n - t.written)) c.in-Ok.ensures.written)) in
     let some : u.written ≤ 2 ^ c.least_height-height.result = omega (arith, fits g at, c.in-Ok.ensures.written, c.segments_at-segments.ensures) in
     let all : size * c.segments_at-segments.result ≡ size * 2 ^ c.least_height-height.result = ap (λ (n : ℕ). size * n) c.segments_at-segments.ensures in
     omega (arith, one, c.spread_aside.ensures.cost, all, times_up size u.written (2 ^ c.least_height-height.result) some)
@@ -172,5 +173,77 @@ returns-in-Ok-spread_aside-clause-calls g c =
     let r = c.in_ok-taken.ensures.read in
     let t = c.in_ok-taken.taken in
     let runs = c.in_ok-taken.ensures.calls in
-    let packed = c.in-Ok.ensures.calls runs.0 (runs_parts (room_in layout) (used_by t.records) t.written runs.0 (omega (arith, room_some layout c.requires.can.layout)) (omega (arith, r.1.behind, r.1.taken.count)) runs.1) in
+    let packed = c.flush_rest.ensures.calls runs.0 (runs_parts (room_in layout) (used_by t.records) t.written runs.0 (omega (arith, room_some layout c.requires.can.layout)) (omega (arith, r.1.behind, r.1.taken.count)) runs.1) in
     omega (arith, runs.2, packed.2, packed.1.few, c.in-Ok-spread_aside.ensures.calls, ap (copy_calls (room_in layout) (used_by t.records)) c.segments_at-segments.ensures)
+
+-- Whatever was answered.
+
+pub returns-in_err-taken-clause-most_cost : goal.returns-in_err-taken-clause-most_cost
+returns-in_err-taken-clause-most_cost g c = omega (arith, c.read_text.ensures.most_cost)
+
+pub returns-in_err-taken-clause-most_calls : goal.returns-in_err-taken-clause-most_calls
+returns-in_err-taken-clause-most_calls g c = omega (arith, c.read_text.ensures.most_calls)
+
+pub returns-in-Err-clause-most_cost : goal.returns-in-Err-clause-most_cost
+returns-in-Err-clause-most_cost g c =
+    let r = c.in_ok-taken.ensures.read in
+    omega (arith, packed_cost c.args.place.now.layout c.in_ok-taken.taken (g.S.Station.view c.args.station.now).travel.written (g.S.Station.view c.read_text.new.station).travel.written (g.S.Station.view c.flush_rest.new.station).travel.written (omega (arith, r.1.behind, r.1.taken.count)) (omega (arith, r.1.few, r.1.taken.count)) c.in_ok-taken.ensures.cost c.flush_rest.ensures.cost)
+
+pub returns-in-Err-clause-most_calls : goal.returns-in-Err-clause-most_calls
+returns-in-Err-clause-most_calls g c =
+    let l = c.args.place.now.layout in
+    let r = c.in_ok-taken.ensures.read in
+    let few : c.in_ok-taken.taken.records ≤ most_records l = omega (arith, r.1.few, r.1.taken.count) in
+    omega (
+      arith,
+      packed_calls l c.requires.can.layout c.in_ok-taken.taken (g.S.Station.view c.args.station.now).calls (g.S.Station.view c.read_text.new.station).calls (g.S.Station.view c.flush_rest.new.station).calls (omega (arith, r.1.behind, r.1.taken.count)) c.in_ok-taken.ensures.calls c.flush_rest.ensures.calls,
+      packing_rises l c.requires.can.layout c.in_ok-taken.taken.records (most_records l) few,
+    )
+
+pub returns-in-Err-spread_aside-clause-most_cost : goal.returns-in-Err-spread_aside-clause-most_cost
+returns-in-Err-spread_aside-clause-most_cost g c =
+    let l = c.args.place.now.layout in
+    let r = c.in_ok-taken.ensures.read in
+    let at = (goal.at.returns-in-Err-spread_aside-clause-most_cost g c).After-segments_at-segments in
+    omega (
+      arith,
+      packed_cost l c.in_ok-taken.taken (g.S.Station.view c.args.station.now).travel.written (g.S.Station.view c.read_text.new.station).travel.written (g.S.Station.view c.flush_rest.new.station).travel.written (omega (arith, r.1.behind, r.1.taken.count)) (omega (arith, r.1.few, r.1.taken.count)) c.in_ok-taken.ensures.cost c.flush_rest.ensures.cost,
+      c.spread_aside.ensures.cost,
+      times_up (segment_size l) c.segments_at-segments.result (2 ^ height_limit l) (inside g at),
+    )
+
+pub returns-in-Err-spread_aside-clause-most_calls : goal.returns-in-Err-spread_aside-clause-most_calls
+returns-in-Err-spread_aside-clause-most_calls g c =
+    let l = c.args.place.now.layout in
+    let r = c.in_ok-taken.ensures.read in
+    let at = (goal.at.returns-in-Err-spread_aside-clause-most_calls g c).After-segments_at-segments in
+    omega (
+      arith,
+      packed_calls l c.requires.can.layout c.in_ok-taken.taken (g.S.Station.view c.args.station.now).calls (g.S.Station.view c.read_text.new.station).calls (g.S.Station.view c.flush_rest.new.station).calls (omega (arith, r.1.behind, r.1.taken.count)) c.in_ok-taken.ensures.calls c.flush_rest.ensures.calls,
+      c.spread_aside.ensures.calls,
+      load_calls_rise l c.requires.can.layout c.in_ok-taken.taken.records (most_records l) c.segments_at-segments.result (2 ^ height_limit l) (omega (arith, r.1.few, r.1.taken.count)) (inside g at),
+    )
+
+pub returns-in-Ok-spread_aside-clause-most_cost : goal.returns-in-Ok-spread_aside-clause-most_cost
+returns-in-Ok-spread_aside-clause-most_cost g c =
+    let l = c.args.place.now.layout in
+    let r = c.in_ok-taken.ensures.read in
+    let at = (goal.at.returns-in-Ok-spread_aside-clause-most_cost g c).After-segments_at-segments in
+    omega (
+      arith,
+      packed_cost l c.in_ok-taken.taken (g.S.Station.view c.args.station.now).travel.written (g.S.Station.view c.read_text.new.station).travel.written (g.S.Station.view c.flush_rest.new.station).travel.written (omega (arith, r.1.behind, r.1.taken.count)) (omega (arith, r.1.few, r.1.taken.count)) c.in_ok-taken.ensures.cost c.flush_rest.ensures.cost,
+      c.spread_aside.ensures.cost,
+      times_up (segment_size l) c.segments_at-segments.result (2 ^ height_limit l) (inside g at),
+    )
+
+pub returns-in-Ok-spread_aside-clause-most_calls : goal.returns-in-Ok-spread_aside-clause-most_calls
+returns-in-Ok-spread_aside-clause-most_calls g c =
+    let l = c.args.place.now.layout in
+    let r = c.in_ok-taken.ensures.read in
+    let at = (goal.at.returns-in-Ok-spread_aside-clause-most_calls g c).After-segments_at-segments in
+    omega (
+      arith,
+      packed_calls l c.requires.can.layout c.in_ok-taken.taken (g.S.Station.view c.args.station.now).calls (g.S.Station.view c.read_text.new.station).calls (g.S.Station.view c.flush_rest.new.station).calls (omega (arith, r.1.behind, r.1.taken.count)) c.in_ok-taken.ensures.calls c.flush_rest.ensures.calls,
+      c.spread_aside.ensures.calls,
+      load_calls_rise l c.requires.can.layout c.in_ok-taken.taken.records (most_records l) c.segments_at-segments.result (2 ^ height_limit l) (omega (arith, r.1.few, r.1.taken.count)) (inside g at),
+    )

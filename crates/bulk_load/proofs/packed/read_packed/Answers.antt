@@ -10,7 +10,7 @@ use Rattle.bulk_load.specs.Packing.{packed_at}
 use Rattle.bulk_load.proofs.PackLaws.{few_segments}
 use Rattle.bulk_load.proofs.PackedLaws as laws
 use Rattle.segment_frames.proofs.PartLaws.{parts_more}
-use Rattle.bulk_load.specs.Spreading.{used_by}
+use Rattle.bulk_load.specs.Spreading.{TriesParts, used_by}
 use Rattle.bulk_load.proofs.packed.read_packed.Goals as goal
 use Rattle.bulk_load.proofs.packed.read_packed.Goals.{After-min-count, After-read_aside}
 
@@ -136,3 +136,27 @@ returns-clause-calls g c made is =
           (λ more. omega (arith, more, c.min-count.ensures, is_packed.few, is_packed.within)),
       omega (arith, c.read_aside.ensures.calls),
     )
+
+-- Whatever came of the reading, it was one call.
+
+tried : (g : _) (c : After-read_aside g) → TriesParts c.args.packed.now.room (used_by c.args.records) (used_by c.args.records - c.args.packed.now.unread) (g.S.Station.view c.args.station.now).calls (g.S.Station.view c.read_aside.new.station).calls
+tried g c =
+    let s = c.args.packed.now in
+    let is_packed = c.requires.packed in (
+      used_by c.args.records - (s.unread - c.min-count.result),
+      (λ made is. (
+        made + 1,
+        parts_more s.room (used_by c.args.records) (used_by c.args.records - s.unread) (used_by c.args.records - (s.unread - c.min-count.result)) made is_packed.some is (omega (arith, is_packed.few, is_packed.within, c.requires.none, c.requires.some))
+            (λ more. omega (arith, more, c.min-count.ensures, is_packed.few, is_packed.within)),
+        omega (arith, c.read_aside.ensures.calls),
+      )),
+    )
+
+pub returns-in_err-read_aside-clause-tried : goal.returns-in_err-read_aside-clause-tried
+returns-in_err-read_aside-clause-tried g c = tried g (goal.at.returns-in_err-read_aside-clause-tried g c).After-read_aside
+
+pub returns-in_err-judge_packed-clause-tried : goal.returns-in_err-judge_packed-clause-tried
+returns-in_err-judge_packed-clause-tried g c = tried g (goal.at.returns-in_err-judge_packed-clause-tried g c).After-read_aside
+
+pub returns-clause-tried : goal.returns-clause-tried
+returns-clause-tried g c = tried g (goal.at.returns-clause-tried g c).After-read_aside

@@ -1,7 +1,9 @@
-use Rattle.std.proofs.Common.{arith, refl, ◌+◌, ◌-◌, ◌*◌, ◌/◌, List, [], ◌∷◌, ◌++◌, Some, ap}
+use Rattle.std.proofs.Common.{arith, inl, inr, refl, ◌+◌, ◌-◌, ◌*◌, ◌/◌, ◌^◌, ◌≤◌, List, [], ◌∷◌, ◌++◌, Some, ap}
 use Rattle.std.proofs.lemmas.Result.{on_ok_weaker}
+use Rattle.header_gate.specs.Places.{height_limit, segment_size}
 use Rattle.key_slot.specs.Record.{Record}
 use Rattle.key_slot.specs.Row.{record_of}
+use Rattle.key_slot.proofs.SegmentLaws.{times_up}
 use Rattle.redo_journal.specs.Frames.{Batch}
 use Rattle.resize_region.specs.Shares.{places}
 use Rattle.bulk_load.specs.Packing.{IsTaken}
@@ -43,3 +45,17 @@ returns-then-slot-all-clause-calls g c = (0, omega arith, omega arith)
 
 pub returns-clause-calls : goal.returns-clause-calls
 returns-clause-calls g c = on_ok_weaker c.flush.result (λ written. (1, omega (arith, written, c.room_of-all.ensures.room), c.flush.ensures.calls)) c.flush.ensures.written
+
+-- Whatever was answered.
+
+pub returns-then-slot-all-clause-tried : goal.returns-then-slot-all-clause-tried
+returns-then-slot-all-clause-tried g c = inl (omega arith)
+
+pub returns-clause-tried : goal.returns-clause-tried
+returns-clause-tried g c = inr (c.flush.ensures.calls, omega (arith, c.if-slot-all.false, c.room_of-all.ensures.room, c.requires.place.behind))
+
+pub returns-clause-most_cost : goal.returns-clause-most_cost
+returns-clause-most_cost g c =
+    let l = c.args.place.now.layout in
+    let inside : c.room_of-all.result ≤ 2 ^ height_limit l - c.args.taken.now.written = omega (arith, c.if-slot-all.false, c.requires.place.behind, c.requires.place.within, c.room_of-all.ensures.room, c.requires.room) in
+    omega (arith, c.flush.ensures.cost, times_up (segment_size l) c.room_of-all.result (2 ^ height_limit l - c.args.taken.now.written) inside)

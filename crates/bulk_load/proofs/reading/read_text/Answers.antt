@@ -12,6 +12,7 @@ use Rattle.resize_region.specs.Shares.{places}
 use Rattle.bulk_load.specs.Reading.{GivesEntry, IsNextEntry, FitsLine}
 use Rattle.bulk_load.proofs.Calls.{none_spares, spares_on, fill_on}
 use Rattle.bulk_load.proofs.PackLaws.{room_some, cost_on, runs_on}
+use Rattle.bulk_load.proofs.MostLaws.{all_calls, all_cost, tried_calls, tried_cost}
 use Rattle.bulk_load.proofs.TakenLaws.{none_taken}
 use Rattle.bulk_load.proofs.ReadLaws.{reading_fault, line_fault, loaded_more, takes_given, takes_last}
 use Rattle.bulk_load.proofs.reading.read_text.Goals as goal
@@ -163,3 +164,45 @@ pub returns-in-Err-clause-takes : goal.returns-in-Err-clause-takes
 returns-in-Err-clause-takes g c =
     let next = turn g (goal.at.returns-in-Err-clause-takes g c).After-take_line in
     takes_given c.args.reader.now (g.I.Source.view c.args.source.now) (c.loop-line.invariant.given ++ next.raw ∷ []) c.next_entry.new.reader (g.I.Source.view c.next_entry.new.source) next.more
+
+-- Whatever was answered.
+
+pub returns-in_err-line-clause-most_cost : goal.returns-in_err-line-clause-most_cost
+returns-in_err-line-clause-most_cost g c =
+    let here = c.loop-line.invariant in
+    all_cost c.args.place.now.layout c.requires.can.layout c.loop-line.taken here.has_place here.few (g.S.Station.view c.args.station.now).travel.written (g.S.Station.view c.loop-line.station).travel.written here.cost
+
+pub returns-in_err-line-clause-most_calls : goal.returns-in_err-line-clause-most_calls
+returns-in_err-line-clause-most_calls g c =
+    let here = c.loop-line.invariant in
+    all_calls c.args.place.now.layout c.requires.can.layout c.loop-line.taken here.has_place here.few (g.S.Station.view c.args.station.now).calls (g.S.Station.view c.loop-line.station).calls here.calls
+
+pub returns-then-taken-clause-most_cost : goal.returns-then-taken-clause-most_cost
+returns-then-taken-clause-most_cost g c =
+    let here = c.loop-line.invariant in
+    all_cost c.args.place.now.layout c.requires.can.layout c.loop-line.taken here.has_place here.few (g.S.Station.view c.args.station.now).travel.written (g.S.Station.view c.loop-line.station).travel.written here.cost
+
+pub returns-then-taken-clause-most_calls : goal.returns-then-taken-clause-most_calls
+returns-then-taken-clause-most_calls g c =
+    let here = c.loop-line.invariant in
+    all_calls c.args.place.now.layout c.requires.can.layout c.loop-line.taken here.has_place here.few (g.S.Station.view c.args.station.now).calls (g.S.Station.view c.loop-line.station).calls here.calls
+
+pub returns-else-taken-clause-most_cost : goal.returns-else-taken-clause-most_cost
+returns-else-taken-clause-most_cost g c =
+    let here = c.loop-line.invariant in
+    all_cost c.args.place.now.layout c.requires.can.layout c.loop-line.taken here.has_place here.few (g.S.Station.view c.args.station.now).travel.written (g.S.Station.view c.loop-line.station).travel.written here.cost
+
+pub returns-else-taken-clause-most_calls : goal.returns-else-taken-clause-most_calls
+returns-else-taken-clause-most_calls g c =
+    let here = c.loop-line.invariant in
+    all_calls c.args.place.now.layout c.requires.can.layout c.loop-line.taken here.has_place here.few (g.S.Station.view c.args.station.now).calls (g.S.Station.view c.loop-line.station).calls here.calls
+
+pub returns-in-Err-clause-most_cost : goal.returns-in-Err-clause-most_cost
+returns-in-Err-clause-most_cost g c =
+    let here = c.loop-line.invariant in
+    tried_cost c.args.place.now.layout c.requires.can.layout c.loop-line.taken here.has_place here.few (g.S.Station.view c.args.station.now).travel.written (g.S.Station.view c.loop-line.station).travel.written (g.S.Station.view c.take_line.new.station).travel.written here.cost c.take_line.ensures.most_cost
+
+pub returns-in-Err-clause-most_calls : goal.returns-in-Err-clause-most_calls
+returns-in-Err-clause-most_calls g c =
+    let here = c.loop-line.invariant in
+    tried_calls c.args.place.now.layout c.requires.can.layout c.loop-line.taken here.has_place here.few (g.S.Station.view c.args.station.now).calls (g.S.Station.view c.loop-line.station).calls (g.S.Station.view c.take_line.new.station).calls here.calls c.take_line.ensures.most_calls

@@ -1,4 +1,4 @@
-use Rattle.std.proofs.Common.{refl, sym, ap, subst, ◌∙◌, arith}
+use Rattle.std.proofs.Common.{inl, refl, sym, ap, subst, ◌∙◌, arith}
 use Rattle.command_text.specs.declared.load.LoadLine.{LoadLine}
 use Rattle.bulk_load.specs.Loading.{after_line}
 use Rattle.bulk_load.specs.Loads.{most_records}
@@ -33,5 +33,7 @@ returns-else-not-ends g c =
       steps = none_spares c.args.place.now (g.S.Station.view c.args.station.now) c.requires.can.live;
       cost = omega arith;
       calls = (0, omega arith, omega arith);
+      most_cost = omega arith;
+      most_calls = inl (omega arith);
       failed = λ e. absurd (no_disk tt e);
     }

@@ -1,4 +1,4 @@
-use Rattle.std.proofs.Common.{arith, ◌≡◌, ◌+◌, refl, [], ◌∷◌, ◌++◌, sym, ap, subst, ◌∙◌}
+use Rattle.std.proofs.Common.{arith, ◌≡◌, ◌+◌, inl, inr, refl, [], ◌∷◌, ◌++◌, sym, ap, subst, ◌∙◌}
 use Rattle.density_rule.specs.Bounds.{upper_of}
 use Rattle.header_gate.specs.Places.{height_limit}
 use Rattle.key_slot.specs.Row.{record_of}
@@ -28,6 +28,8 @@ returns-then-taken-most g c k =
       steps = none_spares c.args.place.now (g.S.Station.view c.args.station.now) c.requires.can.live;
       cost = tt;
       calls = tt;
+      most_cost = omega arith;
+      most_calls = inl (omega arith);
       failed = λ e. absurd cc;
     }
 
@@ -70,6 +72,8 @@ returns-in-Ok g c k =
       steps = c.pack.ensures.steps;
       cost = c.in-Ok.ensures.cost;
       calls = c.in-Ok.ensures.calls;
+      most_cost = c.pack.ensures.most_cost;
+      most_calls = elim c.pack.ensures.tried [ inl none ↦ inl none | inr one ↦ inr (one.0, omega (arith, one.1, less)) ];
       failed = λ e. absurd (no_disk tt e);
     }
 
@@ -77,6 +81,7 @@ pub returns-in-Err : goal.returns-in-Err
 returns-in-Err g c k =
     let l = c.args.place.now.layout in
     let disk = c.of_file.ensures ∙ ap load_fault_of c.in-Err.ensures.fault in
+    let less = room_for l c.args.taken.now.records c.upper-most.result (c.upper-most.ensures ∙ ap upper_of c.height_limit.ensures.limit) c.if-taken-most.false c.requires.taking.few in
     record {
       takes = tt;
       taking = tt;
@@ -87,5 +92,7 @@ returns-in-Err g c k =
       steps = c.pack.ensures.steps;
       cost = tt;
       calls = tt;
+      most_cost = c.pack.ensures.most_cost;
+      most_calls = elim c.pack.ensures.tried [ inl none ↦ inl none | inr one ↦ inr (one.0, omega (arith, one.1, less)) ];
       failed = λ e. c.in-Err.ensures.failed (failed_as {T = Unit {0}} c.in-Err.fault c.in-Err.ensures.fault);
     }

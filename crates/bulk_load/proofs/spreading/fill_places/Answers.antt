@@ -131,3 +131,16 @@ returns-clause-filled g c told rows are i lt = c.loop-f.invariant.filled told ro
 
 pub returns-clause-calls : goal.returns-clause-calls
 returns-clause-calls g c = c.loop-f.invariant.calls
+
+-- The calls, whatever was answered.
+
+pub returns-in_err-fill_share-clause-tried : goal.returns-in_err-fill_share-clause-tried
+returns-in_err-fill_share-clause-tried g c =
+    let inv = c.loop-f.invariant in
+    let last = c.fill_share.ensures.tried in (
+      last.0,
+      parts_on _ _ _ _ _ _ _ _ inv.calls (subst (λ (room : ℕ). GoesInParts room (used_by c.args.records) (used_by c.args.records - c.loop-f.packed.unread) last.0 (g.S.Station.view c.loop-f.station).calls (g.S.Station.view c.fill_share.new.station).calls) inv.room last.1),
+    )
+
+pub returns-clause-tried : goal.returns-clause-tried
+returns-clause-tried g c = (used_by c.args.records - c.loop-f.packed.unread, c.loop-f.invariant.calls)

@@ -140,3 +140,16 @@ returns-clause-others g c i le lt other = c.loop-have.invariant.others i le lt o
 
 pub returns-clause-calls : goal.returns-clause-calls
 returns-clause-calls g c = c.loop-have.invariant.calls
+
+-- The calls, whatever was answered.
+
+pub returns-in_err-read_packed-clause-tried : goal.returns-in_err-read_packed-clause-tried
+returns-in_err-read_packed-clause-tried g c =
+    let inv = c.loop-have.invariant in
+    let last = c.read_packed.ensures.tried in (
+      last.0,
+      parts_on _ _ _ _ _ _ _ _ inv.calls (subst (λ (room : ℕ). GoesInParts room (used_by c.args.records) (used_by c.args.records - c.loop-have.packed.unread) last.0 (g.S.Station.view c.loop-have.station).calls (g.S.Station.view c.read_packed.new.station).calls) inv.room last.1),
+    )
+
+pub returns-clause-tried : goal.returns-clause-tried
+returns-clause-tried g c = (used_by c.args.records - c.loop-have.packed.unread, c.loop-have.invariant.calls)

@@ -17,6 +17,7 @@ use Rattle.bulk_load.proofs.PackLaws.{few_segments}
 use Rattle.bulk_load.proofs.SpreadLaws.{begins_early, spread_fits, spent, packed_beside, are_beside, packed_first, are_first}
 use Rattle.segment_frames.specs.Parts.{parts, GoesInParts}
 use Rattle.resize_region.proofs.CopyCalls.{copy_none, copy_read, copy_written, copy_few, halves}
+use Rattle.resize_region.specs.Source.{copy_calls}
 use Rattle.bulk_load.specs.Packing.{room_in}
 use Rattle.bulk_load.specs.Spreading.{used_by}
 use Rattle.bulk_load.proofs.spreading.spread_aside.Goals as goal
@@ -194,3 +195,37 @@ returns-clause-calls g c =
     let used = used_by c.args.records in
     let same = c.room_of-all.ensures.room in
     omega (arith, copy_few _ _ _ _ _ _ _ _ c.loop-end.invariant.calls, ap (λ (n : ℕ). parts (n - (all - all / 2)) used) same, halves (room_in c.args.place.now.layout) all used c.args.segments same)
+
+-- The calls, where one failed.
+
+-- those of the parts, with the room that is used
+all_calls : (g : _) (c : After-room_of-all g) (now : ℕ) → now ≤ (g.S.Station.view c.args.station.now).calls + (parts (c.room_of-all.result - (c.room_of-all.result - c.room_of-all.result / 2)) (used_by c.args.records) + parts (c.room_of-all.result - c.room_of-all.result / 2) c.args.segments)
+    → now ≤ (g.S.Station.view c.args.station.now).calls + copy_calls (room_in c.args.place.now.layout) (used_by c.args.records) c.args.segments
+all_calls g c now most =
+    let all = c.room_of-all.result in
+    let used = used_by c.args.records in
+    let same = c.room_of-all.ensures.room in
+    omega (arith, most, ap (λ (n : ℕ). parts (n - (all - all / 2)) used) same, halves (room_in c.args.place.now.layout) all used c.args.segments same)
+
+pub returns-in_err-fill_places-clause-calls : goal.returns-in_err-fill_places-clause-calls
+returns-in_err-fill_places-clause-calls g c =
+    let inv = c.loop-end.invariant in
+    let all = c.room_of-all.result in
+    let last = c.fill_places.ensures.tried in
+    let half : c.loop-end.packed.room ≡ all - (all - all / 2) = omega (arith, inv.halves) in
+    all_calls g (goal.at.returns-in_err-fill_places-clause-calls g c).After-room_of-all (g.S.Station.view c.fill_places.new.station).calls
+    (copy_few _ _ _ _ _ _ _ _ (copy_read _ _ _ _ _ _ _ _ _ _ inv.calls (subst (λ (room : ℕ). GoesInParts room (used_by c.args.records) (used_by c.args.records - c.loop-end.packed.unread) last.0 (g.S.Station.view c.loop-end.station).calls (g.S.Station.view c.fill_places.new.station).calls) half last.1)))
+
+pub returns-in_err-write_aside-clause-calls : goal.returns-in_err-write_aside-clause-calls
+returns-in_err-write_aside-clause-calls g c =
+    let inv = c.loop-end.invariant in
+    let fill = c.in_ok-fill_places.ensures in
+    let all = c.room_of-all.result in
+    let n = c.min-count.result in
+    let low = c.loop-end.end - n in
+    let half : c.loop-end.packed.room ≡ all - (all - all / 2) = omega (arith, inv.halves) in
+    all_calls g (goal.at.returns-in_err-write_aside-clause-calls g c).After-room_of-all (g.S.Station.view c.write_aside.new.station).calls
+    (copy_few _ _ _ _ _ _ _ _
+    (copy_written _ _ _ _ c.args.segments (c.args.segments - c.loop-end.end) (c.args.segments - low) _ _ _ (omega (arith, c.room_of-all.ensures.some))
+    (copy_read _ _ _ _ _ _ _ _ _ _ inv.calls (subst (λ (room : ℕ). GoesInParts room (used_by c.args.records) (used_by c.args.records - c.loop-end.packed.unread) (used_by c.args.records - c.fill_places.new.packed.unread) (g.S.Station.view c.loop-end.station).calls (g.S.Station.view c.fill_places.new.station).calls) half fill.calls))
+    (omega (arith, c.loop-end-test.true, inv.upto)) (λ more. omega (arith, more, c.min-count.ensures, inv.upto)) c.write_aside.ensures.calls))
