@@ -5,6 +5,7 @@ use Rattle.std.proofs.lemmas.List.{take_all}
 use Rattle.std.proofs.lemmas.Nat.{pow_pos}
 use Rattle.station.specs.declared.station.Failed as disk
 use Rattle.station.specs.View.{View, Told, Lawful}
+use Rattle.station.specs.Steps.{Steps}
 use Rattle.station.proofs.Composition.{told_back, told_on}
 use Rattle.density_rule.specs.Bounds.{upper_of}
 use Rattle.header_gate.specs.declared.layout.Layout.{Layout}
@@ -34,20 +35,22 @@ use Rattle.pma_store.specs.declared.answers.Batch.TheVariants.{Full, NoBatch}
 use Rattle.pma_store.specs.declared.judging.Judged.{Judged}
 use Rattle.pma_store.specs.declared.look.Look.{Look}
 use Rattle.pma_store.specs.Answers.{state_in}
-use Rattle.pma_store.specs.AtOnce.{CommitsEdits, CommitsFrames}
-use Rattle.pma_store.specs.Batching.{AppliesBatch, done_by, items_made, map_after_batch, version_of}
+use Rattle.pma_store.specs.AtOnce.{CommitsEdits, CommitsFrames, CommitsPages}
+use Rattle.pma_store.specs.Batching.{AppliesBatch, MakesAtOnce, done_by, items_made, map_after_batch, version_of}
 use Rattle.pma_store.specs.BatchCalls.{CallsBatch, LooksOnce}
 use Rattle.pma_store.specs.Changing.{most_written}
 use Rattle.pma_store.specs.Costing.{updates_cost, WritesSome}
 use Rattle.pma_store.specs.Judging.{counts_of as counts_judged, edits_of, judged_of, total}
+use Rattle.pma_store.specs.Once.{edited_segments}
 use Rattle.pma_store.specs.Store.{StoreView, Stands, limit_of}
 use Rattle.pma_store.proofs.BatchCalls.{commit_behind, runs_few}
 use Rattle.pma_store.proofs.Batched.{fault_batch}
 use Rattle.pma_store.proofs.Resting.{each_rest}
 use Rattle.redo_journal.proofs.Live.{rests_settled}
-use Rattle.pma_store.proofs.Committed.{IsReadyAtOnce, LeavesBy, leaves_held, member, commit_touches, commit_idle, commit_means, balanced, holds, are, lays, reached, loads, counts_are, changes_are, size, stands, same_layout, tall}
+use Rattle.pma_store.proofs.Committed.{IsReadyAtOnce, LeavesBy, leaves_held, member, commit_touches, commit_updates, commit_idle, commit_means, balanced, holds, are, lays, reached, loads, counts_are, changes_are, size, stands, same_layout, tall}
 use Rattle.pma_store.proofs.Effects.{charges_edits, costs_edits, edits_in}
 use Rattle.pma_store.proofs.Making.{no_fault, stands_again}
+use Rattle.pma_store.proofs.OnceLaws.{used_few}
 use Rattle.pma_store.proofs.Outcomes.{has_is}
 
 -- Products, and sums with them.
@@ -119,8 +122,21 @@ module _ {a : View} (items : List Update) (s : StoreView) (numbers : List ℕ) (
   few_runs : run_count b.numbers ≤ look.count
   few_runs = omega (arith, ap run_count ready.loaded.held.pages, runs_few s.place.layout.format (segments_in s.place.layout.format b.numbers), ready.loaded.count_is)
 
-  pub once_looked : {start c : View} (looked : LooksOnce items s.tally.height start a) → look.count ≤ length looked.looked → c.calls ≤ a.calls + (8 + run_count b.numbers) → CallsBatch items s start c
-  once_looked looked few_looked calls = commit_behind items s (run_count b.numbers) looked (omega (arith, few_runs, few_looked)) calls
+  pub once_looked : {start c : View} (looked : LooksOnce items s.tally.height start a) → look.count ≤ length looked.looked → (Told start → look.count ≤ length (edited_segments (array_of start.held) items)) → c.calls ≤ a.calls + (8 + run_count b.numbers) → CallsBatch items s start c
+  once_looked looked few_looked used calls = commit_behind items s (run_count b.numbers) looked (omega (arith, few_runs, few_looked)) (λ told. omega (arith, few_runs, used told)) calls
+
+  -- no more segments than the items edit
+  pub few_used : Told a → look.count ≤ length (edited_segments (array_of a.held) items)
+  few_used told = omega (arith, ready.loaded.count_is, used_few s.place.layout (array_of a.held) items b look.whole ready.loaded.held (ready.used told))
+
+  once_made : {c : View} → Steps (CommitsPages s.place look.count b) a c → c.travel.written ≤ a.travel.written + (8196 * s.place.layout.format * look.count + 6) → (look.count ≡ 0 → c.travel.written ≡ a.travel.written) → Told a → MakesAtOnce items s a c
+  once_made steps cost none told =
+      let edited = edited_segments (array_of a.held) items in
+      record {
+        touched = commit_updates items s numbers b look judged changes ready steps;
+        written = omega (arith, cost, times_up (8196 * s.place.layout.format) look.count (length edited) (few_used told));
+        unwritten = λ empty. none (omega (arith, few_used told, ap (length {A = ℕ}) empty));
+      }
 
   pub not_committed : {c : View} → (fault : disk.Failed) (looked : LooksOnce items s.tally.height a a) → look.count ≤ length looked.looked → (turn : ℕ) → (frames : CommitsFrames s.place look.count (Err fault) b turn a c) → AppliesBatch items (Err Failed) s (record s { turn = turn }) a c
   not_committed {c} fault looked few_looked turn frames = fault_batch items Failed s (record s { turn = turn })
@@ -128,7 +144,7 @@ module _ {a : View} (items : List Update) (s : StoreView) (numbers : List ℕ) (
       (commit_touches items s numbers b look judged changes ready frames.steps)
       refl refl
       (λ told. writes told c frames.cost)
-      (omega (arith, frames.cost, most_covers s.place.layout (limit_of s) look.count (length items) (omega (arith, few, all)))) (once_looked looked few_looked frames.calls)
+      (omega (arith, frames.cost, most_covers s.place.layout (limit_of s) look.count (length items) (omega (arith, few, all)))) (once_looked looked few_looked few_used frames.calls) (λ told are. once_made frames.steps frames.cost frames.none told)
       (λ told. refl) tt (inl refl) (λ failed. frames.cause)
 
   module _ {c : View} (looked : LooksOnce items s.tally.height a a) (few_looked : look.count ≤ length looked.looked) (law_c : Lawful c) (turn : ℕ) (index : IndexView) (tally : TallyView) (commits : CommitsEdits s.place look changes (Ok tt) b turn s.index index s.tally tally a c) where
@@ -235,7 +251,8 @@ module _ {a : View} (items : List Update) (s : StoreView) (numbers : List ℕ) (
         most = λ told. writes told c commits.frames.cost;
         spent = omega (arith, commits.frames.cost, most_covers s.place.layout (limit_of s) look.count (length items) (omega (arith, few, all)));
         looks = λ refusal. absurd refusal;
-        calls = once_looked looked few_looked commits.frames.calls;
+        calls = once_looked looked few_looked few_used commits.frames.calls;
+        at_once = λ told are. once_made commits.frames.steps commits.frames.cost commits.frames.none told;
         paid = omega (arith, commits.paid, ready.fits.listed, all);
         met = tt;
         complete = λ told calm. refl;

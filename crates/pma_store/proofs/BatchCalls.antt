@@ -23,6 +23,7 @@ use Rattle.window_tally.specs.View.{TallyView}
 use Rattle.pma_store.specs.Answers.{state_in}
 use Rattle.pma_store.specs.BatchCalls.{AreForItems, AreOwnSegments, CallsBatch, CallsIntent, IsForItem, IsForItems, LooksOnce}
 use Rattle.pma_store.specs.Looked.{BelongThere, ReadsOnce}
+use Rattle.pma_store.specs.Once.{AreOneCommit, edited_segments}
 use Rattle.pma_store.specs.Store.{StoreView}
 
 -- Numbers that ascend are no more than those of a list in which each of them stands.
@@ -163,21 +164,21 @@ runs_few format (n ∷ ns) = omega (arith, run_count_joined (format * n) format 
 pub look_alone : {a b : View} (items : List Update) (s : StoreView) → LooksOnce items s.tally.height a b → CallsBatch items s a b
 look_alone items s looks = record {
   calls = length looks.looked + 8;
-  is_for = record { looked = looks.looked; are_own = looks.are_own; behind = 8; is_for = inl (record { runs = 0; few = omega arith; is = omega arith }); is = refl };
+  is_for = record { looked = looks.looked; are_own = looks.are_own; behind = 8; is_for = inl (record { runs = 0; few = omega arith; is = omega arith }); is = refl; at_once = λ told are. record { runs = 0; few = omega arith; is = omega arith } };
   most = omega (arith, looks.most);
 }
 
 -- and then a commit was made
-pub commit_behind : {a b c : View} (items : List Update) (s : StoreView) (runs : ℕ) (looks : LooksOnce items s.tally.height a b) → runs ≤ length looks.looked → c.calls ≤ b.calls + (8 + runs) → CallsBatch items s a c
-commit_behind items s runs looks few most = record {
+pub commit_behind : {a b c : View} (items : List Update) (s : StoreView) (runs : ℕ) (looks : LooksOnce items s.tally.height a b) → runs ≤ length looks.looked → (Told a → runs ≤ length (edited_segments (array_of a.held) items)) → c.calls ≤ b.calls + (8 + runs) → CallsBatch items s a c
+commit_behind items s runs looks few used most = record {
   calls = length looks.looked + (8 + runs);
-  is_for = record { looked = looks.looked; are_own = looks.are_own; behind = 8 + runs; is_for = inl (record { runs = runs; few = few; is = refl }); is = refl };
+  is_for = record { looked = looks.looked; are_own = looks.are_own; behind = 8 + runs; is_for = inl (record { runs = runs; few = few; is = refl }); is = refl; at_once = λ told are. record { runs = runs; few = used told; is = refl } };
   most = omega (arith, looks.most, most);
 }
 
 -- or the items under the intent
-pub intent_behind : {a b c : View} (items : List Update) (s : StoreView) → Steps Same a b → LooksOnce items s.tally.height a b → CallsIntent items s b c → CallsBatch items s a c
-intent_behind {a} {b} items s steps looks intent = record {
+pub intent_behind : {a b c : View} (items : List Update) (s : StoreView) → Steps Same a b → LooksOnce items s.tally.height a b → CallsIntent items s b c → (Told a → ¬ AreOneCommit s.place.layout (state_in s a.held) items) → CallsBatch items s a c
+intent_behind {a} {b} items s steps looks intent unfit = record {
   calls = length looks.looked + intent.calls;
   is_for = record {
     looked = looks.looked;
@@ -189,14 +190,15 @@ intent_behind {a} {b} items s steps looks intent = record {
       is = intent.is_for.is;
     });
     is = refl;
+    at_once = λ told are. absurd (unfit told are);
   };
   most = omega (arith, looks.most, intent.most);
 }
 
-pub intent_alone : {a c : View} (items : List Update) (s : StoreView) → CallsIntent items s a c → CallsBatch items s a c
-intent_alone {a} items s intent = record {
+pub intent_alone : {a c : View} (items : List Update) (s : StoreView) → CallsIntent items s a c → (Told a → ¬ AreOneCommit s.place.layout (state_in s a.held) items) → CallsBatch items s a c
+intent_alone {a} items s intent unfit = record {
   calls = intent.calls;
-  is_for = record { looked = []; are_own = none_own items s.tally.height a; behind = intent.calls; is_for = inr intent.is_for; is = omega arith };
+  is_for = record { looked = []; are_own = none_own items s.tally.height a; behind = intent.calls; is_for = inr intent.is_for; is = omega arith; at_once = λ told are. absurd (unfit told are) };
   most = intent.most;
 }
 

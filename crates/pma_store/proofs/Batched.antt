@@ -1,5 +1,5 @@
 -- What a batch comes to, at each way out of the calls that make it.
-use Rattle.std.proofs.Common.{◌^◌, ◌⊎◌, ◌≡◌, inl, inr, ℕ, ◌+◌, ◌<◌, ◌≤◌, ◌&&◌, nat_le, cond, Bool, true, false, T, List, [], length, Option, Some, None, is_some, is_none, Result, Ok, Err, refl, sym, ap, subst, ◌∙◌, arith}
+use Rattle.std.proofs.Common.{◌^◌, ◌⊎◌, ◌≡◌, inl, inr, ℕ, ◌+◌, ◌*◌, ◌<◌, ◌≤◌, ◌&&◌, nat_le, cond, Bool, true, false, T, List, [], length, Option, Some, None, is_some, is_none, Result, Ok, Err, refl, sym, ap, subst, ◌∙◌, arith}
 use Rattle.std.specs.Prelude.{IfOk, IsErrOf, IsOk}
 use Rattle.std.proofs.lemmas.Result.{IfOk-weaker, IfErr-weaker, on_ok_weaker}
 use Rattle.std.specs.List.{list_all}
@@ -15,7 +15,7 @@ use Rattle.density_rule.specs.Bounds.{upper_of}
 use Rattle.header_gate.specs.declared.layout.Layout.{Layout}
 use Rattle.header_gate.specs.declared.layout.TheConstants.{INTENT_VERSION}
 use Rattle.map_model.specs.ArrayState.{ArrayState, next_states}
-use Rattle.map_model.specs.Image.{RepresentsMap, map_of}
+use Rattle.map_model.specs.Image.{RepresentsMap, array_of, map_of}
 use Rattle.map_model.specs.Items.{ItemCounts, no_items, count_items, first_full, accepts, array_state_after_batch, charge_after_items, map_after_items}
 use Rattle.map_model.specs.Store.{Map, Update}
 use Rattle.redo_journal.specs.Rest.{RestsAt}
@@ -24,7 +24,7 @@ use Rattle.segment.specs.declared.fault.StoreFault.TheVariants.{Failed}
 use Rattle.pma_store.specs.declared.answers.Batch.{Batch}
 use Rattle.pma_store.specs.declared.answers.Batch.TheVariants.{Done, Full, NoBatch}
 use Rattle.pma_store.specs.Answers.{state_in}
-use Rattle.pma_store.specs.Batching.{AppliesBatch, IsBatchPlace, IsRefusal, batch_answer, charge_in, done_by, intent_cost_in, items_made, map_after_batch, version_of}
+use Rattle.pma_store.specs.Batching.{AppliesBatch, MakesAtOnce, IsBatchPlace, IsRefusal, batch_answer, charge_in, done_by, intent_cost_in, items_made, map_after_batch, version_of}
 use Rattle.pma_store.specs.BatchCalls.{CallsBatch, CallsIntent, LooksOnce}
 use Rattle.pma_store.specs.Costing.{most_of, updates_cost, WritesSome}
 use Rattle.pma_store.specs.Items.{IsItemPlace, MakesItems}
@@ -32,6 +32,7 @@ use Rattle.pma_store.specs.Judging.{JudgesItems, judged_of}
 use Rattle.pma_store.specs.Damaging.{IsMetLooking, IsMetMid}
 use Rattle.pma_store.specs.Looking.{TellsOther}
 use Rattle.pma_store.specs.Meaning.{BecomesMeant}
+use Rattle.pma_store.specs.Once.{AreOneCommit, edited_segments}
 use Rattle.pma_store.specs.Store.{StoreView, Stands, StandsOn, IsOpenOn, limit_of}
 use Rattle.pma_store.proofs.BatchCalls.{are_from, intent_alone, look_alone, no_looks}
 use Rattle.pma_store.proofs.Making.{no_fault, same_fault, stands_again, stands_on, stands_there}
@@ -50,9 +51,9 @@ fails_by a b fault damaged failed told calm = absurd (calm (failed (ap Err (dama
 pub fault_batch : {a c : View} (items : List Update) (fault : StoreFault) (s t : StoreView)
     → Steps (BecomesMeant s.place.layout (map_of a.held) (map_after_batch (version_of s) (limit_of s) (map_of a.held) items)) a c → Steps (Touched (IsBatchPlace s.place.layout)) a c → t.place.layout ≡ s.place.layout → t.closed ≡ s.closed
     → (Told a → WritesSome s.place.layout (state_in s a.held) (items_made (version_of s) (limit_of s) (map_of a.held) items) (a.travel.written + 514) c.travel.written)
-    → c.travel.written ≤ a.travel.written + (most_of s.place.layout (length items) + 514) → CallsBatch items s a c
+    → c.travel.written ≤ a.travel.written + (most_of s.place.layout (length items) + 514) → CallsBatch items s a c → (Told a → AreOneCommit s.place.layout (state_in s a.held) items → MakesAtOnce items s a c)
     → (Told a → fault ≡ Failed) → TellsOther (2 ^ limit_of s) fault → (fault ≡ Failed) ⊎ ((IsMetLooking s.place s.tally fault c × (c.travel.written ≡ a.travel.written)) ⊎ IsMetMid items s t fault c) → (IsErrOf {T = Batch} (Err fault) Failed → Rose a.disk_faults c.disk_faults) → AppliesBatch items (Err fault) s t a c
-fault_batch {a} {c} items fault s t meant touched layout closed most spent calls damaged counted met failed = record {
+fault_batch {a} {c} items fault s t meant touched layout closed most spent calls at_once damaged counted met failed = record {
   batch = record {
     answer = tt;
     state = tt;
@@ -67,6 +68,7 @@ fault_batch {a} {c} items fault s t meant touched layout closed most spent calls
     spent = spent;
     looks = tt;
     calls = calls;
+    at_once = at_once;
     paid = tt;
     met = met;
     complete = fails_by a c fault damaged failed;
@@ -94,6 +96,13 @@ module _ {a c : View} (items : List Update) (s : StoreView) (law : Lawful a) (is
   still_written : (us : List Update) (x : ArrayState) → WritesSome s.place.layout x us (a.travel.written + 514) c.travel.written
   still_written us x = record { made = 0; some = omega arith; bytes = omega (arith, unwritten) }
 
+  pub still_once : Told a → AreOneCommit s.place.layout (state_in s a.held) items → MakesAtOnce items s a c
+  still_once told are = record {
+    touched = weaken steps (λ d i left same. untouched d i same);
+    written = omega (arith, unwritten);
+    unwritten = λ none. unwritten;
+  }
+
   -- the items were judged, and are refused
   pub refused_batch : (done : Batch) → IsRefusal done → (done ≡ NoBatch → (c.travel ≡ a.travel) × (c.calls ≡ a.calls)) → (Told a → accepts (version_of s) (limit_of s) (map_of a.held) items ≡ false)
       → (Told a → done ≡ batch_answer (version_of s) (limit_of s) (state_in s a.held) items) → AppliesBatch items (Ok done) s s a c
@@ -112,6 +121,7 @@ module _ {a c : View} (items : List Update) (s : StoreView) (law : Lawful a) (is
       spent = omega (arith, unwritten);
       looks = λ _. looks;
       calls = look_alone items s looks;
+      at_once = still_once;
       paid = omega (arith, nothing done refusal);
       met = tt;
       complete = λ told calm. refl;
@@ -178,7 +188,7 @@ judging_fails {a} {c} items fault s t law is judges =
     (still_touched items s law is judges.steps judges.unwritten judges.looks)
     (ap (λ (s : StoreView). s.place.layout) judges.store) (ap (λ (s : StoreView). s.closed) judges.store)
     (λ told. still_written items s law is judges.steps judges.unwritten judges.looks (items_made (version_of s) (limit_of s) (map_of a.held) items) (state_in s a.held))
-    (omega (arith, judges.unwritten)) (look_alone items s judges.looks)
+    (omega (arith, judges.unwritten)) (look_alone items s judges.looks) (still_once items s law is judges.steps judges.unwritten judges.looks)
     judges.damaged judges.counted (inr (inl (judges.met, judges.unwritten))) (λ failed. judges.failed (same_fault fault (λ e. e) failed))
 
 -- it was judged, and then run
@@ -206,6 +216,14 @@ judged_then {a} {b} {c} items r s t is law first unwritten looks calls some appl
         spent = omega (arith, made.spent, unwritten);
         looks = IfOk-weaker r _ _ (λ done not refusal. absurd (not refusal)) some;
         calls = calls;
+        at_once = λ told are.
+            let same = first.held told in
+            let own = made.at_once (told_on_b told) (subst (λ (x : List ℕ). AreOneCommit s.place.layout (state_in s x) items) (sym same) are) in
+            record {
+              touched = on_same first own.touched (λ d. untouched d d refl);
+              written = subst (λ (x : List ℕ). c.travel.written ≤ a.travel.written + (8196 * s.place.layout.format * length (edited_segments (array_of x) items) + 6)) same (omega (arith, own.written, unwritten));
+              unwritten = λ none. own.unwritten (subst (λ (x : List ℕ). edited_segments (array_of x) items ≡ []) (sym same) none) ∙ unwritten;
+            };
         paid = made.paid;
         met = IfErr-weaker r _ _ (λ fault met. elim met [ inl disk ↦ inl disk | inr more ↦ elim more [ inl looked ↦ inr (inl (looked.0, looked.1 ∙ unwritten)) | inr mid ↦ inr (inr mid) ] ]) made.met;
         complete = λ told calm. made.complete (told_on_b told) (λ rose. calm (omega (arith, rose, first.frame.disk_faults)));
@@ -220,7 +238,7 @@ judged_then {a} {b} {c} items r s t is law first unwritten looks calls some appl
 
 -- A batch that was judged.
 
-module _ {a b : View} (items : List Update) (s : StoreView) (is : IsOpenOn s a) (law : Lawful a) (some : 1 ≤ length items) (intent : IsIntent items) (fit : T (list_all (fits_item s.place.layout.format) items)) (version : INTENT_VERSION ≤ version_of s) (counts : ItemCounts) (judged : Told a → Some counts ≡ judged_of (limit_of s) (map_of a.held) items) (writes : Steps (Intends items) a b) where
+module _ {a b : View} (items : List Update) (s : StoreView) (is : IsOpenOn s a) (law : Lawful a) (some : 1 ≤ length items) (intent : IsIntent items) (fit : T (list_all (fits_item s.place.layout.format) items)) (version : INTENT_VERSION ≤ version_of s) (counts : ItemCounts) (judged : Told a → Some counts ≡ judged_of (limit_of s) (map_of a.held) items) (unfit : Told a → ¬ AreOneCommit s.place.layout (state_in s a.held) items) (writes : Steps (Intends items) a b) where
   facts : Told a → (first_full (limit_of s) (map_of a.held) items ≡ None) × (counts ≡ count_items (limit_of s) (map_of a.held) items no_items)
   facts told = some_by (first_full (limit_of s) (map_of a.held) items) (count_items (limit_of s) (map_of a.held) items no_items) counts (judged told)
 
@@ -271,7 +289,7 @@ module _ {a b : View} (items : List Update) (s : StoreView) (is : IsOpenOn s a) 
       (touched_in (IsBatchPlace s.place.layout) (λ p there. inr there) touches_intent)
       refl refl
       (λ told. record { made = 0; some = omega arith; bytes = omega (arith, cost) })
-      (omega (arith, cost)) (intent_alone items s (not_called four))
+      (omega (arith, cost)) (intent_alone items s (not_called four) unfit) (λ told are. absurd (unfit told are))
       (λ told. refl) tt (inl refl) (λ failed. rose)
 
   -- and then the items were made
@@ -306,7 +324,7 @@ module _ {a b : View} (items : List Update) (s : StoreView) (is : IsOpenOn s a) 
     pub items_fail : (fault : StoreFault) → MakesItems items (Err fault) s t b c → AppliesBatch items (Err fault) s t a c
     items_fail fault makes =
         fault_batch items fault s t (run_meant t (Err fault) law_b settled opened cost makes) (run_touched t (Err fault) law_b settled opened cost makes) makes.layout makes.closed
-        (run_most t (Err fault) law_b settled opened cost makes) (omega (arith, makes.spent, cost)) (intent_alone items s (intent_called t (Err fault) four makes)) (λ told. makes.damaged (told_on writes.frame told)) makes.counted (elim makes.met [ inl disk ↦ inl disk | inr mid ↦ inr (inr mid) ])
+        (run_most t (Err fault) law_b settled opened cost makes) (omega (arith, makes.spent, cost)) (intent_alone items s (intent_called t (Err fault) four makes) unfit) (λ told are. absurd (unfit told are)) (λ told. makes.damaged (told_on writes.frame told)) makes.counted (elim makes.met [ inl disk ↦ inl disk | inr mid ↦ inr (inr mid) ])
         (λ failed. omega (arith, makes.failed (same_fault fault (λ e. e) failed), writes.frame.disk_faults))
 
     pub whole_batch : (charge : ℕ) → MakesItems items (Ok charge) s t b c → AppliesBatch items (Ok (done_by counts charge)) s t a c
@@ -332,7 +350,8 @@ module _ {a b : View} (items : List Update) (s : StoreView) (is : IsOpenOn s a) 
         most = run_most t (Ok charge) law_b settled opened cost makes;
         spent = omega (arith, makes.spent, cost);
         looks = λ refusal. absurd refusal;
-        calls = intent_alone items s (intent_called t (Ok charge) four makes);
+        calls = intent_alone items s (intent_called t (Ok charge) four makes) unfit;
+        at_once = λ told are. absurd (unfit told are);
         paid = makes.paid;
         met = tt;
         complete = λ told calm. refl;

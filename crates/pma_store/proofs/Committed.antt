@@ -61,6 +61,7 @@ use Rattle.pma_store.specs.Batching.{IsBatchPlace}
 use Rattle.pma_store.specs.Judging.{AreAllFound, AreFoundAt, JudgesItems, counts_in, found_in, judged_of}
 use Rattle.pma_store.specs.Looked.{AreLoaded, BelongThere, HasLooked, LoadsEdits, LooksOver}
 use Rattle.pma_store.specs.Meaning.{BecomesMeant}
+use Rattle.pma_store.specs.Once.{AreUsed}
 use Rattle.pma_store.specs.Store.{StoreView, IsStore, Stands, StandsOn, IsOpenOn, limit_of}
 use Rattle.pma_store.proofs.LookLaws.{count_lists}
 use Rattle.pma_store.proofs.Making.{no_fault, same_fault, stands_there, found_within}
@@ -130,6 +131,7 @@ pub record IsReadyAtOnce (items : List Update) (s : StoreView) (numbers : List �
   pub intent : IsIntent items
   pub loaded : AreLoaded s.place.layout.format b look (2 ^ s.tally.height)
   pub looked : Told a → HasLooked s.place.layout.format (array_of a.held) numbers items b look (2 ^ s.tally.height)
+  pub used : Told a → AreUsed s.place.layout (array_of a.held) items b look.whole
   pub belong : Told a → BelongThere (array_of a.held) numbers items
   pub journal : b.journal ≡ s.place.layout.journal
   pub fits : FitsCommit numbers items look judged s.tally changes
@@ -212,6 +214,11 @@ module _ {a : View} (items : List Update) (s : StoreView) (numbers : List ℕ) (
   idle : (d i : List ℕ) → Stands s d → CommitsPages s.place look.count b d i → has_pending d ≡ false → has_pending i ≡ false
   idle d i stands step none =
       keeps_idle d i (update_keeps d i (ap (λ (l : Layout). l.format) (moves_layout s.place d i (moves d i step))) (wider d i (update_apart (layout_in d)) (updates d i stands step))) ∙ none
+
+  pub commit_updates : {c : View} → Steps (CommitsPages s.place look.count b) a c → Steps (Touched (IsUpdatePlace s.place.layout)) a c
+  commit_updates steps = weaken steps (λ d i left step.
+      let stands = ready.is.on.stands d left in
+      subst (λ (l : Layout). Touched (IsUpdatePlace l) d i) stands.balanced.stands.settled.layout_is (updates d i stands step))
 
   pub commit_touches : {c : View} → Steps (CommitsPages s.place look.count b) a c → Steps (Touched (IsBatchPlace s.place.layout)) a c
   commit_touches steps = weaken steps (λ d i left step.

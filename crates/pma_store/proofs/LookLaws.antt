@@ -101,7 +101,7 @@ loads_more format n own b next look is size few filled fits held more =
     }
 
 -- no segment yet
-none_numbers : (format : ℕ) (b : Batch) → IsSlotFormat format → b.numbers ≡ [] → segments_in format b.numbers ≡ []
+pub none_numbers : (format : ℕ) (b : Batch) → IsSlotFormat format → b.numbers ≡ [] → segments_in format b.numbers ≡ []
 none_numbers format b known none = pages_back format b.numbers [] known.least none
 
 pub loads_none : (format : ℕ) (b : Batch) (look : Look) → IsSlotFormat format → IsFrames b → b.numbers ≡ [] → look.count ≡ 0 → AreLoaded format b look 0

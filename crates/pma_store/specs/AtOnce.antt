@@ -1,5 +1,5 @@
 -- A batch as one commit: what it writes, and what it leaves in memory.
-use Rattle.std.specs.Prelude.{◌≡◌, ℕ, ◌+◌, ◌*◌, ◌<◌, ◌≤◌, ◌^◌, true, All, List, length, get_or, Some, None, Result, Ok, Err, OnOk, OnErr}
+use Rattle.std.specs.Prelude.{◌≡◌, ◌⊎◌, ℕ, ◌+◌, ◌*◌, ◌<◌, ◌≤◌, ◌^◌, true, false, All, List, length, get_or, Some, None, Result, Ok, Err, OnOk, OnErr}
 use Rattle.station.specs.View.{View, Told, Rose}
 use Rattle.station.specs.Steps.{Steps}
 use Rattle.cost_ledger.specs.Potential.{potential_of}
@@ -26,9 +26,11 @@ use Rattle.pma_store.specs.declared.at_once.Tried.{Tried}
 use Rattle.pma_store.specs.declared.at_once.Tried.TheVariants.{Full, Judged, Done}
 use Rattle.pma_store.specs.declared.judging.Judged.{Judged as JudgedItems}
 use Rattle.pma_store.specs.declared.look.Look.{Look}
+use Rattle.pma_store.specs.Answers.{state_in}
 use Rattle.pma_store.specs.Batching.{AppliesBatch, done_by}
 use Rattle.pma_store.specs.Judging.{JudgesItems, counts_of, edits_of}
 use Rattle.pma_store.specs.Looked.{BelongThere, HasFound}
+use Rattle.pma_store.specs.Once.{AreOneCommit}
 use Rattle.pma_store.specs.Store.{StoreView}
 
 -- number k of the segments of a batch
@@ -51,6 +53,13 @@ pub record FitsCommit (numbers : List ℕ) (items : List Update) (look : Look) (
   pub in_store : All (λ c. c.segment < 2 ^ tally.height) changes
   pub changes_are : (array : Array) → 0 < length array → IsAscending (rows array) → BelongThere array numbers items → HasFound array numbers items look.found (2 ^ tally.height) → changes ≡ changes_in array items
   pub fit : fit_one_commit tally.height tally.counts changes ≡ true
+
+-- Why they don't: not each segment that they edit is in frames, more are there than items edit one, or the changes don't fit.
+abbrev pub IsUnfit : List ℕ → List Update → Look → JudgedItems → TallyView → Type 0
+IsUnfit numbers items look judged tally =
+    (look.whole ≡ false)
+    ⊎ ((edits_of judged < look.count)
+    ⊎ ((array : Array) → 0 < length array → IsAscending (rows array) → BelongThere array numbers items → HasFound array numbers items look.found (2 ^ tally.height) → fit_one_commit tally.height tally.counts (changes_in array items) ≡ false))
 
 -- A commit of the pages of so many segments. Where there are none, nothing changes.
 pub record CommitsPages (place : Place) (count : ℕ) (b : Batch) (old new : List ℕ) : Type 0 where
@@ -81,10 +90,10 @@ pub record CommitsEdits (place : Place) (look : Look) (changes : List ItemChange
   pub paid : OnOk result (potential_of next_tally ≤ potential_of tally + 512 * length changes)
   pub unchanged : OnErr result ((next_index ≡ index) × (next_tally ≡ tally))
 
--- What it came to that a batch was tried as one commit: it was judged alone, or it was made, with two images charged for each
--- item that edits a segment.
+-- What it came to that a batch was tried as one commit: it was judged alone, and its items meet a full store or aren't one
+-- commit; or it was made, with two images charged for each item that edits a segment.
 abbrev pub TriesOnce : List Update → Result Tried StoreFault → StoreView → StoreView → View → View → Type 0
 TriesOnce items (Ok Full) s t a b = JudgesItems items (Ok None) s t a b
-TriesOnce items (Ok (Judged judged)) s t a b = JudgesItems items (Ok (Some judged)) s t a b
+TriesOnce items (Ok (Judged judged)) s t a b = JudgesItems items (Ok (Some judged)) s t a b × (Told a → ¬ AreOneCommit s.place.layout (state_in s a.held) items)
 TriesOnce items (Ok (Done judged)) s t a b = AppliesBatch items (Ok (done_by (counts_of judged) (2 * edits_of judged))) s t a b
 TriesOnce items (Err fault) s t a b = AppliesBatch items (Err fault) s t a b

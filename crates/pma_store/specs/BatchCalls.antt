@@ -12,6 +12,7 @@ use Rattle.window_tally.specs.View.{TallyView}
 use Rattle.pma_store.specs.Answers.{state_in}
 use Rattle.pma_store.specs.Calling.{asked_calls}
 use Rattle.pma_store.specs.Damaging.{IsNextTally, change_in, picked}
+use Rattle.pma_store.specs.Once.{AreOneCommit, edited_segments}
 use Rattle.pma_store.specs.Store.{StoreView}
 
 -- Segments to which keys of the items belong, in a store of this height: each once, in ascending order.
@@ -68,6 +69,8 @@ pub record IsForBatch (items : List Update) (s : StoreView) (a : View) (calls : 
   pub behind : ℕ
   pub is_for : IsForCommit (length looked) behind ⊎ IsForIntent items s a behind
   pub is : calls ≡ length looked + behind
+  -- where the items are one commit in the state of the file, the commit, with no more runs than segments that they edit
+  pub at_once : Told a → AreOneCommit s.place.layout (state_in s a.held) items → IsForCommit (length (edited_segments (array_of a.held) items)) behind
 
 -- what the intent and the items under it come to
 pub record CallsIntent (items : List Update) (s : StoreView) (a b : View) : Type 0 where

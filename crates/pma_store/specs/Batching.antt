@@ -10,7 +10,7 @@ use Rattle.density_rule.specs.Bounds.{upper_of}
 use Rattle.header_gate.specs.declared.layout.Layout.{Layout}
 use Rattle.header_gate.specs.declared.layout.TheConstants.{INTENT_VERSION}
 use Rattle.map_model.specs.ArrayState.{ArrayState}
-use Rattle.map_model.specs.Image.{map_of}
+use Rattle.map_model.specs.Image.{array_of, map_of}
 use Rattle.map_model.specs.Items.{ItemCounts, no_items, count_items, first_full, map_after_items, accepts, array_state_after_batch, charge_after_items}
 use Rattle.map_model.specs.Store.{Map, Update}
 use Rattle.segment.specs.declared.fault.StoreFault.{StoreFault}
@@ -23,6 +23,7 @@ use Rattle.pma_store.specs.Costing.{most_of, updates_cost, WritesSome}
 use Rattle.pma_store.specs.Damaging.{IsMetLooking, IsMetMid}
 use Rattle.pma_store.specs.Looking.{TellsOther}
 use Rattle.pma_store.specs.Meaning.{BecomesMeant}
+use Rattle.pma_store.specs.Once.{AreOneCommit, edited_segments}
 use Rattle.pma_store.specs.Store.{StoreView, StandsOn, LeavesAll, limit_of}
 use Rattle.pma_store.specs.Touching.{IsUpdatePlace}
 
@@ -74,6 +75,13 @@ IsRefusal NoBatch = Unit {0}
 abbrev pub IsBatchPlace : Layout → ℕ → Type 0
 IsBatchPlace l p = IsUpdatePlace l p ⊎ IsIntentPlace p
 
+-- A batch was made under no intent: at no moment any byte of the intent or of its gate was touched, and it wrote at most one
+-- commit of the segments that its items edit; where they edit none, nothing.
+pub record MakesAtOnce (items : List Update) (s : StoreView) (a b : View) : Type 0 where
+  pub touched : Steps (Touched (IsUpdatePlace s.place.layout)) a b
+  pub written : b.travel.written ≤ a.travel.written + (8196 * s.place.layout.format * length (edited_segments (array_of a.held) items) + 6)
+  pub unwritten : edited_segments (array_of a.held) items ≡ [] → b.travel.written ≡ a.travel.written
+
 -- A batch, as a store offers it.
 pub record Batches (items : List Update) (result : Result Batch StoreFault) (s t : StoreView) (a b : View) : Type 0 where
   pub answer : IfOk result (λ done. Told a → done ≡ batch_answer (version_of s) (limit_of s) (state_in s a.held) items)
@@ -95,6 +103,8 @@ pub record Batches (items : List Update) (result : Result Batch StoreFault) (s t
   -- the calls of the device: where it is refused, one for each segment to which a key belongs; and at most whatever is answered
   pub looks : IfOk result (λ done. IsRefusal done → LooksOnce items s.tally.height a b)
   pub calls : CallsBatch items s a b
+  -- where its items are one commit in the state of the file, it is made under no intent
+  pub at_once : Told a → AreOneCommit s.place.layout (state_in s a.held) items → MakesAtOnce items s a b
   -- its charge and the rise of the potential are together at most 514 for each item
   pub paid : IfOk result (λ done. charge_in done + potential_of t.tally ≤ potential_of s.tally + 514 * made_in (length items) done)
   -- it fails by the disk; by damage that is met while the keys are looked for, with nothing written; or in one of its items

@@ -1,5 +1,5 @@
 -- What is known of a batch that is looked over, segment by segment in ascending order.
-use Rattle.std.specs.Prelude.{◌≡◌, ℕ, ◌+◌, ◌<◌, ◌≤◌, true, ◌^◌, T, List, [], ◌∷◌, ◌++◌, length, get_or, Result, Err, OnOk, IfErr, IsErrOf}
+use Rattle.std.specs.Prelude.{◌≡◌, ◌⊎◌, ℕ, ◌+◌, ◌<◌, ◌≤◌, true, ◌^◌, T, List, [], ◌∷◌, ◌++◌, length, get_or, Result, Err, OnOk, IfErr, IsErrOf}
 use Rattle.station.specs.Bytes.{Same}
 use Rattle.station.specs.View.{View, Told, Rose, after_read}
 use Rattle.station.specs.declared.travel.Travel.{Travel}
@@ -20,12 +20,13 @@ use Rattle.redo_journal.specs.Frames.{Batch}
 use Rattle.redo_journal.specs.declared.place.Place.{Place}
 use Rattle.segment.specs.declared.fault.StoreFault.{StoreFault}
 use Rattle.segment.specs.declared.fault.StoreFault.TheVariants.{Failed}
-use Rattle.segment_frames.specs.Lists.{held_lists, segments_in, IsHeld}
+use Rattle.segment_frames.specs.Lists.{held_lists, most_segments, segments_in, IsHeld}
 use Rattle.pma_store.specs.declared.look.Look.{Look}
 use Rattle.pma_store.specs.BatchCalls.{LooksOnce}
 use Rattle.pma_store.specs.Damaging.{IsMetLooking}
 use Rattle.window_tally.specs.View.{TallyView}
-use Rattle.pma_store.specs.Own.{FindsIn}
+use Rattle.pma_store.specs.Own.{own_items, FillsAmid, FindsIn}
+use Rattle.pma_store.specs.Once.{AreUsed}
 
 -- a list tells the segment to which the key of each item belongs
 abbrev pub BelongThere : Array → List ℕ → List Update → Type 0
@@ -51,6 +52,13 @@ pub record MayLoad (l : Layout) (items : List Update) (numbers : List ℕ) (segm
   pub fits : T (list_all (is_record l.format) rows)
   -- the slots have room for what they put
   pub room : T (list_all (fits_item l.format) items)
+
+-- why a segment isn't added to a batch: there is no frame or no row for it, its items would make more records than it has
+-- slots, or they leave it without one, and it is from 1 on
+abbrev pub LacksRoom : Layout → ℕ → List ℕ → List Update → List Record → ℕ → Type 0
+LacksRoom l segment numbers items rows count =
+    ((16 ≤ count) ⊎ (most_segments l ≤ count))
+    ⊎ (FillsAmid segment numbers items rows ⊎ ((0 < segment) × (length (edited_by (own_items segment numbers items) rows) ≡ 0)))
 
 -- the batch has one segment more, with these rows
 pub record LoadsMore (format segment : ℕ) (rows : List Record) (b next : Batch) : Type 0 where
@@ -96,6 +104,7 @@ pub record LooksOver (place : Place) (tally : TallyView) (numbers : List ℕ) (i
   pub reads : OnOk result (ReadsOnce place numbers (2 ^ tally.height) a c)
   pub looks : LooksOnce items tally.height a c
   pub few : OnOk result (look.count ≤ length looks.looked)
+  pub used : OnOk result (Told a → AreUsed place.layout (array_of a.held) items b look.whole)
   pub damaged : IfErr result (λ fault. Told a → fault ≡ Failed)
   pub met : IfErr result (λ fault. IsMetLooking place tally fault c)
   pub failed : IsErrOf result Failed → Rose a.disk_faults c.disk_faults

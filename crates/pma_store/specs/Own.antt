@@ -1,5 +1,5 @@
 -- The items of one segment, where a list tells the segment of each, and what is found of them.
-use Rattle.std.specs.Prelude.{◌≡◌, ℕ, ◌<◌, ◌≤◌, ◌==◌, ◌||◌, if◌then◌else◌, Bool, true, List, [], ◌∷◌, length, take, get_or, Some, Result, Err, IfOk, is_ok, is_some}
+use Rattle.std.specs.Prelude.{◌≡◌, ℕ, ◌+◌, ◌<◌, ◌==◌, ◌||◌, if◌then◌else◌, Bool, true, List, [], ◌∷◌, length, take, get_or, Some, Result, Err, IfOk, is_ok, is_some}
 use Rattle.key_slot.specs.Record.{Bytes, Record}
 use Rattle.key_slot.specs.declared.sizes.TheConstants.{SEGMENT_SLOTS}
 use Rattle.map_model.specs.Store.{Update}
@@ -13,11 +13,11 @@ own_items n [] items = []
 own_items n (i ∷ is) [] = []
 own_items n (i ∷ is) (u ∷ us) = if i == n then u ∷ own_items n is us else own_items n is us
 
--- a page is full amid them: some of them made, the next would be made in so many records
+-- a page is full amid them: the first ones of them would make more records than a segment has slots
 pub record FillsAmid (n : ℕ) (segments : List ℕ) (items : List Update) (rows : List Record) : Type 0 where
   pub k : ℕ
   pub within : k < length items
-  pub full : SEGMENT_SLOTS ≤ length (edited_by (own_items n (take k segments) (take k items)) rows)
+  pub over : SEGMENT_SLOTS < length (edited_by (own_items n (take (k + 1) segments) (take (k + 1) items)) rows)
 
 -- the place of a key in rows, if it is there
 pub record FindsIn (key : Bytes) (rows : List Record) (found : Result ℕ ℕ) : Type 0 where

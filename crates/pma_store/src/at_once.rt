@@ -1,6 +1,6 @@
 //! A batch whose items ask for nothing is one commit.
 
-ghost use Rattle.std.specs.Prelude.{◌≡◌, ◌^◌, ◌<◌, ◌≤◌, ◌*◌, ℕ, T, All, length, slice_index_or, take, true, OnOk, IfSome};
+ghost use Rattle.std.specs.Prelude.{◌≡◌, ◌^◌, ◌<◌, ◌≤◌, ◌*◌, ℕ, T, All, length, slice_index_or, take, true, None, OnOk, IfSome};
 ghost use Rattle.std.specs.List.{list_all};
 ghost use Rattle.station.specs.View.{Told, EachHeld};
 ghost use Rattle.batch_intent.specs.Spelling.{IsIntent, fits_item};
@@ -12,7 +12,7 @@ ghost use Rattle.redo_journal.specs.Rest.{RestsAt};
 ghost use Rattle.segment_frames.specs.Standing.{IsSettledAt};
 ghost use Rattle.window_tally.specs.View.{IsTally};
 ghost use Rattle.header_gate.specs.declared.layout.TheConstants.{INTENT_VERSION};
-ghost use Rattle.pma_store.specs.AtOnce.{CommitsEdits, CommitsFrames, FitsCommit, RenewsFences, TriesOnce};
+ghost use Rattle.pma_store.specs.AtOnce.{CommitsEdits, CommitsFrames, FitsCommit, IsUnfit, RenewsFences, TriesOnce};
 ghost use Rattle.pma_store.specs.Batching.{version_of};
 ghost use Rattle.pma_store.specs.Looked.{AreLoaded};
 ghost use Rattle.pma_store.specs.Store.{IsOpenOn, limit_of};
@@ -121,6 +121,7 @@ fn list_fitting(
     requires within { (k : ℕ) → k < length segments.now → slice_index_or segments.now k 0 < 2 ^ tally.now.height }
     ensures most { IfSome result (λ count. count ≤ 16) }
     ensures fits { IfSome result (λ count. FitsCommit segments.now intent.now look.now judged.now tally.now (take count changes.new)) }
+    ensures unfit { result ≡ None → IsUnfit segments.now intent.now look.now judged.now tally.now }
 {
     if !look.whole || u64::from(look.count) > judged.edits() {
         return None;

@@ -9,7 +9,9 @@ ghost use Rattle.map_model.specs.Image.{map_of};
 ghost use Rattle.pma_store.specs.BatchCalls.{CallsIntent};
 ghost use Rattle.pma_store.specs.Batching.{AppliesBatch, Batches, IsRefusal, done_by, version_of};
 ghost use Rattle.pma_store.specs.Judging.{AreAllFound, counts_of, edits_of, judged_of};
+ghost use Rattle.pma_store.specs.Answers.{state_in};
 ghost use Rattle.pma_store.specs.Looking.{TellsOther};
+ghost use Rattle.pma_store.specs.Once.{AreOneCommit};
 ghost use Rattle.pma_store.specs.Store.{IsOpenOn, limit_of};
 
 use crate::answers::Batch;
@@ -110,6 +112,7 @@ impl OpenArray {
         requires version { INTENT_VERSION ≤ version_of self.old }
         requires judged { Told (S.view station.old) → Some (counts_of judged.now) ≡ judged_of (limit_of self.old) (map_of (S.view station.old).held) intent.now }
         requires found { Told (S.view station.old) → AreAllFound (Some judged.now.found) intent.now (map_of (S.view station.old).held) }
+        requires unfit { Told (S.view station.old) → ¬ AreOneCommit self.old.place.layout (state_in self.old (S.view station.old).held) intent.now }
         ensures made { IfOk result (λ done. ¬ IsRefusal done) }
         ensures intent { CallsIntent intent.now self.old (S.view station.old) (S.view station.new) }
         ensures applied { AppliesBatch intent.now result self.old self.new (S.view station.old) (S.view station.new) }

@@ -15,7 +15,8 @@ ghost use Rattle.one_commit.specs.Editing.{edited_by};
 ghost use Rattle.map_model.specs.Image.{array_of};
 ghost use Rattle.map_model.specs.Standing.{StandsWith};
 ghost use Rattle.segment.specs.declared.fault.StoreFault.TheVariants.{Failed};
-ghost use Rattle.pma_store.specs.Looked.{AreLoaded, BelongThere, HasLooked, LoadsMore, LooksOver, MayLoad};
+ghost use Rattle.pma_store.specs.Looked.{AreLoaded, BelongThere, HasLooked, LacksRoom, LoadsMore, LooksOver, MayLoad};
+ghost use Rattle.pma_store.specs.Once.{AreUsed};
 ghost use Rattle.pma_store.specs.Damaging.{IsMetLooking};
 ghost use Rattle.pma_store.specs.Own.{own_items};
 
@@ -50,6 +51,7 @@ impl Look {
     /// Before anything is looked for.
     pub(crate) fn new() -> Look
         ensures count { result.count ≡ 0 }
+        ensures whole { result.whole ≡ true }
     {
         Look {
             found: [Err(0); MOST],
@@ -87,6 +89,7 @@ pub(crate) fn look_over<S: Station>(
     requires within { (k : ℕ) → k < length segments.now → slice_index_or segments.now k 0 < 2 ^ tally.now.height }
     requires belong { Told (S.view station.old) → BelongThere (array_of (S.view station.old).held) segments.now intent.now }
     requires fresh { look.old.count ≡ 0 }
+    requires whole { look.old.whole ≡ true }
     ensures looks { LooksOver place.now tally.now segments.now intent.now result frames.new look.new (S.view station.old) (S.view station.new) }
     ensures turn { frames.new.turn ≡ frames.old.turn }
 {
@@ -152,6 +155,7 @@ fn take_in(
     ensures loaded { AreLoaded layout.now.format frames.new look.new (segment + 1) }
     ensures count { look.new.count ≤ look.old.count + 1 }
     ensures looked { (array : Array) → 0 < length array → IsAscending (rows_of array) → BelongThere array segments.now intent.now → rows.old ≡ segment_at array segment → HasLooked layout.now.format array segments.now intent.now frames.old look.old segment → HasLooked layout.now.format array segments.now intent.now frames.new look.new (segment + 1) }
+    ensures used { (array : Array) → segment < length array → IsAscending (rows_of array) → BelongThere array segments.now intent.now → rows.old ≡ segment_at array segment → AreUsed layout.now array intent.now frames.old look.old.whole → AreUsed layout.now array intent.now frames.new look.new.whole }
     ensures journal { frames.new.journal ≡ frames.old.journal }
     ensures turn { frames.new.turn ≡ frames.old.turn }
 {
@@ -177,6 +181,7 @@ fn load_edits(
     ensures count { look.new.count ≤ look.old.count + 1 }
     ensures more { result ≡ true → LoadsMore layout.now.format segment (edited_by (own_items segment segments.now intent.now) rows.old) frames.old frames.new }
     ensures kept { result ≡ false → (frames.new ≡ frames.old) × (look.new ≡ look.old) }
+    ensures short { result ≡ false → LacksRoom layout.now segment segments.now intent.now rows.old look.old.count }
     ensures journal { frames.new.journal ≡ frames.old.journal }
     ensures turn { frames.new.turn ≡ frames.old.turn }
     ensures found { (look.new.found ≡ look.old.found) × (look.new.whole ≡ look.old.whole) }

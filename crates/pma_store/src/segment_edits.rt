@@ -31,7 +31,7 @@ pub(crate) fn edit_items(rows: &mut Segment, intent: &Intent, segments: &[u32], 
 // Makes an item in the rows of its segment. `false` where a new record has no room.
 fn edit_item(rows: &mut Segment, item: &Item) -> bool
     ensures rows { result ≡ true → rows.new ≡ edited (update_of item.now) rows.old }
-    ensures full { result ≡ false → SEGMENT_SLOTS ≤ length rows.old }
+    ensures full { result ≡ false → SEGMENT_SLOTS < length (edited (update_of item.now) rows.old) }
 {
     match item {
         Item::Put(key, value) => match rows.find(key) {

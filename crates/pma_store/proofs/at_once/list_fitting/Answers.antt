@@ -1,5 +1,6 @@
-use Rattle.std.proofs.Common.{◌≡◌, length, take, arith}
+use Rattle.std.proofs.Common.{◌≡◌, length, take, inr, sym, ap, ◌∙◌, arith}
 use Rattle.std.proofs.lemmas.List.{length-take-le}
+use Rattle.one_commit.specs.Fitting.{fit_one_commit}
 use Rattle.pma_store.proofs.FittingLaws.{not_false, fits_is}
 use Rattle.pma_store.proofs.at_once.list_fitting.Goals as goal
 
@@ -22,3 +23,9 @@ returns-clause-fits c =
       changes_are = λ array some ascends belong finds. c.list_changes-count.ensures.listed array _ some ascends belong c.requires.within finds;
       fit = fits_is _ _ c.fits_one_commit.ensures c.if-not-fits_one_commit.false;
     }
+
+pub returns-then-not-fits_one_commit-clause-unfit : goal.returns-then-not-fits_one_commit-clause-unfit
+returns-then-not-fits_one_commit-clause-unfit c = λ _.
+    inr (inr (λ array some ascends belong finds.
+    let listed = c.list_changes-count.ensures.listed array _ some ascends belong c.requires.within finds in
+    ap (fit_one_commit c.args.tally.now.height c.args.tally.now.counts) (sym listed) ∙ sym c.fits_one_commit.ensures ∙ c.if-not-fits_one_commit.true))

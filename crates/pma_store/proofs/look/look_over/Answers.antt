@@ -11,7 +11,8 @@ use Rattle.map_model.specs.Array.{segment_at}
 use Rattle.map_model.specs.Image.{array_of}
 use Rattle.redo_journal.specs.Frames.{Batch}
 use Rattle.pma_store.proofs.BatchCalls.{looks_once}
-use Rattle.pma_store.proofs.LookLaws.{loads_none, looks_none, loads_later, looks_later, reads_none, reads_more, reads_all}
+use Rattle.pma_store.proofs.OnceLaws.{used_none}
+use Rattle.pma_store.proofs.LookLaws.{none_numbers, loads_none, looks_none, loads_later, looks_later, reads_none, reads_more, reads_all}
 use Rattle.pma_store.proofs.Making.{no_fault}
 use Rattle.pma_store.proofs.Standing.{rows_ascend, size_of}
 use Rattle.pma_store.proofs.look.look_over.Goals as goal
@@ -28,6 +29,7 @@ loop-segment-init g c =
       reads = (reads_none c.args.place.now c.args.segments.now (g.S.Station.view c.args.station.now), omega (arith, c.requires.fresh));
       loaded = loads_none layout.format c.start.new.self c.args.look.now known c.start.ensures.batch none c.requires.fresh;
       looked = λ told. looks_none layout.format (array_of (g.S.Station.view c.args.station.now).held) c.args.segments.now c.args.intent.now c.start.new.self c.args.look.now known none;
+      used = λ told. used_none layout (array_of (g.S.Station.view c.args.station.now).held) c.args.intent.now c.start.new.self c.args.look.now.whole (none_numbers layout.format c.start.new.self known none) c.requires.whole;
       journal = ap (λ (b : Batch). b.journal) c.start.ensures.after ∙ c.requires.journal;
       turn = ap (λ (b : Batch). b.turn) c.start.ensures.after;
     }
@@ -41,6 +43,7 @@ returns-in-Err-clause-looks g c =
       looked = tt;
       journal = is.journal;
       reads = tt;
+      used = tt;
       looks = (looks_once c.args.place.now c.args.segments.now c.args.intent.now (c.in-Some.segment + 1) c.args.tally.now.height c.requires.segments c.requires.within c.requires.belong more.0).0;
       few = tt;
       steps = same_on is.steps c.read_rows.ensures.steps;
@@ -88,6 +91,13 @@ loop-segment-preserved g c =
           let own = c.in-Ok.ensures.rows (told_on is.steps.frame told) ∙ ap (λ (x : List ℕ). segment_at (array_of x) c.in-Some.segment) (is.steps.held told) in
           c.take_in.ensures.looked array some ascends (c.requires.belong told) own
           (looks_later place.layout.format array c.args.segments.now c.args.intent.now some ascends c.requires.intent.distinct c.requires.segments (c.requires.belong told) c.loop-segment.from c.in-Some.segment c.loop-segment.frames c.loop-segment.look (λ k lt le. least.lowest k lt le) (is.looked told));
+      used = λ told.
+          let stands = c.requires.stands told in
+          let array = array_of a.held in
+          let inside : c.in-Some.segment < length array = omega (arith, size_of place.layout place.region tally.height tally.counts a.held stands, c.requires.within least.at least.inside, least.is) in
+          let ascends = rows_ascend place.layout place.region tally.height tally.counts a.held stands in
+          let own = c.in-Ok.ensures.rows (told_on is.steps.frame told) ∙ ap (λ (x : List ℕ). segment_at (array_of x) c.in-Some.segment) (is.steps.held told) in
+          c.take_in.ensures.used array inside ascends (c.requires.belong told) own (is.used told);
       journal = c.take_in.ensures.journal ∙ is.journal;
       turn = c.take_in.ensures.turn ∙ is.turn;
     }
@@ -108,6 +118,7 @@ returns-clause-looks g c =
           let some : 0 < length array = omega (arith, size_of place.layout place.region tally.height tally.counts a.held stands, pow_pos tally.height) in
           let ascends = rows_ascend place.layout place.region tally.height tally.counts a.held stands in
           looks_later place.layout.format array c.args.segments.now c.args.intent.now some ascends c.requires.intent.distinct c.requires.segments (c.requires.belong told) c.loop-segment.from (2 ^ tally.height) c.loop-segment.frames c.loop-segment.look (λ k lt le. absurd (omega (arith, c.in_default.ensures k lt, le))) (is.looked told);
+      used = is.used;
       journal = is.journal;
       reads = all.0;
       looks = looks.0;

@@ -1,4 +1,6 @@
-use Rattle.std.proofs.Common.{◌<◌, [], length, ap, ◌∙◌, arith}
+use Rattle.std.proofs.Common.{◌<◌, List, [], length, get_or, refl, ap, subst, ◌∙◌, arith}
+use Rattle.key_slot.specs.Record.{Record}
+use Rattle.key_slot.specs.declared.sizes.TheConstants.{SEGMENT_SLOTS}
 use Rattle.map_model.specs.Store.{Update, unbind}
 use Rattle.map_model.specs.ArrayUpdates.{edited}
 use Rattle.pma_store.proofs.Owning.{own_more, other_more}
@@ -7,6 +9,19 @@ use Rattle.pma_store.proofs.segment_edits.edit_items.Goals.{else-segments-i-via-
 
 abbrev none : Update
 none = unbind []
+
+pub returns-then-not-edit_item-clause-full : goal.returns-then-not-edit_item-clause-full
+returns-then-not-edit_item-clause-full c = λ _.
+    let us = c.args.intent.now in
+    let i = c.loop-i.i in
+    let lt : i < length us = omega (arith, c.len-i-end.ensures.count, c.loop-i-test.true) in
+    let le : i < length c.args.segments.now = omega (arith, lt, c.requires) in
+    let over = subst (λ (u : Update). SEGMENT_SLOTS < length (edited u c.loop-i.rows)) (c.item.ensures none) (c.edit_item.ensures.full c.if-not-edit_item.true) in
+    record {
+      k = i;
+      within = lt;
+      over = subst (λ (r : List Record). SEGMENT_SLOTS < length r) (own_more c.args.n c.args.segments.now us c.args.rows.now i lt le c.loop-i.rows (edited (get_or us i none) c.loop-i.rows) c.loop-i.invariant.rows none c.if-segments-i.true refl) over;
+    }
 
 pub loop-i-preserved : goal.loop-i-preserved
 loop-i-preserved c =

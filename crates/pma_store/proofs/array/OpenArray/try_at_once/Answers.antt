@@ -8,12 +8,14 @@ use Rattle.map_model.specs.Image.{array_of, map_of}
 use Rattle.segment.specs.declared.fault.StoreFault.{StoreFault}
 use Rattle.segment.specs.declared.fault.StoreFault.TheVariants.{Failed}
 use Rattle.pma_store.specs.declared.at_once.Tried.{Tried}
+use Rattle.pma_store.specs.declared.at_once.Tried.TheVariants.{Judged}
 use Rattle.pma_store.specs.AtOnce.{TriesOnce}
 use Rattle.pma_store.specs.BatchCalls.{CallsBatch}
 use Rattle.pma_store.specs.Batching.{AppliesBatch, done_by, version_of}
 use Rattle.pma_store.specs.Inside.{view_of}
 use Rattle.pma_store.specs.Judging.{JudgesItems, counts_of, edits_of, judged_of}
 use Rattle.pma_store.specs.Looked.{BelongThere, HasLooked}
+use Rattle.pma_store.specs.Once.{AreUsed}
 use Rattle.pma_store.specs.Store.{StoreView, IsOpenOn, limit_of}
 use Rattle.redo_journal.specs.Neighbours.{run_count}
 use Rattle.redo_journal.specs.Rest.{RestsAt}
@@ -23,6 +25,8 @@ use Rattle.pma_store.proofs.Batched.{judged_then, judging_fails}
 use Rattle.pma_store.proofs.ItemsApplied.{tall_of}
 use Rattle.pma_store.proofs.Committed.{IsReadyAtOnce, judges, looks_fail}
 use Rattle.pma_store.proofs.Making.{opens_on, stands_there}
+use Rattle.pma_store.proofs.OnceLaws.{used_few}
+use Rattle.pma_store.proofs.Unfit.{not_once}
 use Rattle.pma_store.proofs.Resting.{readable_held}
 use Rattle.pma_store.proofs.Standing.{rows_ascend}
 use Rattle.pma_store.proofs.array.OpenArray.try_at_once.Goals as goal
@@ -89,10 +93,16 @@ returns-in_default-list_fitting g c =
     let a = g.S.Station.view c.args.station.now in
     let b = g.S.Station.view c.look_over.new.station in
     let items = c.args.intent.now in
-    subst (λ (v : StoreView). JudgesItems items (Ok (Some c.in-Some.judged)) v (record s { journal = c.look_over.new.frames.journal; turn = c.look_over.new.frames.turn }) a b) c.self.view_is
-    (subst (λ (t : StoreView). JudgesItems items (Ok (Some c.in-Some.judged)) s t a b) (sym (same g here))
-    (judges items s c.find_segments.new.segments c.look_over.new.frames c.look_over.new.look (opened g found).on c.find_segments.ensures.size (belong g found) (within g found) c.in-Ok.ensures.looks
-    c.records.result c.args.most (Some c.in-Some.judged) (most g found) c.records.ensures c.in-Some.ensures.judged c.in-Some.ensures.found))
+    let looks = c.in-Ok.ensures.looks in
+    let judged = c.in-Some.judged in
+    let tells = judges items s c.find_segments.new.segments c.look_over.new.frames c.look_over.new.look (opened g found).on c.find_segments.ensures.size (belong g found) (within g found) looks
+    c.records.result c.args.most (Some judged) (most g found) c.records.ensures c.in-Some.ensures.judged c.in-Some.ensures.found in
+    subst (λ (v : StoreView). TriesOnce items (Ok (Judged judged)) v (record s { journal = c.look_over.new.frames.journal; turn = c.look_over.new.frames.turn }) a b) c.self.view_is (
+      subst (λ (t : StoreView). JudgesItems items (Ok (Some judged)) s t a b) (sym (same g here)) tells,
+      λ told are.
+          not_once items s a.held (stands_there s (opened g found).on told) c.find_segments.new.segments c.look_over.new.frames c.look_over.new.look judged looks.loaded (looks.looked told) (looks.used told) (belong g found told)
+          c.len-len.ensures.intent.distinct (tells.judged told) are (c.in_default-list_fitting.ensures.unfit refl),
+    )
 
 pub slice_bounds-changes-end : goal.slice_bounds-changes-end
 slice_bounds-changes-end g c = omega (arith, c.in-Some-list_fitting.ensures.most, c.type_inv.changes)
@@ -139,6 +149,7 @@ returns g c =
       intent = c.len-len.ensures.intent;
       loaded = c.in-Ok.ensures.looks.loaded;
       looked = λ told. subst (λ (x : List ℕ). HasLooked s.place.layout.format (array_of x) numbers items frames look (2 ^ s.tally.height)) (held told) (c.in-Ok.ensures.looks.looked (told_back steps.frame told));
+      used = λ told. subst (λ (x : List ℕ). AreUsed s.place.layout (array_of x) items frames look.whole) (held told) (c.in-Ok.ensures.looks.used (told_back steps.frame told));
       belong = λ told. subst (λ (x : List ℕ). BelongThere (array_of x) numbers items) (held told) (belong g found (told_back steps.frame told));
       journal = c.look_over.ensures.looks.journal;
       fits = c.in-Some-list_fitting.ensures.fits;
@@ -153,7 +164,7 @@ returns g c =
     let looked = looks_behind items s.tally.height steps looks in
     let few : look.count ≤ length looked.0.looked = omega (arith, here_looked, looked.1) in
     let calls : e.calls ≤ b.calls + (8 + run_count frames.numbers) → CallsBatch items s a e =
-    λ few. once_looked items s numbers frames look judged changes ready law_b version judged_is c.in-Some.ensures.total {start = a} {c = e} looks here_looked few in
+    λ few. once_looked items s numbers frames look judged changes ready law_b version judged_is c.in-Some.ensures.total {start = a} {c = e} looks here_looked (λ told. omega (arith, c.in-Ok.ensures.looks.loaded.count_is, used_few s.place.layout (array_of a.held) items frames look.whole c.in-Ok.ensures.looks.loaded.held (c.in-Ok.ensures.looks.used told))) few in
     let journal = c.commit_edits.ensures.journal ∙ c.look_over.ensures.looks.journal ∙ sym c.self.invariant.journal in
     subst (λ (v : StoreView). TriesOnce items c.match-commit_edits.result v (record s { tally = tally; index = index; journal = c.commit_edits.new.frames.journal; turn = turn }) a e) c.self.view_is (elim c.match-commit_edits.branch [
       | in-Ok-commit_edits w ↦

@@ -22,6 +22,7 @@ returns-in-Err-clause-batch g c =
       spent = made.spent;
       looks = tt;
       calls = made.calls;
+      at_once = made.at_once;
       paid = tt;
       met = elim made.met [
         | inl disk ↦ inl disk
