@@ -1,0 +1,182 @@
+#!/usr/bin/env python3
+"""Makes the sections of docs/PROMISES.md that stand between markers: the promises of a crate, out of the comments of its contracts.
+
+Usage: tools/promises.py [--check]. With --check nothing is written, and it ends with 1 where a section isn't what the code says, or a
+clause has no words. What is taken, crate by crate:
+  of a public function the comment above each group of its `ensures` clauses; for clauses before the first such comment the first
+    sentence of the function's doc comment;
+  of a public record that such a clause names, or a field of such a record, the comment above each group of its fields, and else
+    the comment above the record.
+A comment ends at the next one, or at an empty line. Clauses of impls of a trait are taken where they have a comment: else they are
+the trait's.
+"""
+from __future__ import annotations
+
+import pathlib
+import re
+import sys
+
+TOP = pathlib.Path(__file__).resolve().parent.parent
+PROMISES = TOP / "docs" / "PROMISES.md"
+SECTION = re.compile(r"(<!-- promises of (\w+): begin -->\n).*?(<!-- promises of \2: end -->\n)", re.S)
+FUNCTION = re.compile(r"( *)(pub )?(?:final )?(?:const )?(?:unsafe )?fn (\w+)")
+CLAUSE = re.compile(r" +ensures\*? ?(?:([\w-]+) )?\{")
+BLOCK = re.compile(r"(?:pub )?(?:unsafe )?(impl|trait)\b(?:<.*?>)? ?(.*?)(?:<| where| \{|$)")
+RECORD = re.compile(r"pub record (\w+)")
+FIELD = re.compile(r"  pub ([\w'-]+) :")
+
+
+def sentence(lines: list[str]) -> str:
+    """The first sentence of a doc comment."""
+    text = " ".join(lines).split("  ")[0]
+    return re.split(r"(?<=[.:])\s(?=[A-Z`])", text, maxsplit=1)[0].rstrip(" :")
+
+
+def row(words: str, place: str) -> str:
+    return f"| {words.rstrip('.').replace('|', chr(92) + '|')} | {place} |"
+
+
+class Contracts:
+    """What the public functions of a file promise, in words."""
+
+    def __init__(self, path: pathlib.Path):
+        self.rows: list[str] = []
+        self.named: set[str] = set()
+        self.missing: list[str] = []
+        doc: list[str] = []
+        words, labels = "", []  # the group that is being read
+        holder, by_trait, name, in_doc = "", False, "", True
+        for line in path.read_text().splitlines():
+            text = line.strip()
+            if block := BLOCK.match(line):
+                kind, of = block[1], block[2]
+                by_trait = kind == "impl" and " for " in line
+                holder = re.sub(r".* for ", "", line.split("{")[0]).strip().split("<")[0] if by_trait else of.split("<")[0].strip()
+                self.in_trait = kind == "trait"
+            elif line == "}":
+                holder, by_trait, self.in_trait = "", False, False
+            if head := FUNCTION.match(line):
+                self.close(name, words, labels)
+                words, labels = "", []
+                public = head[2] or by_trait or getattr(self, "in_trait", False)
+                name = (f"{holder}::{head[3]}" if holder and head[1] else head[3]) if public else ""
+                words, in_doc, foreign = sentence(doc), True, by_trait
+                doc = []
+            elif name and text.startswith("// "):
+                self.close(name, words, labels)
+                said = not labels and not in_doc
+                words, labels, in_doc = (words + " " if said else "") + text[3:], [], False
+                foreign = False
+            elif name and (clause := CLAUSE.match(line)):
+                if not foreign:
+                    labels.append(clause[1] or "")
+                self.named.update(re.findall(r"\b[A-Z]\w+\b", line))
+            elif name and not text:
+                self.close(name, words, labels)
+                words, labels, in_doc = "", [], False
+            elif text == "{" or text.endswith(" {") and not CLAUSE.match(line):
+                self.close(name, words, labels)
+                words, labels, name = "", [], ""
+            elif name and labels:
+                self.named.update(re.findall(r"\b[A-Z]\w+\b", line))
+            if text.startswith("/// ") or text == "///":
+                doc.append(text[4:] if text != "///" else " ")
+            elif not text.startswith("#[") and not FUNCTION.match(line):
+                doc = []
+        self.close(name, words, labels)
+
+    def close(self, name: str, words: str, labels: list[str]) -> None:
+        """Ends a group of clauses."""
+        if not name or not labels:
+            return
+        if not words:
+            self.missing.append(f"{name}: {', '.join(labels)}")
+            return
+        named = [f"`{label}`" for label in labels if label]
+        self.rows.append(row(words, f"`{name}`" + (f": {', '.join(named)}" if named else "")))
+        labels.clear()
+
+
+def records_of(path: pathlib.Path) -> dict[str, tuple[list[str], set[str]]]:
+    """The public records of a file: their rows, and what else their fields name."""
+    found: dict[str, tuple[list[str], set[str]]] = {}
+    above: list[str] = []
+    name, words, fields, whole, rows, named = "", "", [], "", [], set()
+
+    def close() -> None:
+        nonlocal fields
+        if name and fields and words:
+            rows.append(row(words, "`" + f"{name}.{fields[0]}" + "`" + "".join(f", `.{f}`" for f in fields[1:])))
+        fields = []
+
+    for line in [*path.read_text().splitlines(), "end"]:
+        if line.startswith("--"):
+            above.append(line[3:])
+            continue
+        if record := RECORD.match(line):
+            name, words, fields, whole, rows, named = record[1], "", [], " ".join(above), [], set()
+        elif name and line.startswith("  -- "):
+            close() if fields else None
+            words = (words + " " if words and not fields and below else "") + line[5:]
+            below = True
+            continue
+        elif name and (field := FIELD.match(line)):
+            fields.append(field[1])
+            named.update(re.findall(r"\b[A-Z]\w+\b", line))
+        elif name and line.startswith("      "):
+            named.update(re.findall(r"\b[A-Z]\w+\b", line))
+        elif name and not line:
+            close()
+            words = ""
+        if name and line and not line.startswith(" ") and not RECORD.match(line):
+            close()
+            found[name] = (([row(whole, f"`{name}`")] if whole else []) + rows, named)
+            name = ""
+        if name and not line:
+            found[name] = (([row(whole, f"`{name}`")] if whole else []) + rows, named)
+        below = False
+        above = []
+    return found
+
+
+def section(crate: str) -> tuple[str, list[str]]:
+    """A crate's section, and the clauses without words."""
+    folder = TOP / "crates" / crate
+    lines = (folder / "src" / "lib.rt").read_text().splitlines()
+    about = " ".join(line[4:] for line in lines[: next(i for i, x in enumerate(lines) if not x.startswith("//! "))])
+    rows, named, missing = [], set(), []
+    for path in sorted((folder / "src").glob("**/*.rt")):
+        contracts = Contracts(path)
+        rows += contracts.rows
+        named |= contracts.named
+        missing += [f"{crate}/{path.name}: {m}" for m in contracts.missing]
+    records: dict[str, tuple[list[str], set[str]]] = {}
+    for path in sorted((folder / "specs").glob("*.antt")):
+        records.update(records_of(path))
+    wanted = [n for n in records if n in named]
+    for name in wanted:
+        wanted += [n for n in records if n in records[name][1] and n not in wanted]
+    rows += [r for n in records if n in wanted for r in records[n][0]]
+    return f"## {crate}\n\n{about}\n\n| promise | where |\n|---|---|\n" + "\n".join(rows) + "\n", missing
+
+
+def main() -> int:
+    text, missing = PROMISES.read_text(), []
+
+    def made(found: re.Match[str]) -> str:
+        is_now, lacks = section(found[2])
+        missing.extend(lacks)
+        return f"{found[1]}{is_now}{found[3]}"
+
+    now = SECTION.sub(made, text)
+    for lack in missing:
+        print(f"no words: {lack}")
+    if "--check" not in sys.argv[1:]:
+        PROMISES.write_text(now)
+    elif now != text:
+        print("docs/PROMISES.md isn't what the code says: make promises")
+    return 1 if missing or "--check" in sys.argv[1:] and now != text else 0
+
+
+if __name__ == "__main__":
+    sys.exit(main())
