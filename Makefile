@@ -4,6 +4,7 @@
 # make clients: tries the clients on the program, also while it is killed.
 # make gate-times: how long the gate's parts take.  make dear-goals: which goals of the proofs cost most, after a check.
 # make doc-examples: the examples of README, MANUAL, FORMAT and pma(1).  make doc-names: the names in the documents.
+# make promises: the sections of PROMISES that are made of the comments of contracts; make doc-names compares them.
 # make trials: wrong bodies of trials/, each of which must be refused.
 # make said-twice: functions of a crate that say the same clauses.  make reading CLAUSE=..: what there is to read behind a
 # clause of run_words.
@@ -13,8 +14,8 @@
 # RECORDS isn't given; numbers into the folder CSV, durable commands in the folder DISK.
 # make bench-plots: pictures and tables of docs/BENCHMARKS.md from docs/bench.  make examples: the worked uses of docs/USES.md.
 
-.PHONY: all demo check clean install uninstall gate-times dear-goals said-twice reading doc-examples doc-names trials bench faults \
-    bench-peers bench-plots examples clients
+.PHONY: all demo check clean install uninstall gate-times dear-goals said-twice reading doc-examples doc-names promises trials bench \
+    faults bench-peers bench-plots examples clients
 
 JOBS ?=
 PREFIX ?= /usr/local
@@ -80,6 +81,10 @@ doc-examples: pma
 
 doc-names:
 	tools/doc-names.py
+	tools/promises.py --check
+
+promises:
+	tools/promises.py
 
 trials:
 	tools/trials.sh

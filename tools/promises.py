@@ -33,7 +33,8 @@ def sentence(lines: list[str]) -> str:
 
 
 def row(words: str, place: str) -> str:
-    return f"| {words.rstrip('.').replace('|', chr(92) + '|')} | {place} |"
+    words = words[:1].upper() + words[1:].rstrip(".").replace("|", "\\|")
+    return f"| {words} | {place} |"
 
 
 class Contracts:
