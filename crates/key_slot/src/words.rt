@@ -10,11 +10,12 @@ use super::sizes::KEY_AT;
 /// How many bytes a word has.
 pub const WORD_SIZE: usize = 8;
 
-/// The number of the eight bytes from a place on.
+/// The number of the eight bytes from a place on, the greatest first.
 #[inline(always)]
 pub fn word_at(bytes: &[u8], at: usize) -> u64
     requires { at + 8 ≤ length bytes.now }
     ensures word { result ≡ big_endian 0 (slice_range bytes.now at (at + 8)) }
+    // Each byte is a number below 256.
     ensures bytes { (k : ℕ) → slice_index bytes.now k < 256 }
 {
     u64::from_be_bytes([
@@ -41,9 +42,9 @@ pub(crate) fn front_at(bytes: &[u8], at: usize) -> u128
     high as u128 * (1 << 64) + low as u128
 }
 
-/// The number of the first sixteen bytes of the key in a slot of either format, with its zeros.
+/// The number of the first sixteen bytes of the key in a slot of either format, with its zeros, the greatest first.
 ///
-/// Where the number of one slot is below that of another, so is its key.
+/// If the number of one slot is below that of another, so is its key.
 #[inline(always)]
 pub fn key_number(slot: &[u8]) -> u128
     requires { KEY_AT + 16 ≤ length slot.now }

@@ -44,11 +44,13 @@ impl<'a> Model for SegmentView<'a> {
 }
 
 impl<'a> SegmentView<'a> {
-    /// The rows of 4096 bytes of format 1, or of 8192 of format 2. It fails where a slot is bad, and names the first
+    /// The rows of 4096 bytes of format 1, or of 8192 of format 2. It fails if a slot is bad, and names the first
     /// one: a slot that spells nothing, or a row behind an empty slot or behind a key that isn't below its own.
     pub fn decode(bytes: &'a [u8]) -> Result<SegmentView<'a>, BadSegment>
         requires { HasFormat bytes.now }
+        // On Ok the bytes are the one spelling of the rows that it answers, in the format of their length.
         ensures ok { IfOk result (λ rows. IsSegment (format_of bytes.now) rows bytes.now) }
+        // It fails exactly if a slot is bad, and names the first such slot, counted from 0.
         ensures bad { IfErr result (λ error. first_bad_slot (format_of bytes.now) bytes.now ≡ Some error.slot) }
     {
         let count = count_rows(bytes)?;
@@ -57,13 +59,17 @@ impl<'a> SegmentView<'a> {
 
     /// The rows of 4096 or 8192 bytes that a store has read as its segment of this number, for which it keeps `kept` rows.
     ///
-    /// It fails where the bytes are no segment, and names the first bad slot; else where they have another number of
+    /// It fails if the bytes are no segment, and names the first bad slot; else if they have another number of
     /// rows, and names both numbers.
     pub fn judge(bytes: &'a [u8], segment: u32, kept: u32) -> Result<SegmentView<'a>, StoreFault>
         requires { HasFormat bytes.now }
+        // On Ok the bytes are the one spelling of the rows that it answers, in the format of their length, `kept` in number.
         ensures rows { IfOk result (λ rows. IsSegment (format_of bytes.now) rows bytes.now) }
         ensures count { IfOk result (λ rows. length rows ≡ kept) }
+        // It fails exactly if a slot is bad, or else if the number of rows isn't `kept`. It names the segment, and the first
+        // bad slot or both numbers.
         ensures damage { IfErr result (λ fault. (why : Damage) × (damage_of (format_of bytes.now) bytes.now kept ≡ Some why) × (fault ≡ StoreFault.Damaged segment why)) }
+        // If it names two numbers of rows, the second one is `kept`, and the first differs.
         ensures other { (found other : ℕ) → result ≡ Err (StoreFault.Damaged segment (Damage.OtherCount found other)) → (other ≡ kept) × (found ≢ kept) }
     {
         judge_kept(bytes, segment, kept)?;
@@ -96,6 +102,7 @@ impl<'a> SegmentView<'a> {
     pub fn len(&self) -> u32
         ensures len { result ≡ length self.now }
         ensures most { length self.now ≤ SEGMENT_SLOTS }
+        // The keys of the rows ascend strictly.
         ensures ascending { IsAscending self.now }
     {
         self.len as u32
@@ -105,7 +112,9 @@ impl<'a> SegmentView<'a> {
     #[inline(always)]
     pub fn slot(&self, i: u32) -> Slot<'a>
         requires { i < length self.now }
+        // Its fields are whole: 24 and 32 bytes in format 1, 40 and 80 in format 2, with zeros behind what the row has of them.
         ensures whole { IsWhole result }
+        // What stands in front of the zeros is the row at the place.
         ensures row { slice_get self.now i ≡ Some (row_in result) }
     {
         let bytes = self.bytes;
@@ -168,6 +177,7 @@ impl<'a> SegmentView<'a> {
     pub fn find(&self, key: &Key) -> Result<u32, u32>
         ensures ok { IfOk result (λ place. key_at self.now place ≡ Some key.now) }
         ensures err { IfErr result (λ place. IsGap self.now place key.now) }
+        // It is Ok exactly if the key is there.
         ensures when { IsOk result ↔ IsSome (value_of key.now self.now) }
     {
         let mut low = 0;
@@ -183,7 +193,7 @@ impl<'a> SegmentView<'a> {
         Err(low)
     }
 
-    /// The bytes of the value that is bound to a key, where they lie.
+    /// The bytes of the value that is bound to a key, where they lie, or None if the key isn't there.
     pub fn value(&self, key: &Key) -> Option<&'a [u8]>
         ensures some { IfSome result (λ value. value_of key.now self.now ≡ Some value.now) }
         ensures none { IfNone result (value_of key.now self.now ≡ None) }
@@ -206,7 +216,7 @@ impl<'a> SegmentView<'a> {
         }
     }
 
-    /// The least key, or None where there is no row.
+    /// The least key, or None if there is no row.
     pub fn first_key(&self) -> Option<Key>
         ensures key { result ≡ key_at self.now 0 }
         ensures none { IsNone result ↔ (length self.now ≡ 0) }
@@ -217,7 +227,7 @@ impl<'a> SegmentView<'a> {
         Some(self.key(0))
     }
 
-    /// The greatest key, or None where there is no row.
+    /// The greatest key, or None if there is no row.
     pub fn last_key(&self) -> Option<Key>
         ensures key { result ≡ key_at self.now (length self.now - 1) }
         ensures none { IsNone result ↔ (length self.now ≡ 0) }
@@ -228,7 +238,7 @@ impl<'a> SegmentView<'a> {
         Some(self.key(self.len as u32 - 1))
     }
 
-    /// How the key at a place compares with a key.
+    /// How the key at a place compares with a key, in the order of keys.
     #[inline(always)]
     pub fn compare(&self, place: u32, key: &Key) -> Ordering
         requires { place < length self.now }
