@@ -8,7 +8,7 @@ use Rattle.spread_plan.specs.Moves.{records_of, list_at, after_move}
 abbrev pub FitSegments : {X : Type 0} → List (List X) → Type 0
 FitSegments lists = All (λ list. length list ≤ SEGMENT_RECORDS) lists
 
--- the same records in the same order, in as many segments, each of which has room for its own
+-- the lists hold the same records as the first ones, in the same order, in as many segments, none more than 64
 pub record IsStage {X : Type 0} (first lists : List (List X)) : Type 0 where
   pub segments : length lists ≡ length first
   pub records : records_of lists ≡ records_of first

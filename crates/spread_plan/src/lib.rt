@@ -33,7 +33,7 @@ pub struct Move {
     pub count: u32,
 }
 
-/// How many of `n` records segment `i` of `m` gets in a spread.
+/// How many of `n` records segment `i` of `m` gets in a spread, `floor((i + 1) n / m) - floor(i n / m)`.
 pub fn share(n: u32, m: u32, i: u32) -> u32
     requires { i < m }
     ensures { result ≡ share_of n m i }

@@ -39,7 +39,9 @@ impl<'a> PackMoves<'a> {
     pub fn over(counts: &'a [u32]) -> PackMoves<'a>
         requires segments { length counts.now ≤ 2 ^ 16 }
         requires room { All (λ count. count ≤ SEGMENT_RECORDS) counts.now }
+        // All moves of the defined pack are still to come.
         ensures moves { result.moves ≡ pack_moves counts.now }
+        // The counts before them are the given ones.
         ensures counts { result.counts ≡ counts.now }
     {
         PackMoves {

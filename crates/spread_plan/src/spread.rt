@@ -35,12 +35,14 @@ impl Model for SpreadMoves {
 }
 
 impl SpreadMoves {
-    /// The moves that spread `n` records over `m` segments, where they were packed before.
+    /// The moves that spread `n` records over `m` segments, if they were packed before.
     pub fn new(n: u32, m: u32) -> SpreadMoves
         requires some { 1 ≤ m }
         requires segments { m ≤ 2 ^ 16 }
         requires room { n ≤ SEGMENT_RECORDS * m }
+        // All moves of the defined spread are still to come.
         ensures moves { result.moves ≡ spread_moves n m }
+        // The counts before them are those of packed records: all segments are full but the last used one.
         ensures counts { result.counts ≡ full_counts n m }
     {
         SpreadMoves {
@@ -52,7 +54,7 @@ impl SpreadMoves {
         }
     }
 
-    /// No moves: `n` records are spread over `m` segments.
+    /// No moves are to come, for the `n` records are spread over `m` segments, each of which has its share.
     pub fn done(n: u32, m: u32) -> SpreadMoves
         requires some { 1 ≤ m }
         requires segments { m ≤ 2 ^ 16 }
