@@ -28,10 +28,10 @@ pub struct Probe {
     pub bound: u32,
 }
 
-/// A bound on the blocks of `block` nodes that the path to a segment touches in an index of `h` levels, however the
-/// blocks are aligned.
+/// The bound `4 * ceil(h / floor(log2(block + 1)))` on the blocks of `block` nodes that the path to a segment touches in an
+/// index of `h` levels, however the blocks are aligned.
 ///
-/// It is `4 * ceil(h / floor(log2(block + 1)))`, and 0 where there is no level.
+/// It is 0 if there is no level.
 pub fn bound(h: u32, block: u32) -> u32
     requires height { h ≤ 16 }
     requires block { 1 ≤ block }

@@ -47,7 +47,7 @@ impl Trace {
         self.len += 1;
     }
 
-    /// How many positions there are.
+    /// How many positions there are, at most 16.
     pub fn len(&self) -> u32
         ensures len { result ≡ length self.now }
         ensures most { result ≤ 16 }
@@ -63,7 +63,7 @@ impl Trace {
         self.positions[i as usize]
     }
 
-    /// How many blocks of `block` nodes the positions touch, where position 0 is node `align` of its block.
+    /// How many different blocks of `block` nodes the positions touch, if position 0 is node `align` of its block.
     pub fn blocks(&self, block: u32, align: u32) -> u32
         requires { 1 ≤ block }
         ensures { result ≡ blocks_touched self.now block align }

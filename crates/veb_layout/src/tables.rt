@@ -89,7 +89,7 @@ impl LevelTables {
         LevelTables { height: h, cuts }
     }
 
-    /// How many levels the index has.
+    /// How many levels the index has, at most 16.
     pub fn height(&self) -> u32
         ensures height { result ≡ self.now }
         ensures most { result ≤ 16 }
@@ -97,13 +97,16 @@ impl LevelTables {
         self.height
     }
 
-    /// The position of node `p` of depth `d`, from 1 on, where the first `d` positions of the path are those above it.
+    /// The position of node `p` of depth `d`, from 1 on, if the path begins with the positions above it.
+    ///
+    /// It follows from the first `d` positions of the path by three numbers of the depth.
     pub fn child(&self, path: &Trace2, d: u32, p: u32) -> u32
         requires depth { d < self.now }
         requires below { 1 ≤ d }
         requires node { p < 2 ^ d }
         requires path { take d (positions path.now) ≡ way_to self.now d p }
         ensures position { result ≡ position_of self.now d p }
+        // It is below 2^h - 1 in an index of h levels.
         ensures within { result < 2 ^ self.now - 1 }
     {
         let cut = self.cut(d);
