@@ -47,8 +47,8 @@ gen_summary count seed = sized (gen_counts count seed) (plain (gen_state count s
 abbrev pub gen_line : ℕ → ℕ → Bytes
 gen_line count seed = summary_text (gen_summary count seed)
 
--- The first so many commands of a seed were carried out, one after another: this is what the generator holds, their
--- replies counted, and the state.
+-- The first `count` commands of a seed were carried out, one after another: x is what the generator holds, s has their
+-- replies counted, and `state` is the state after them.
 pub record HasRun (count seed x : ℕ) (s : Summary) (state : ArrayState) : Type 0 where
   pub drawn : x ≡ draw seed count
   pub counts : s ≡ gen_counts count seed

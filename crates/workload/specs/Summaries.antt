@@ -69,7 +69,7 @@ CountsBy lines last = (s : Summary) → counted s lines ≡ counted s (last ∷ 
 abbrev pub sized : Summary → State → Summary
 sized s state = record s { records = len state.map; height = state.height }
 
--- the counts are numbers below 2^32
+-- all counts are numbers below 2^32
 pub record Fits (s : Summary) : Type 0 where
   pub commands : s.commands < 2 ^ 32
   pub stored : s.stored < 2 ^ 32

@@ -26,9 +26,13 @@ const RANGE_LIMIT: u32 = 10;
 /// a get or a range, and a file of slot format 1 has room for what it binds and names. The generator is a linear congruential
 /// one, with the constants that Knuth gives for MMIX.
 pub fn next_command(x: &mut u64, i: u32) -> Command
+    // The generator then holds the defined number after the one before.
     ensures drawn { x.new ≡ next_draw x.old }
+    // The command is the defined one of that number and of `i`.
     ensures command { result ≡ command_by (next_draw x.old) i }
+    // It is a put, a remove, a get or a range.
     ensures asks { AsksForRecords result }
+    // A file of slot format 1 has room for what it binds and names.
     ensures fits { FitsFormat narrow result }
 {
     *x = x.wrapping_mul(MULTIPLIER).wrapping_add(INCREMENT);

@@ -64,7 +64,7 @@ impl Summary {
     }
 }
 
-/// Writes the line of a summary in place of what `out` held.
+/// Writes the defined line of a summary in place of what `out` held.
 pub fn write_summary(summary: &Summary, out: &mut ReplyText)
     ensures { out.new ≡ summary_text summary.now }
 {
