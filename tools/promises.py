@@ -29,7 +29,7 @@ FIELD = re.compile(r"  pub ([\w'-]+) :")
 def sentence(lines: list[str]) -> str:
     """The first sentence of a doc comment."""
     text = " ".join(lines).split("  ")[0]
-    return re.split(r"(?<=[.:])\s(?=[A-Z`])", text, maxsplit=1)[0].rstrip(" :")
+    return re.split(r"(?<=\.)\s(?=[A-Z`])", text, maxsplit=1)[0].rstrip(" :")
 
 
 def row(words: str, place: str) -> str:
@@ -64,10 +64,9 @@ class Contracts:
                 words, in_doc, foreign = sentence(doc), True, by_trait
                 doc = []
             elif name and text.startswith("// "):
+                goes_on = not labels and not in_doc
                 self.close(name, words, labels)
-                said = not labels and not in_doc
-                words, labels, in_doc = (words + " " if said else "") + text[3:], [], False
-                foreign = False
+                words, labels, in_doc, foreign = (words + " " if goes_on else "") + text[3:], [], False, False
             elif name and (clause := CLAUSE.match(line)):
                 if not foreign:
                     labels.append(clause[1] or "")
@@ -143,7 +142,8 @@ def records_of(path: pathlib.Path) -> dict[str, tuple[list[str], set[str]]]:
 def section(crate: str) -> tuple[str, list[str]]:
     """A crate's section, and the clauses without words."""
     folder = TOP / "crates" / crate
-    lines = (folder / "src" / "lib.rt").read_text().splitlines()
+    root = folder / "src" / "lib.rt"
+    lines = (root if root.exists() else root.with_name("main.rt")).read_text().splitlines()
     about = " ".join(line[4:] for line in lines[: next(i for i, x in enumerate(lines) if not x.startswith("//! "))])
     rows, named, missing = [], set(), []
     for path in sorted((folder / "src").glob("**/*.rt")):
@@ -152,12 +152,16 @@ def section(crate: str) -> tuple[str, list[str]]:
         named |= contracts.named
         missing += [f"{crate}/{path.name}: {m}" for m in contracts.missing]
     records: dict[str, tuple[list[str], set[str]]] = {}
+    short: dict[str, set[str]] = {}  # what an abbreviation names
     for path in sorted((folder / "specs").glob("*.antt")):
         records.update(records_of(path))
-    wanted = [n for n in records if n in named]
-    for name in wanted:
-        wanted += [n for n in records if n in records[name][1] and n not in wanted]
-    rows += [r for n in records if n in wanted for r in records[n][0]]
+        for name, body in re.findall(r"(?m)^(?:abbrev |unfoldable )?pub (\w+) : .*\n((?:.+\n)+)", path.read_text()):
+            short[name] = set(re.findall(r"\b[A-Z]\w+\b", body)) - {name}
+    cited = {name: names for name, (_, names) in records.items()} | short
+    reached = [n for n in cited if n in named]
+    for name in reached:
+        reached += [n for n in cited if n in cited[name] and n not in reached]
+    rows += [r for n in records if n in reached for r in records[n][0]]
     return f"## {crate}\n\n{about}\n\n| promise | where |\n|---|---|\n" + "\n".join(rows) + "\n", missing
 
 
