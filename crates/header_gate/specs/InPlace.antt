@@ -9,7 +9,9 @@ use Rattle.header_gate.specs.Recovered.{is_journal, recovered_byte, live_shift, 
 
 -- the gate's journal is one, and the pages that it names hold its images
 pub record IsInPlace (l : Layout) (file : List ℕ) : Type 0 where
+  -- the live journal's table has at most as many numbers as the journal has pages; they ascend, and each is a page of a region
   pub table : IsTableOf l.journal (2 ^ l.hmax) (live_table l file)
+  -- each page that it names, in the live region, has the bytes of its image
   pub pages : (j o : ℕ) → j < length (live_table l file) → o < page_size →
       byte file (region_place l (live_copy file) + page_size * get_or (live_table l file) j 0 + o) ≡ byte file (image_place l j + live_shift l file + o)
 

@@ -64,7 +64,7 @@ pub struct Layout {
 impl Layout {
     ghost use Rattle.header_gate.specs.Places.{IsLayout, height_limit, pages_at, table_place, table_size, journal_shift, image_place, journal_end, region_place, page_place, segment_place, area_place, area_size, file_length, segment_size};
 
-    /// The length of the file in bytes.
+    /// The length in bytes of a file of this layout: header page, journals, two regions and the index.
     pub fn length(&self) -> u64
         requires { IsLayout self.now }
         ensures { result ≡ file_length self.now }
@@ -72,7 +72,7 @@ impl Layout {
         self.area_at() + self.area_bytes()
     }
 
-    /// The place of the index, behind region 1. A file of version 1 or 2 ends there.
+    /// The place of the index in bytes, below 2^40, behind region 1. A file of version 1 or 2 ends there.
     pub fn area_at(&self) -> u64
         requires { IsLayout self.now }
         ensures place { result ≡ area_place self.now }
@@ -81,7 +81,7 @@ impl Layout {
         self.region_at(2)
     }
 
-    /// The bytes of the index, in whole pages: none in a file of version 1 or 2.
+    /// The bytes of the index, in whole pages, fewer than 2^24: none in a file of version 1 or 2.
     pub fn area_bytes(&self) -> u64
         requires { IsLayout self.now }
         ensures size { result ≡ area_size self.now }
@@ -94,7 +94,7 @@ impl Layout {
         }
     }
 
-    /// The greatest height that a store in the file may have.
+    /// The greatest height, at most 16, that a store in the file may have.
     pub fn height_limit(&self) -> u32
         requires { IsLayout self.now }
         ensures limit { result ≡ height_limit self.now }
@@ -103,7 +103,7 @@ impl Layout {
         self.hmax + 1 - self.format
     }
 
-    /// The pages that a store of this height has in its region.
+    /// The pages that a store of this height has in its region, at most the 2^hmax of a region.
     pub fn pages_at(&self, height: u32) -> u32
         requires layout { IsLayout self.now }
         requires height { height ≤ height_limit self.now }
@@ -120,7 +120,8 @@ impl Layout {
         self.version == PAIRED
     }
 
-    /// The place of the table of journal 0 or 1. Before version 4 there is one journal, and either number is its.
+    /// The place in bytes, below 2^31, of the table of journal 0 or 1. Before version 4 there is one journal, and
+    /// either number is its.
     pub fn table_at(&self, turn: u32) -> u64
         requires { IsLayout self.now }
         ensures place { result ≡ table_place + journal_shift self.now turn }
@@ -129,7 +130,7 @@ impl Layout {
         TABLE + self.shift(turn)
     }
 
-    /// The place of image `k` of the first journal.
+    /// The place in bytes of image `k` of the first journal.
     pub fn image_at(&self, k: u32) -> u64
         requires { IsLayout self.now }
         ensures { result ≡ image_place self.now k }
@@ -137,7 +138,7 @@ impl Layout {
         TABLE + self.table_size() + PAGE as u64 * k as u64
     }
 
-    /// The place of image `k` of journal 0 or 1.
+    /// The place in bytes of image `k` of journal 0 or 1.
     pub fn image_in(&self, turn: u32, k: u32) -> u64
         requires { IsLayout self.now }
         ensures { result ≡ image_place self.now k + journal_shift self.now turn }
@@ -158,7 +159,7 @@ impl Layout {
         }
     }
 
-    /// The place of a page of region 0 or 1. Region 2 would begin at the end of the regions.
+    /// The place in bytes of a page of region 0 or 1. Region 2 would begin at the end of the regions.
     pub fn page_at(&self, region: u32, page: u32) -> u64
         requires layout { IsLayout self.now }
         requires region { region ≤ 2 }
@@ -167,7 +168,7 @@ impl Layout {
         self.region_at(region) + PAGE as u64 * page as u64
     }
 
-    /// The place of a segment of region 0 or 1.
+    /// The place in bytes of a segment of region 0 or 1.
     pub fn segment_at(&self, region: u32, segment: u32) -> u64
         requires layout { IsLayout self.now }
         requires region { region ≤ 2 }
@@ -176,7 +177,7 @@ impl Layout {
         self.region_at(region) + self.segment_bytes() as u64 * segment as u64
     }
 
-    /// The bytes of a segment.
+    /// The bytes of a segment: 4096 for each page that the slot format gives it.
     pub fn segment_bytes(&self) -> usize
         ensures { result ≡ segment_size self.now }
     {

@@ -11,7 +11,9 @@ use Rattle.redo_journal.specs.declared.place.Place.{Place}
 
 -- the image of a file stands at this place
 pub record IsAt (place : Place) (image : List ℕ) : Type 0 where
+  -- it has the length of the place's layout
   pub size : length image ≡ file_length place.layout
+  -- its live copy is the place's region
   pub region_is : live_copy image ≡ place.region
 
 -- a place of the journals: of their tables or of their images
@@ -42,8 +44,12 @@ frame_byte slots k o = image_byte (bytes_of slots) k o
 -- A commit of a batch: it is in the recovered image wholly or not at all; a journal that is to be laid is that of the
 -- batch, or has the table of one that was to be laid before; nothing changed but journals, gate and the batch's pages.
 pub record Commits (l : Layout) (region : ℕ) (numbers : List ℕ) (image : ℕ → ℕ → ℕ) (old new : List ℕ) : Type 0 where
+  -- the recovered image is that of before, or that with the whole batch laid over the region
   pub whole : (recovered l new ≡ recovered l old) ⊎ (recovered l new ≡ laid_over l region numbers image (recovered l old))
+  -- a journal that is to be laid has the batch's table, or that of one that was to be laid before: behind an even gate of one
+  -- journal an odd one has the batch's
   pub table : is_laid l new ≡ true → (live_table l new ≡ numbers) ⊎ ((is_laid l old ≡ true) × (live_table l new ≡ live_table l old))
+  -- no byte differs but those of the journals, the gate and the batch's pages; the length stays
   pub touched : Touched (λ p. IsJournalPlace l p ⊎ (IsGatePlace p ⊎ IsNamed (region_place l region) numbers p)) old new
 
 -- The live one of two journals becomes an empty one: the recovered image stays, and a journal that is to be laid is an empty
