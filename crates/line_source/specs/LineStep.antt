@@ -21,15 +21,21 @@ pub record IsCut (old left : List ℕ) : Type 0 where
 
 -- the next line was given, without one carriage return at its end
 pub record GivesLine (old : List ℕ) (reader : ReaderView) (source : SourceView) : Type 0 where
+  -- the line as the script has it
   pub raw : List ℕ
+  -- it is the first of what was to be given, and what follows it is still to be given
   pub next : IsNext old raw (rest reader source) reader.ended
+  -- it has at most 512 bytes, and is given without one carriage return at its end
   pub short : length raw ≤ line_limit
   pub line : reader.line ≡ strip_carriage_return raw
 
 -- the next line was skipped, since it is too long
 pub record SkipsLine (old : List ℕ) (reader : ReaderView) (source : SourceView) : Type 0 where
+  -- the line as the script has it
   pub raw : List ℕ
+  -- it is the first of what was to be given, and what follows it is still to be given
   pub next : IsNext old raw (rest reader source) reader.ended
+  -- it has more than 512 bytes
   pub long : line_limit < length raw
 
 -- nothing was to be given
@@ -63,8 +69,11 @@ is_last Spent = true
 
 -- with all the bytes that may be taken neither a complete line nor the end is met
 pub record IsSpent (reader : ReaderView) (source : SourceView) : Type 0 where
+  -- the end was not seen
   pub more : reader.ended ≡ false
+  -- what is held and the bytes that may still be taken have no line feed
   pub no_feed : NoFeed (reader.held ++ take reader.room source.left)
+  -- the source has as many bytes left as may still be taken
   pub room : reader.room ≤ length source.left
 
 -- `Spent` comes exactly there, unless a read fails

@@ -2,6 +2,7 @@
 use Rattle.std.specs.Prelude.{ℕ, true, List}
 use Rattle.line_source.specs.SourceView.{SourceView}
 
+-- what a source in memory gives, and what it counted
 pub record MemView : Type 0 where
   -- what is left
   pub left : List ℕ

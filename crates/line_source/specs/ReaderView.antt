@@ -3,6 +3,7 @@ use Rattle.std.specs.Prelude.{◌≡◌, ℕ, ◌<◌, Bool, if◌then◌else◌
 use Rattle.line_source.specs.SourceView.{SourceView}
 use Rattle.line_source.specs.Lines.{NoFeed}
 
+-- what a reader of lines holds and may still take
 pub record ReaderView : Type 0 where
   -- what was taken and is not given yet
   pub held : List ℕ

@@ -1,6 +1,7 @@
 -- What a source means to those who read it.
 use Rattle.std.specs.Prelude.{◌≡◌, ℕ, ◌+◌, ◌-◌, ◌^◌, ◌≤◌, min, Bool, true, List, ◌++◌}
 
+-- what a source means
 pub record SourceView : Type 0 where
   -- whether the source tells what it has left
   pub tells : Bool

@@ -49,6 +49,7 @@ impl MemSource {
         fail: &[u32],
     ) -> Result<MemSource, AllocError>
         requires { 1 ≤ piece }
+        // No byte is given yet, and no call counted. Call number n, from 0, fails if `fail` lists it.
         ensures { IfOk result (λ m. m ≡ record {
           left = bytes.now;
           piece = piece;
@@ -92,17 +93,20 @@ impl Source for MemSource {
         ensures cause { OnErr result (SourceRose (as_source self.old) (as_source self.new)) }
         ensures went { Went (as_source self.old) (as_source self.new) }
 
-        // What a source in memory says besides.
+        // Fails exactly if the number of the call is listed.
         ensures fails { IsErr result ↔ Contains self.old.fail self.old.calls }
+        // On Ok it gives as many bytes as are left, but at most a piece, and at most what `buf` has room for; it counts the call.
         ensures size { IfOk result (λ n. n ≡ min (length buf.old) (min self.old.piece (length self.old.left))) }
         ensures gone { IfOk result (λ n. self.new ≡ record self.old {
           left = drop n self.old.left;
           calls = one_fault_more self.old.calls;
         }) }
+        // On a failure it counts the call and the fault, and nothing else changes.
         ensures failed { OnErr result (self.new ≡ record self.old {
           calls = one_fault_more self.old.calls;
           faults = one_fault_more self.old.faults;
         }) }
+        // The bytes of `buf` behind those given stay, and on a failure all of them.
         ensures behind { IfOk result (λ n. drop n buf.new ≡ drop n buf.old) }
         ensures kept { OnErr result (buf.new ≡ buf.old) }
     {

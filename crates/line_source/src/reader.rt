@@ -65,7 +65,7 @@ impl Model for LineReader {
 }
 
 impl LineReader {
-    /// A reader that takes at most `most` bytes.
+    /// A reader that takes at most `most` bytes, and has taken none.
     pub fn new(most: u64) -> LineReader
         ensures { result ≡ record { held = []; line = []; room = most; ended = false; done = false } }
     {
@@ -103,21 +103,32 @@ impl LineReader {
     pub fn next_line<I: Source>(&mut self, source: &mut I) -> LineStep
         requires { self.old.done ≡ false }
 
-        // On a source that tells what it has left, the lines are those of its script.
+        // If the source tells what it has left, the lines are those of its script, whatever the pieces: an answer gives the next
+        // line, says that it is too long, or that there is none.
         ensures gives { SourceTold (I.view source.old)
             → Gives result (rest self.old (I.view source.old)) self.new (I.view source.new) }
+        // If the source tells what it has left, `Spent` comes exactly if all bytes that may still be taken neither complete a
+        // line nor meet the end, unless a read fails.
         ensures exact { SourceTold (I.view source.old) → IsExact result self.old (I.view source.old) }
+        // If the source tells what it has left, what is taken is a front of it; each byte lowers the room by one.
         ensures takes { SourceTold (I.view source.old)
             → Takes self.old (I.view source.old) self.new (I.view source.new) }
 
-        // On every source.
+        // On every source: a given line has at most 512 bytes; else it is empty. `ReadFailed` comes only if the count of failed
+        // reads rose, `End` if the end was seen, and `Spent` if it was not and no byte may be taken any more.
         ensures means { Tells result self.new (I.view source.old) (I.view source.new) }
+        // `End`, `ReadFailed` and `Spent` are last answers.
         ensures done { self.new.done ≡ is_last result }
+        // At most 4096 bytes are held, that is, taken and not given yet.
         ensures ahead { length self.new.held ≤ most_held }
+        // After each answer but a last one fewer bytes are held or may still be taken, so that reading comes to an end; with a
+        // given line fewer by its bytes at least.
         ensures falls { is_last result ≡ false
             → self.new.room + length self.new.held < self.old.room + length self.old.held }
         ensures given { self.new.room + length self.new.held + length self.new.line ≤ self.old.room + length self.old.held }
+        // Never more bytes are taken than were allowed at the start.
         ensures room { self.new.room ≤ self.old.room }
+        // The source goes on telling what it has left, or not telling it; its count of failed reads never falls.
         ensures went { Went (I.view source.old) (I.view source.new) }
 
         // No byte is taken while a complete line is held, nor once the end was seen.

@@ -19,8 +19,10 @@ slot_in format (r ∷ rows) (suc j) = slot_in format rows j
 
 -- segment f of the slots of a format holds these records
 pub record HoldsRows (format : ℕ) (rows : List Record) (f : ℕ) (slots : List (List ℕ)) : Type 0 where
+  -- there are at most 64 of them, each one that a slot of the format can hold
   pub most : length rows ≤ SEGMENT_SLOTS
   pub records : T (list_all (is_record format) rows)
+  -- their slots come first, in order, and all others are empty
   pub slots_are : (j : ℕ) → j < SEGMENT_SLOTS → get_or slots (SEGMENT_SLOTS * f + j) [] ≡ slot_in format rows j
 
 -- the first segments hold these lists

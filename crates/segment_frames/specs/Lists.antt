@@ -44,9 +44,13 @@ most_segments l = l.journal / l.format
 
 -- they fill their frames from the front, and the batch has all pages of each
 pub record IsHeld (format : ℕ) (b : Batch) : Type 0 where
+  -- the slot format is 1 or 2
   pub known : IsSlotFormat format
+  -- the frames are those of a batch
   pub frames : IsFrames b
+  -- the batch has all pages of each segment
   pub pages : b.numbers ≡ pages_of_all format (segments_in format b.numbers)
+  -- the frames of each segment hold the records that their bytes spell, from the front
   pub lists : HoldsLists format (held_lists format b) (grouped format b.slots)
 
 -- the lists of an array that have these numbers

@@ -25,8 +25,11 @@ pub fn judge_frame(
     requires format { IsSlotFormat format }
     requires frames { IsFrames frames.now }
     requires within { format * (f + 1) ≤ frames.now.journal }
+    // On Ok the frames of segment `f` hold the records that their bytes spell, from the front, and these are as many as the store
+    // keeps.
     ensures held { OnOk result (HoldsRows format (rows_at format frames.now.slots f) f (grouped format frames.now.slots)) }
     ensures count { OnOk result (length (rows_at format frames.now.slots f) ≡ kept) }
+    // The fault is the damage that these bytes show: the first bad slot, or the numbers of records found and kept.
     ensures fault { IfErr result (IsPageFault format (page_at format frames.now.slots f) segment kept) }
 {
     let size = SEGMENT_SLOTS * format as usize;
