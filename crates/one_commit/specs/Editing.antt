@@ -53,18 +53,27 @@ charge_by segments (u ∷ us) = charge_one (has_key segments (key_of u)) u + cha
 -- was made; the height stays, and counts and marks are the changes' in their order. No item met a full store, and after
 -- each of them every window was within its bounds.
 pub record AreEdits (hmax : ℕ) (s : ArrayState) (items : List Update) (next : ArrayState) : Type 0 where
+  -- height and number of segments stay
   pub height_is : next.height ≡ s.height
   pub size : length next.array ≡ length s.array
+  -- each segment is edited by its own items in their order
   pub segments_are : (i : ℕ) → i < length s.array → segment_at next.array i ≡ edited_by (items_for s.array i items) (segment_at s.array i)
+  -- counts and marks are the changes' in their order
   pub counts_are : counts_of next.array ≡ counts_by (changes_in s.array items) (counts_of s.array)
   pub marks_are : next.marks ≡ marks_by_changes s.height (changes_in s.array items) s.marks
+  -- two images are charged for each item that edits a segment
   pub charge_is : charge_after_items hmax s items ≡ charge_by s.array items
+  -- no item meets a full store
   pub admitted : AreAdmitted hmax s.map items
+  -- every window is within its bounds behind each of the items
   pub balanced : (k : ℕ) → IsBalancedArray s.height (next_states hmax s (take k items)).array
 
--- a batch's images are those of the edited segments, each of the pages of a segment of format f, and it names each segment that an
--- item edits
+-- a batch's images are those of the edited segments, each of the pages of a segment of format f, and it names each
+-- segment that an item edits
 pub record LaysEdits (f : ℕ) (segments : Array) (items : List Update) (numbers : List ℕ) (image : ℕ → ℕ → ℕ) : Type 0 where
+  -- each number is that of a segment
   pub inside : (k : ℕ) → k < length numbers → get_or numbers k 0 < length segments
+  -- its image is that of the segment, edited by its items
   pub named : (k : ℕ) → k < length numbers → let i = get_or numbers k 0 in IsSegmentImage f (edited_by (items_for segments i items) (segment_at segments i)) (segment_image f image k)
+  -- no item edits a segment that is not named
   pub unnamed : (i : ℕ) → i < length segments → IsNone numbers i → items_for segments i items ≡ []

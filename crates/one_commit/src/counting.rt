@@ -19,9 +19,12 @@ pub fn count_changes(tally: &mut Tally, changes: &[ItemChange])
     requires in_store { All (λ c. c.segment < 2 ^ tally.old.height) changes.now }
     requires balanced { IsBalanced tally.old.height tally.old.counts }
     requires within { within_of tally.old.height tally.old.counts changes.now ≡ true }
+    // Counts and marks are the changes' in their order, and all else in the tally stays.
     ensures counted { tally.new ≡ record tally.old { counts = counts_by changes.now tally.old.counts; marks = marks_by_changes tally.old.height changes.now tally.old.marks } }
+    // It is a tally again, and every window is within its bounds.
     ensures tally { IsTally tally.new }
     ensures balanced { IsBalanced tally.new.height tally.new.counts }
+    // The potential rises by at most 512 images for each change.
     ensures paid { potential_of tally.new ≤ potential_of tally.old + 512 * length changes.now }
 {
     for i in 0..changes.len() {

@@ -14,13 +14,14 @@ ghost use Rattle.map_model.specs.Holding.{HoldsMap, IsBalancedArray};
 ghost use Rattle.one_commit.specs.Fitting.{changes_in, fit_one_commit};
 ghost use Rattle.one_commit.specs.Editing.{AreEdits, LaysEdits};
 
-/// A law: where distinct items fit one commit, they are edits of the segments to which their keys belong before any of them
-/// is made.
+/// A law: if distinct items fit one commit, they are edits of the segments to which their keys belong before any of
+/// them is made.
 pub fn fitting_items_are_edits()
     ensures { (hmax : ℕ) (s : ArrayState) (items : List Update) → HoldsMap hmax s.map s.height s.array → IsBalancedArray s.height s.array → are_distinct items ≡ true → fit_one_commit s.height (counts_of s.array) (changes_in s.array items) ≡ true → AreEdits hmax s items (next_states hmax s items) }
 {}
 
-/// A law: so are they in a file, where a batch with these segments is laid over it.
+/// A law: distinct items that fit one commit are such edits in a file, too, over which a batch with the edited
+/// segments is laid.
 pub fn edits_reach_files()
     ensures { (s : ArrayState) (items : List Update) (old new numbers : List ℕ) (image : ℕ → ℕ → ℕ) → HasState old s → IsBalancedArray s.height s.array → are_distinct items ≡ true → fit_one_commit s.height (counts_of s.array) (changes_in s.array items) ≡ true → LaysBatch numbers image old new → LaysEdits (slot_format old) s.array items numbers image → IsJournalSound (layout_in old) s.height new → HasState new (next_states (height_limit (layout_in old)) s items) }
 {}

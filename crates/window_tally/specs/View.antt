@@ -13,10 +13,14 @@ pub record TallyView : Type 0 where
 
 -- what is true of every tally
 pub record IsTally (t : TallyView) : Type 0 where
+  -- the greatest height is at most 16, and the height at most that
   pub hmax_is : t.hmax ≤ 16
   pub height_is : t.height ≤ t.hmax
+  -- there is a count for each of the `2^height` segments
   pub size : length t.counts ≡ 2 ^ t.height
+  -- no segment has more than 64 records
   pub capacity : (i : ℕ) → slice_index t.counts i ≤ SEGMENT_RECORDS
+  -- every rested window keeps the drift bound
   pub drift : KeepsDrift t.counts t.marks
 
 -- a tally of this height with no record and no mark

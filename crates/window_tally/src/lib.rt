@@ -93,7 +93,9 @@ impl Tally {
     /// `AllocError` is want of memory, for `2^(hmax + 1)` counts and as many marks; no other call takes any.
     pub fn new(alloc: Global, hmax: u32) -> Result<Tally, AllocError>
         requires { hmax ≤ 16 }
+        // It has height 0 and one segment, with no record.
         ensures ok { IfOk result (λ t. t ≡ empty_tally hmax 0) }
+        // It is a tally: no segment has more than 64 records, and every rested window keeps the drift bound.
         ensures tally { IfOk result IsTally }
     {
         let most = 2usize << hmax;
@@ -108,7 +110,9 @@ impl Tally {
     /// Makes this the tally of an empty store of this height, with no window rested.
     pub fn clear(&mut self, height: u32)
         requires { height ≤ self.old.hmax }
+        // Height, counts and marks are those of the empty store.
         ensures after { self.new ≡ empty_tally self.old.hmax height }
+        // It is a tally again: no segment has more than 64 records, and every rested window keeps the drift bound.
         ensures tally { IsTally self.new }
     {
         self.height = height;
@@ -119,7 +123,9 @@ impl Tally {
 
     /// Forgets which windows are rested. The height and the counts stay.
     pub fn forget_rests(&mut self)
+        // No window is rested; the height and the counts stay.
         ensures after { self.new ≡ record self.old { marks = no_marks self.old.height } }
+        // It is a tally again: no segment has more than 64 records, and every rested window keeps the drift bound.
         ensures tally { IsTally self.new }
     {
         forget_all(&mut self.marks);
@@ -130,7 +136,9 @@ impl Tally {
         requires in_store { segment < 2 ^ self.old.height }
         requires small { count ≤ SEGMENT_RECORDS }
         requires unrested { self.old.marks ≡ no_marks self.old.height }
+        // The segment has this count; the others, the height and the marks stay.
         ensures after { self.new ≡ record self.old { counts = slice_set self.old.counts segment count } }
+        // It is a tally again: no segment has more than 64 records, and every rested window keeps the drift bound.
         ensures tally { IsTally self.new }
     {
         set_count(&mut self.counts, self.height, segment, count);
@@ -139,6 +147,7 @@ impl Tally {
     /// The height of the store.
     pub fn height(&self) -> u32
         ensures height { result ≡ self.now.height }
+        // It is a tally: no segment has more than 64 records, and every rested window keeps the drift bound.
         ensures tally { IsTally self.now }
     {
         self.height
@@ -155,7 +164,10 @@ impl Tally {
     /// Whether the window is rested, and how many updates it has had since. The root never is.
     pub fn since(&self, window: Window) -> Since
         requires { IsWindow self.now.height window.height window.number }
+        // It answers the mark of the window: rested exactly if it has one, with the updates since.
         ensures mark { result ≡ since_of (mark_of self.now.marks window.height window.number) }
+        // A rested window of height h with n updates since holds at least `2^h * (5 + h) - n` records, and at most
+        // `2^h * (63 - h) + n`.
         ensures drift { let count = count_in self.now.counts window.height window.number in
             IsTrue result.rested → WithinDrift window.height result.updates count }
     {
@@ -185,10 +197,12 @@ impl Tally {
     pub fn add(&mut self, segment: u32)
         requires in_store { segment < 2 ^ self.old.height }
         requires room { slice_index self.old.counts segment < SEGMENT_RECORDS }
+        // The segment has one record more, and each rested window over it has had one update more.
         ensures after { self.new ≡ record self.old {
           counts = counts_after true self.old.counts segment;
           marks = updated_marks self.old.height segment self.old.marks;
         } }
+        // It is a tally again: no segment has more than 64 records, and every rested window keeps the drift bound.
         ensures tally { IsTally self.new }
     {
         self.update(segment, Change::Add);
@@ -198,10 +212,12 @@ impl Tally {
     pub fn take(&mut self, segment: u32)
         requires in_store { segment < 2 ^ self.old.height }
         requires some { 1 ≤ slice_index self.old.counts segment }
+        // The segment has one record less, and each rested window over it has had one update more.
         ensures after { self.new ≡ record self.old {
           counts = counts_after false self.old.counts segment;
           marks = updated_marks self.old.height segment self.old.marks;
         } }
+        // It is a tally again: no segment has more than 64 records, and every rested window keeps the drift bound.
         ensures tally { IsTally self.new }
     {
         self.update(segment, Change::Take);
@@ -215,10 +231,12 @@ impl Tally {
         requires larger { 1 ≤ window.height }
         requires bounds { let count = count_in self.old.counts window.height window.number in
             IsInBounds self.old.height window.height count }
+        // The window's records are spread over its segments, and each smaller window inside it is rested, with no update since.
         ensures after { self.new ≡ record self.old {
           counts = spread_counts self.old.counts window.height window.number;
           marks = spread_marks self.old.height window.height window.number self.old.marks;
         } }
+        // It is a tally again: no segment has more than 64 records, and every rested window keeps the drift bound.
         ensures tally { IsTally self.new }
     {
         let records = self.count(window);
@@ -232,11 +250,14 @@ impl Tally {
     pub fn resize(&mut self, height: u32)
         requires limit { height ≤ self.old.hmax }
         requires bounds { IsInBounds height height (sum self.old.counts) }
+        // The records are spread over the segments of the new height, and each window below the root is rested, with no update
+        // since.
         ensures after { self.new ≡ record self.old {
           height = height;
           counts = resized_counts self.old.counts height;
           marks = resized_marks height;
         } }
+        // It is a tally again: no segment has more than 64 records, and every rested window keeps the drift bound.
         ensures tally { IsTally self.new }
     {
         let records = self.counts[1];
@@ -256,16 +277,20 @@ impl Tally {
     pub fn pick(&self, segment: u32, change: Change) -> Pick
         requires in_store { segment < 2 ^ self.now.height }
         requires some { change ≡ Change.Take → 1 ≤ slice_index self.now.counts segment }
+        // The greatest height at which a window over the segment would be outside its bounds decides: none fits, the store's own
+        // resizes it or is its limit, and any other spreads the window one above.
         ensures answer { let after = counts_after (adds change) self.now.counts segment in
             let broken = highest_broken_of self.now.height after segment in
             result ≡ pick_of self.now.hmax self.now.height segment change broken }
 
-        // Where all windows are within their bounds, it can be done. A store is at its limit exactly where it is full.
+        // If all windows are within their bounds, what is asked for can be done. If a record is to be added, the store is at its
+        // limit exactly if it is full.
         ensures possible { IsBalanced self.now.height self.now.counts → IsPossible self.now result }
         ensures limit { IsBalanced self.now.height self.now.counts → change ≡ Change.Add →
             sum self.now.counts ≡ upper_of self.now.hmax → result ≡ Pick.AtLimit }
 
-        // The cause is the window one below the picked one: if it was rested, it has had that many updates.
+        // If a window is to be spread, the window one below it over the segment, of height h, has had at least `2^h` updates
+        // since it was rested, if it was.
         ensures cause { (window : Window) (n : ℕ) → result ≡ Pick.Spread window →
             let h = window.height - 1 in
             mark_of self.now.marks h (segment / 2 ^ h) ≡ Some n → 2 ^ h ≤ n }

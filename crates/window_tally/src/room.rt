@@ -32,7 +32,7 @@ pub fn no_marks_yet(
     Ok(marks)
 }
 
-/// Makes them so many counts of 0. They have the memory, so none is taken and this can't fail.
+/// Makes them so many counts of 0, and keeps their memory: none is taken, and this can't fail.
 pub fn clear_counts(counts: &mut Vec<u32>, places: usize)
     requires { places ≤ vec_capacity counts.old }
     ensures size { length counts.new.items ≡ places }
@@ -43,7 +43,7 @@ pub fn clear_counts(counts: &mut Vec<u32>, places: usize)
     let _ = counts.resize(places, 0);
 }
 
-/// Makes them so many marks of windows that aren't rested, likewise.
+/// Makes them so many marks of windows that aren't rested, and keeps their memory, likewise.
 pub fn clear_marks(marks: &mut Vec<Option<u64>>, places: usize)
     requires { places ≤ vec_capacity marks.old }
     ensures size { length marks.new.items ≡ places }
@@ -54,7 +54,8 @@ pub fn clear_marks(marks: &mut Vec<Option<u64>>, places: usize)
     let _ = marks.resize(places, None);
 }
 
-/// Makes them so many counts. They have the memory, so none is taken and this can't fail.
+/// Makes them so many counts, of which those that were there stay, and keeps their memory: none is taken, and this
+/// can't fail.
 pub fn fit_counts(counts: &mut Vec<u32>, places: usize)
     requires { places ≤ vec_capacity counts.old }
     ensures size { length counts.new.items ≡ places }
@@ -64,7 +65,7 @@ pub fn fit_counts(counts: &mut Vec<u32>, places: usize)
     let _ = counts.resize(places, 0);
 }
 
-/// Makes them so many marks. They have the memory, so none is taken and this can't fail.
+/// Makes them so many marks, and keeps their memory: none is taken, and this can't fail.
 pub fn fit_marks(marks: &mut Vec<Option<u64>>, places: usize)
     requires { places ≤ vec_capacity marks.old }
     ensures size { length marks.new.items ≡ places }

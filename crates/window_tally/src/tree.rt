@@ -84,7 +84,8 @@ pub fn changed(count: u32, change: Change) -> u32
     }
 }
 
-/// The greatest height whose window over the segment would be outside its bounds after the change.
+/// The greatest height, at most that of the store, whose window over the segment would be outside its bounds after the
+/// change.
 pub fn highest_broken(counts: &[u32], height: u32, segment: u32, change: Change) -> Option<u32>
     requires tree { IsTree height counts.now }
     requires in_store { segment < 2 ^ height }
@@ -125,7 +126,7 @@ fn write_shares(counts: &mut [u32], first: usize, levels: u32, records: u32)
     }
 }
 
-/// Shares the records out over the windows inside this one.
+/// Shares the records out over the windows inside this one, and changes no other.
 pub fn share_out(counts: &mut [u32], height: u32, window: Window, records: u32)
     requires low { height ≤ 16 }
     requires size { 2 ^ (height + 1) ≤ length counts.old }
@@ -146,7 +147,7 @@ pub fn forget_all(marks: &mut [Option<u64>])
     marks.fill(None);
 }
 
-/// Gives the windows inside this one a mark of no updates.
+/// Gives the windows inside this one a mark of no updates, and changes no other.
 pub fn rest_inside(marks: &mut [Option<u64>], height: u32, window: Window)
     requires low { height ≤ 16 }
     requires size { 2 ^ (height + 1) ≤ length marks.old }
