@@ -22,6 +22,7 @@ SECTION = re.compile(r"(<!-- promises of (\w+): begin -->\n).*?(<!-- promises of
 FUNCTION = re.compile(r"( *)(pub )?(?:final )?(?:const )?(?:unsafe )?fn (\w+)")
 CLAUSE = re.compile(r" +ensures\*? ?(?:([\w-]+) )?\{")
 BLOCK = re.compile(r"(?:pub )?(?:unsafe )?(impl|trait)\b(?:<.*?>)? ?(.*?)(?:<| where| \{|$)")
+TRAITS = "As the trait says."  # of a clause that an impl only repeats
 RECORD = re.compile(r"pub record (\w+)")
 FIELD = re.compile(r"  pub ([\w'-]+) :")
 
@@ -32,41 +33,53 @@ def sentence(lines: list[str]) -> str:
     return re.split(r"(?<=\.)\s(?=[A-Z`])", text, maxsplit=1)[0].rstrip(" :")
 
 
-def row(words: str, place: str) -> str:
-    words = words[:1].upper() + words[1:].rstrip(".").replace("|", "\\|")
-    return f"| {words} | {place} |"
+def table(rows: list[tuple[str, str]]) -> str:
+    """Rows of a table, those with the same words as one."""
+    places: dict[str, list[str]] = {}
+    for words, place in rows:
+        places.setdefault(words[:1].upper() + words[1:].rstrip(".").replace("|", "\\|"), []).append(place)
+    return "\n".join(f"| {words} | {'; '.join(where)} |" for words, where in places.items())
+
+
+def exported(root: pathlib.Path) -> set[str]:
+    """What a crate's root makes public of its modules, and its own public items; of a program all that a module does."""
+    text = root.read_text() if root.name == "lib.rt" else "".join(f.read_text() for f in root.parent.glob("*.rt"))
+    lists = re.findall(r"(?m)^pub use [\w:]*?(?:(\w+)|\{([^}]*)\});", text)
+    names = {name.strip().split(" as ")[0] for one, many in lists for name in [one, *many.split(",")]}
+    return names | set(re.findall(r"(?m)^pub (?:fn|struct|enum|trait) (\w+)", text))
 
 
 class Contracts:
     """What the public functions of a file promise, in words."""
 
-    def __init__(self, path: pathlib.Path):
-        self.rows: list[str] = []
+    def __init__(self, path: pathlib.Path, public: set[str]):
+        self.rows: list[tuple[str, str]] = []  # words, and where they stand
         self.named: set[str] = set()
         self.missing: list[str] = []
         doc: list[str] = []
         words, labels = "", []  # the group that is being read
-        holder, by_trait, name, in_doc = "", False, "", True
+        holder, by_trait, in_trait, name, in_doc, foreign = "", False, False, "", True, False
         for line in path.read_text().splitlines():
             text = line.strip()
             if block := BLOCK.match(line):
                 kind, of = block[1], block[2]
                 by_trait = kind == "impl" and " for " in line
                 holder = re.sub(r".* for ", "", line.split("{")[0]).strip().split("<")[0] if by_trait else of.split("<")[0].strip()
-                self.in_trait = kind == "trait"
+                in_trait = kind == "trait"
             elif line == "}":
-                holder, by_trait, self.in_trait = "", False, False
+                holder, by_trait, in_trait = "", False, False
             if head := FUNCTION.match(line):
                 self.close(name, words, labels)
                 words, labels = "", []
-                public = head[2] or by_trait or getattr(self, "in_trait", False)
-                name = (f"{holder}::{head[3]}" if holder and head[1] else head[3]) if public else ""
+                of = holder if holder and head[1] else head[3]
+                said = (head[2] or by_trait or in_trait) and of in public
+                name = (f"{holder}::{head[3]}" if of == holder else head[3]) if said else ""
                 words, in_doc, foreign = sentence(doc), True, by_trait
                 doc = []
             elif name and text.startswith("// "):
                 goes_on = not labels and not in_doc
                 self.close(name, words, labels)
-                words, labels, in_doc, foreign = (words + " " if goes_on else "") + text[3:], [], False, False
+                words, labels, in_doc, foreign = (words + " " if words and goes_on else "") + text[3:], [], False, False
             elif name and (clause := CLAUSE.match(line)):
                 if not foreign:
                     labels.append(clause[1] or "")
@@ -93,20 +106,21 @@ class Contracts:
             self.missing.append(f"{name}: {', '.join(labels)}")
             return
         named = [f"`{label}`" for label in labels if label]
-        self.rows.append(row(words, f"`{name}`" + (f": {', '.join(named)}" if named else "")))
+        if words != TRAITS:
+            self.rows.append((words, f"`{name}`" + (f": {', '.join(named)}" if named else "")))
         labels.clear()
 
 
-def records_of(path: pathlib.Path) -> dict[str, tuple[list[str], set[str]]]:
+def records_of(path: pathlib.Path) -> dict[str, tuple[list[tuple[str, str]], set[str]]]:
     """The public records of a file: their rows, and what else their fields name."""
-    found: dict[str, tuple[list[str], set[str]]] = {}
+    found: dict[str, tuple[list[tuple[str, str]], set[str]]] = {}
     above: list[str] = []
     name, words, fields, whole, rows, named = "", "", [], "", [], set()
 
     def close() -> None:
         nonlocal fields
         if name and fields and words:
-            rows.append(row(words, "`" + f"{name}.{fields[0]}" + "`" + "".join(f", `.{f}`" for f in fields[1:])))
+            rows.append((words, f"`{name}.{fields[0]}`" + "".join(f", `.{f}`" for f in fields[1:])))
         fields = []
 
     for line in [*path.read_text().splitlines(), "end"]:
@@ -130,10 +144,10 @@ def records_of(path: pathlib.Path) -> dict[str, tuple[list[str], set[str]]]:
             words = ""
         if name and line and not line.startswith(" ") and not RECORD.match(line):
             close()
-            found[name] = (([row(whole, f"`{name}`")] if whole else []) + rows, named)
+            found[name] = (([(whole, f"`{name}`")] if whole else []) + rows, named)
             name = ""
         if name and not line:
-            found[name] = (([row(whole, f"`{name}`")] if whole else []) + rows, named)
+            found[name] = (([(whole, f"`{name}`")] if whole else []) + rows, named)
         below = False
         above = []
     return found
@@ -142,16 +156,17 @@ def records_of(path: pathlib.Path) -> dict[str, tuple[list[str], set[str]]]:
 def section(crate: str) -> tuple[str, list[str]]:
     """A crate's section, and the clauses without words."""
     folder = TOP / "crates" / crate
-    root = folder / "src" / "lib.rt"
-    lines = (root if root.exists() else root.with_name("main.rt")).read_text().splitlines()
+    root = next(f for f in (folder / "src" / "lib.rt", folder / "src" / "main.rt") if f.exists())
+    lines = root.read_text().splitlines()
+    public = exported(root)
     about = " ".join(line[4:] for line in lines[: next(i for i, x in enumerate(lines) if not x.startswith("//! "))])
     rows, named, missing = [], set(), []
     for path in sorted((folder / "src").glob("**/*.rt")):
-        contracts = Contracts(path)
+        contracts = Contracts(path, public)
         rows += contracts.rows
         named |= contracts.named
         missing += [f"{crate}/{path.name}: {m}" for m in contracts.missing]
-    records: dict[str, tuple[list[str], set[str]]] = {}
+    records: dict[str, tuple[list[tuple[str, str]], set[str]]] = {}
     short: dict[str, set[str]] = {}  # what an abbreviation names
     for path in sorted((folder / "specs").glob("*.antt")):
         records.update(records_of(path))
@@ -162,7 +177,7 @@ def section(crate: str) -> tuple[str, list[str]]:
     for name in reached:
         reached += [n for n in cited if n in cited[name] and n not in reached]
     rows += [r for n in records if n in reached for r in records[n][0]]
-    return f"## {crate}\n\n{about}\n\n| promise | where |\n|---|---|\n" + "\n".join(rows) + "\n", missing
+    return f"## {crate}\n\n{about}\n\n| promise | where |\n|---|---|\n" + table(rows) + "\n", missing
 
 
 def main() -> int:
