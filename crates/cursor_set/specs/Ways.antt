@@ -1,5 +1,5 @@
 -- What a cursor steps to, on either way.
-use Rattle.std.specs.Prelude.{◌≡◌, Bool, true, false, T, List, Option, Some}
+use Rattle.std.specs.Prelude.{◌≡◌, true, false, T, List, Option, Some}
 use Rattle.std.specs.declared.cmp.Ordering.{Ordering}
 use Rattle.std.specs.Ordering.{is_lt}
 use Rattle.std.specs.FinMap.{contains_key, entries, get, is_sorted}
