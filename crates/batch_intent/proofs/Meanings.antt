@@ -10,8 +10,8 @@ use Rattle.header_gate.specs.declared.layout.Layout.{Layout}
 use Rattle.header_gate.specs.Header.{number, layout_in, intent_gate}
 use Rattle.header_gate.proofs.NumberLaws.{number_same}
 use Rattle.header_gate.specs.Places.{height_limit}
-use Rattle.map_model.specs.Store.{Map, Update}
-use Rattle.map_model.specs.Items.{map_after_items, AreAdmitted}
+use Rattle.map_model.specs.Store.{Map, State, Update}
+use Rattle.map_model.specs.Items.{map_after_items, AreAdmitted, state_after_items}
 use Rattle.map_model.specs.Image.{Represents, RepresentsMap, height_of, slot_format}
 use Rattle.map_model.specs.Batches.{IsUnnamed}
 use Rattle.map_model.proofs.Unnamed.{unnamed_represents, layout_same, format_same}
@@ -83,6 +83,8 @@ means_idle image m height is none =
       idle = λ _. refl;
       form = λ some. absurd (cc);
       admitted = refl;
+      begins = record { map = m; height = height };
+      begins_is = refl;
       map_is = refl;
     }
 
@@ -96,6 +98,8 @@ means_pending image base height items is some spells admitted =
       idle = λ none. absurd (cc);
       form = λ _. spells;
       admitted = admitted;
+      begins = state_after_items (height_limit (layout_in image)) (record { map = base; height = height }) items;
+      begins_is = refl;
       map_is = map_of_items (height_limit (layout_in image)) (record { map = base; height = height }) items;
     }
 
@@ -109,7 +113,7 @@ items_are image m height means = by_gate (has_pending image) refl
 
 -- the map is the one after the items
 pub map_made : (image : List ℕ) (m : Map) (height : ℕ) (means : Means image m height) → map_after_items (height_limit (layout_in image)) means.base means.items ≡ m
-map_made image m height means = sym (map_of_items (height_limit (layout_in image)) (record { map = means.base; height = height }) means.items) ∙ means.map_is
+map_made image m height means = sym (map_of_items (height_limit (layout_in image)) (record { map = means.base; height = height }) means.items) ∙ ap (λ (s : State). s.map) means.begins_is ∙ means.map_is
 
 -- a file means one map
 pub meant_one : (image : List ℕ) (m : Map) (height : ℕ) → Means image m height → (m ≡ meant_map image) × (height ≡ height_of image)

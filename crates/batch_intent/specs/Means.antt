@@ -26,7 +26,8 @@ unfoldable pub pending : List ℕ → List Update
 pending image = if has_pending image then items_in (intent_area image) else []
 
 -- The image means this map at this height: it represents a map, its intent has items, one or more that fit its slot format where
--- they are to be applied and none else, none of them meets a full store, and this is the map after them.
+-- they are to be applied and none else, none of them meets a full store, and this is the map after them. A session on the image
+-- begins with the state after them: this map, and the height to which they lead.
 pub record Means (image : List ℕ) (m : Map) (height : ℕ) : Type 0 where
   pub base : Map
   pub items : List Update
@@ -34,11 +35,9 @@ pub record Means (image : List ℕ) (m : Map) (height : ℕ) : Type 0 where
   pub idle : has_intent (layout_in image) image ≡ false → items ≡ []
   pub form : has_intent (layout_in image) image ≡ true → Spells (slot_format image) items (intent_area image)
   pub admitted : first_full (height_limit (layout_in image)) base items ≡ None
-  pub map_is : (state_after_items (height_limit (layout_in image)) (record { map = base; height = height }) items).map ≡ m
-
--- this map, and the height to which the items lead: what a session on the image begins with
-abbrev pub meant_state : {image : List ℕ} {m : Map} {height : ℕ} → Means image m height → State
-meant_state {image} {m} {height} means = record { map = m; height = (state_after_items (height_limit (layout_in image)) (record { map = means.base; height = height }) means.items).height }
+  pub begins : State
+  pub begins_is : state_after_items (height_limit (layout_in image)) (record { map = base; height = height }) items ≡ begins
+  pub map_is : begins.map ≡ m
 
 -- the image has this layout, and means this map, at the height that it names
 abbrev pub MeansMap : Layout → List ℕ → Map → Type 0

@@ -238,7 +238,9 @@ module _ (old new : List ℕ) (touched : Touched IsCleanPlace old new) where
         idle = λ none. means.idle (sym has_same ∙ none);
         form = λ some. subst (λ (x : Type 0). x) (λ t. Spells ((sym layout_same t).format) means.items (sym intent_area_same t)) (means.form (sym has_same ∙ some));
         admitted = subst (λ (x : Type 0). x) (λ t. AreAdmitted (height_limit (sym layout_same t)) means.base means.items) means.admitted;
-        map_is = (λ t. (state_after_items (height_limit (layout_same t)) (record { map = means.base; height = height }) means.items).map) ∙ means.map_is;
+        begins = means.begins;
+        begins_is = (λ t. state_after_items (height_limit (layout_same t)) (record { map = means.base; height = height }) means.items) ∙ means.begins_is;
+        map_is = means.map_is;
       }
 
   pub map_meant : (m : Map) → MeansMap (layout_in old) old m → MeansMap (layout_in old) new m

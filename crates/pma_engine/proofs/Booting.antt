@@ -5,7 +5,7 @@ use Rattle.header_gate.specs.Places.{height_limit}
 use Rattle.header_gate.specs.declared.layout.Layout.{Layout}
 use Rattle.map_model.specs.Store.{Map, State}
 use Rattle.map_model.proofs.Resuming.{map_of_items}
-use Rattle.batch_intent.specs.Means.{Means, MeansMap, meant_state}
+use Rattle.batch_intent.specs.Means.{Means, MeansMap}
 use Rattle.command_text.specs.Answers.{step}
 use Rattle.command_text.specs.ArraySession.{plain_state_after}
 use Rattle.command_text.specs.Updates.{updates_made}
@@ -36,7 +36,7 @@ led_on start m b bs n same carries next = record {
   means = subst (λ (l : Layout). MeansMap l (left_by b.image bs) next.last) same next.means;
 }
 
-module _ (start : List ℕ) (m : Map) (height : ℕ) (means : Means start m height) (b : Boot) (run : RunHeadline (meant_state means) start b.script b.said_before b.image b.said) where
+module _ (start : List ℕ) (m : Map) (height : ℕ) (means : Means start m height) (b : Boot) (run : RunHeadline means.begins start b.script b.said_before b.image b.said) where
   carries : (n : ℕ) → (n ≡ replies_begun run.texts (length run.new)) ⊎ (n ≡ replies_begun run.texts (length run.new) + 1) → CarriesOut start m b n
   carries n is = record {
     height = height;
@@ -50,8 +50,10 @@ module _ (start : List ℕ) (m : Map) (height : ℕ) (means : Means start m heig
     count_is = is;
   }
 
-  left : (n : ℕ) → MeansMap (layout_in start) b.image (plain_state_after (layout_in start) (meant_state means) (take n (commands_on start b))).map → MeansMap (layout_in start) b.image (after_boot start m b n)
-  left n is = subst (MeansMap (layout_in start) b.image) (map_of_commands (layout_in start) (meant_state means) (take n (commands_on start b))) is
+  left : (n : ℕ) → MeansMap (layout_in start) b.image (plain_state_after (layout_in start) means.begins (take n (commands_on start b))).map → MeansMap (layout_in start) b.image (after_boot start m b n)
+  left n is =
+      subst (MeansMap (layout_in start) b.image)
+      (map_of_commands (layout_in start) means.begins (take n (commands_on start b)) ∙ ap (λ (base : Map). map_after_commands (layout_in start) base (take n (commands_on start b))) means.map_is) is
 
 -- by induction over the boots
 pub boots_lead : (start : List ℕ) (m : Map) → MeansMap (layout_in start) start m → (boots : List Boot) → AreBoots start boots → BootsLead start m boots

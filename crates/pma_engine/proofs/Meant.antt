@@ -1,5 +1,5 @@
 -- The state from which a run begins on a file that means a map.
-use Rattle.std.proofs.Common.{◌≡◌, ℕ, List, sym, ap, subst, ◌∙◌}
+use Rattle.std.proofs.Common.{◌≡◌, ℕ, List, refl, sym, ap, subst, ◌∙◌}
 use Rattle.header_gate.specs.Header.{layout_in}
 use Rattle.header_gate.specs.Places.{height_limit}
 use Rattle.map_model.specs.ArrayState.{IsSoundState, opened_state, plain}
@@ -8,7 +8,7 @@ use Rattle.map_model.proofs.Resuming.{map_of_items, plain_items}
 use Rattle.map_model.proofs.SessionLaws.{opened_sound, states_sound}
 use Rattle.map_model.specs.Items.{state_after_items}
 use Rattle.map_model.proofs.Recovering.{determined}
-use Rattle.batch_intent.specs.Means.{Means, MeansMap, meant_map, meant_state, opened_items_state, pending}
+use Rattle.batch_intent.specs.Means.{Means, MeansMap, meant_map, opened_items_state, pending}
 use Rattle.batch_intent.proofs.Meanings.{items_are, meant_one}
 use Rattle.pma_engine.specs.Outcome.{state_of}
 
@@ -31,12 +31,11 @@ begins_sound image m means =
     subst (IsSoundState hmax) (opened_is image m means) (states_sound hmax (opened_state image) (pending image) (opened_sound image means.1.1.base means.1.0 means.1.1.represents))
 
 -- without its array it is what the items of the intent lead to
-pub begins_plain : (image : List ℕ) (m : Map) (height : ℕ) (means : Means image m height) → plain (state_of m image) ≡ meant_state means
+pub begins_plain : (image : List ℕ) (m : Map) (height : ℕ) (means : Means image m height) → plain (state_of m image) ≡ means.begins
 begins_plain image m height means =
     let hmax = height_limit (layout_in image) in
     let own = determined image means.base height means.represents in
-    let tall : (opened_items_state image).height ≡ (meant_state means).height =
-    ap (λ (t : State). t.height) (plain_items hmax (opened_state image) (pending image))
-    ∙ (λ i. (state_after_items hmax (record { map = sym own.0 i; height = sym own.1 i }) (sym (items_are image m height means) i)).height)
-    in
-    λ i. record { map = m; height = tall i }
+    ap plain (sym (opened_is image m (refl, (height, means))))
+    ∙ plain_items hmax (opened_state image) (pending image)
+    ∙ (λ i. state_after_items hmax (record { map = sym own.0 i; height = sym own.1 i }) (sym (items_are image m height means) i))
+    ∙ means.begins_is

@@ -9,7 +9,7 @@ use Rattle.header_gate.specs.declared.layout.Layout.{Layout}
 use Rattle.map_model.specs.Image.{slot_format}
 use Rattle.map_model.specs.Items.{map_after_items}
 use Rattle.map_model.specs.Store.{Map}
-use Rattle.batch_intent.specs.Means.{Means, MeansMap, meant_state}
+use Rattle.batch_intent.specs.Means.{Means, MeansMap}
 use Rattle.command_text.specs.Script.{commands_of}
 use Rattle.command_text.specs.Updates.{updates_made}
 use Rattle.command_text.specs.declared.command.Command.{Command}
@@ -29,7 +29,7 @@ commands_on start b = commands_of (slot_format start) b.script
 
 -- it left what the clause `headline` of `run_words` promises of a run that began on this file
 abbrev pub IsRun : List ℕ → Boot → Type 0
-IsRun start b = (m : Map) (height : ℕ) (means : Means start m height) → RunHeadline (meant_state means) start b.script b.said_before b.image b.said
+IsRun start b = (m : Map) (height : ℕ) (means : Means start m height) → RunHeadline means.begins start b.script b.said_before b.image b.said
 
 -- boots, one after another: the first on this file, each other on the file that the one before it left
 abbrev pub AreBoots : List ℕ → List Boot → Type 0
@@ -53,7 +53,7 @@ pub record CarriesOut (start : List ℕ) (m : Map) (b : Boot) (count : ℕ) : Ty
   pub height : ℕ
   pub means : Means start m height
   pub texts : List Bytes
-  pub are : AreReplies (layout_in start) (meant_state means) empty (commands_on start b) texts
+  pub are : AreReplies (layout_in start) means.begins empty (commands_on start b) texts
   pub new : List ℕ
   pub rest : List ℕ
   pub said_is : b.said ≡ b.said_before ++ new

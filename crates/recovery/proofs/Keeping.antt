@@ -32,7 +32,9 @@ module _ (old new : List ℕ) (keeps : KeepsIntent old new) where
     idle = λ none. means.idle (sym (pending_kept old new keeps) ∙ none);
     form = λ some. spells_kept old new keeps means.items (means.form (sym (pending_kept old new keeps) ∙ some));
     admitted = subst (λ (l : Layout). AreAdmitted (height_limit l) means.base means.items) (sym keeps.layout_is) means.admitted;
-    map_is = ap (λ (l : Layout). (state_after_items (height_limit l) (record { map = means.base; height = height }) means.items).map) keeps.layout_is ∙ means.map_is;
+    begins = means.begins;
+    begins_is = ap (λ (l : Layout). state_after_items (height_limit l) (record { map = means.base; height = height }) means.items) keeps.layout_is ∙ means.begins_is;
+    map_is = means.map_is;
   }
 
 -- An opening.
