@@ -1,6 +1,6 @@
 -- Which refusal of a text is due: a line is refused only where no record too many comes before it, and no refusal is due of lines
 -- with which reading goes on.
-use Rattle.std.proofs.Common.{◌≡◌, inl, inr, ℕ, zero, suc, ◌+◌, ◌-◌, ◌^◌, ◌<◌, ◌≤◌, Bool, true, false, List, [], ◌∷◌, ◌++◌, length, take, drop, All, Option, Some, None, refl, sym, ap, subst, ◌∙◌, arith, append_assoc}
+use Rattle.std.proofs.Common.{◌≡◌, inl, inr, ℕ, zero, suc, ◌-◌, ◌^◌, ◌<◌, ◌≤◌, Bool, true, false, List, [], ◌∷◌, ◌++◌, length, take, drop, All, Option, Some, None, refl, sym, ap, subst, ◌∙◌, arith, append_assoc}
 use Rattle.std.specs.List.{cons_option}
 use Rattle.std.proofs.lemmas.Bool.{cases_lt}
 use Rattle.std.proofs.lemmas.List.{append-nil, take_at}
@@ -10,9 +10,9 @@ use Rattle.command_text.specs.Load.{load_line_raw}
 use Rattle.command_text.specs.declared.load.LoadLine.{LoadLine}
 use Rattle.command_text.specs.declared.load.LoadLine.TheVariants.{Nothing}
 use Rattle.bulk_load.specs.LoadText.{BeginsText, IsLoadText, IsOneTooMany, IsRefusedAt, MayGoOn, record_of_line, records_in}
-use Rattle.bulk_load.specs.Loading.{IsWrongLine, loading, reads, wrong}
+use Rattle.bulk_load.specs.Loading.{IsWrongLine, loading, reads}
 use Rattle.bulk_load.proofs.TextFaults.{begins, few_rows, first_wrong, stops_at, unfinished}
-use Rattle.bulk_load.proofs.TextLaws.{Reads, entries_of, reads_all, start, text_of}
+use Rattle.bulk_load.proofs.TextLaws.{entries_of, reads_all, start, text_of}
 
 -- The records of lines that were read.
 

@@ -1,12 +1,11 @@
 -- What a load writes and how many calls it makes at most, whatever is answered.
-use Rattle.std.proofs.Common.{◌≡◌, ◌⊎◌, inl, inr, ℕ, ◌+◌, ◌-◌, ◌*◌, ◌/◌, ◌^◌, ◌≤◌, arith}
+use Rattle.std.proofs.Common.{◌⊎◌, inl, inr, ℕ, ◌+◌, ◌-◌, ◌*◌, ◌/◌, ◌^◌, ◌≤◌, arith}
 use Rattle.header_gate.specs.Places.{IsLayout, height_limit, segment_size}
 use Rattle.header_gate.specs.declared.layout.Layout.{Layout}
 use Rattle.density_rule.proofs.Quotients.{div_rises}
 use Rattle.key_slot.specs.declared.sizes.TheConstants.{SEGMENT_SLOTS}
 use Rattle.key_slot.proofs.SegmentLaws.{times_up}
 use Rattle.segment_frames.specs.Parts.{GoesInParts, parts}
-use Rattle.resize_region.specs.Source.{copy_calls}
 use Rattle.bulk_load.specs.Loads.{most_records}
 use Rattle.bulk_load.specs.Packing.{HasPlace, WritesRuns, room_in}
 use Rattle.bulk_load.specs.Spreading.{load_calls, used_by}

@@ -20,6 +20,9 @@ pub fn sweep_all<'a>(place: &Place, tally: &'a Tally, page: &'a mut HeldPage) ->
     requires region { place.now.region < 2 }
     requires height { tally.now.height ≤ height_limit place.now.layout }
     ensures layout { result.reader.layout ≡ place.now.layout }
+    ensures region { result.reader.region ≡ place.now.region }
+    ensures first { result.reader.next ≡ 0 }
+    ensures tally { result.tally ≡ tally.now }
     ensures given { result.given ≡ 0 }
     ensures kept { result.kept ≡ [] }
     ensures unfaulted { result.faulted ≡ false }

@@ -1,10 +1,10 @@
 -- How many calls an opening makes behind the closing of an index.
-use Rattle.std.proofs.Common.{◌≡◌, inl, inr, ℕ, ◌+◌, ◌^◌, ◌≤◌, cond, List, length, take, ap, sym, subst, ◌∙◌, arith}
+use Rattle.std.proofs.Common.{◌≡◌, inl, inr, ℕ, ◌+◌, ◌^◌, ◌≤◌, cond, List, length, take, ap, refl, false, sym, subst, ◌∙◌, arith}
 use Rattle.std.specs.FinMap.{len}
-use Rattle.station.specs.Bytes.{Touched}
+use Rattle.station.specs.Bytes.{Same, Touched}
 use Rattle.station.specs.Steps.{Steps}
-use Rattle.station.specs.View.{View, Told}
-use Rattle.station.proofs.Composition.{told_on}
+use Rattle.station.specs.View.{View, Told, attached_by}
+use Rattle.station.proofs.Composition.{told_on, weaken}
 use Rattle.density_rule.specs.Repair.{repair_window}
 use Rattle.header_gate.specs.Header.{layout_in}
 use Rattle.header_gate.specs.Places.{height_limit}
@@ -20,6 +20,7 @@ use Rattle.recovery.specs.Costs.{back_calls, mending_calls, asked_opening, openi
 use Rattle.recovery.specs.Intents.{may_meet}
 use Rattle.pma_store.specs.BatchCalls.{IsForItems}
 use Rattle.pma_store.specs.Opens.{AreForPending, CallsOpening, IsAllAtRest, opened_tally}
+use Rattle.pma_engine.specs.Opening.{reopening_calls, sync_calls}
 use Rattle.pma_store.proofs.OpeningCalls.{items_seen}
 use Rattle.pma_engine.proofs.Alike.{array_same, first_same, has_same, height_same, layout_same, live_table_same, map_same, names_same, pending_same, rests}
 
@@ -71,3 +72,13 @@ opening_behind closing before behind a c b steps few told same (inr some) =
 pub opening_more : (back more : ℕ) (a b d : View) → d.calls ≤ b.calls + more → CallsOpening back a b → CallsOpening (back + more) a d
 opening_more back more a b d few (inl most) = inl (omega (arith, few, most))
 opening_more back more a b d few (inr some) = inr (some.0, some.1, some.2, omega (arith, few, some.3))
+
+-- an opening behind the attaching of its file
+pub opening_attached : (a c b : View) → Steps Same (attached_by false a) c → c.calls ≤ a.calls + 1 → Told a
+    → (Told c → CallsOpening (4 + opening_calls (layout_in c.held) (height_of c.held) + sync_calls (layout_in c.held)) c b) → CallsOpening (reopening_calls a.held) (attached_by false a) b
+opening_attached a c b steps one told behind =
+    let same : c.held ≡ a.held = steps.held told in
+    subst (λ (n : ℕ). CallsOpening n (attached_by false a) b) {x = 1 + (4 + opening_calls (layout_in a.held) (height_of a.held) + sync_calls (layout_in a.held))} (omega arith)
+    (opening_behind 1 (4 + opening_calls (layout_in a.held) (height_of a.held) + sync_calls (layout_in a.held)) (4 + opening_calls (layout_in c.held) (height_of c.held) + sync_calls (layout_in c.held)) (attached_by false a) c b
+    (weaken steps (λ d i left is. subst (Touched IsCleanPlace d) (sym is) (record { size = refl; rest = λ k out. refl }))) one told
+    (ap (λ (x : List ℕ). 4 + opening_calls (layout_in x) (height_of x) + sync_calls (layout_in x)) same) (behind (ap (λ f. f.tells_held) steps.frame.fixed ∙ told)))

@@ -1,6 +1,6 @@
 -- The records of the map that a file means may be printed, where the file is one of bytes: they fit its slot format, and their keys
 -- and values are bytes.
-use Rattle.std.proofs.Common.{◌≡◌, inl, inr, ℕ, zero, suc, ◌+◌, ◌-◌, ◌*◌, ◌^◌, ◌<◌, ◌≤◌, Bool, true, false, cond, ◌&&◌, List, [], ◌∷◌, ◌++◌, T, length, replicate, get_or, refl, sym, ap, subst, ◌∙◌, arith, nat_le}
+use Rattle.std.proofs.Common.{◌≡◌, inl, inr, ℕ, suc, ◌+◌, ◌-◌, ◌*◌, ◌^◌, ◌<◌, ◌≤◌, Bool, true, false, cond, ◌&&◌, List, [], ◌∷◌, ◌++◌, T, length, replicate, refl, sym, subst, arith, nat_le}
 use Rattle.std.specs.List.{All, flat_map, list_all, range_with_len}
 use Rattle.std.specs.FinMap.{entries, entries-insert, insert, len, put, remove}
 use Rattle.std.specs.FinMap.Entries.{by_order}
@@ -18,12 +18,11 @@ use Rattle.header_gate.specs.Recovered.{is_in_page, is_journal, is_laid, laid_by
 use Rattle.header_gate.specs.declared.layout.Layout.{Layout}
 use Rattle.header_gate.proofs.RecoveredBytes.{byte-recovered, length-recovered}
 use Rattle.key_slot.specs.Format.{key_room, value_room, wide}
-use Rattle.key_slot.specs.Ordered.{without}
 use Rattle.key_slot.specs.Padded.{padded}
 use Rattle.key_slot.specs.Record.{Bytes, Record, is_record, key_cmp}
 use Rattle.key_slot.specs.Segment.{IsSegment, segment_bytes}
 use Rattle.key_slot.specs.Slot.{record_slot}
-use Rattle.key_slot.specs.declared.sizes.TheConstants.{KEY_AT, SEGMENT_SLOTS}
+use Rattle.key_slot.specs.declared.sizes.TheConstants.{KEY_AT}
 use Rattle.key_slot.proofs.Truth.{both, first, second}
 use Rattle.map_model.specs.Array.{Array, rows, segment_at}
 use Rattle.map_model.specs.Image.{Represents, live_segment, slot_format}
@@ -32,8 +31,8 @@ use Rattle.map_model.specs.Store.{Effect, FindsFull, FindsNone, Adds, IsWithin, 
 use Rattle.map_model.proofs.Effects.{most_held}
 use Rattle.map_model.proofs.Entries.{entries-remove}
 use Rattle.map_model.proofs.Resuming.{items_within}
-use Rattle.batch_intent.specs.Gate.{has_intent, intent_area}
-use Rattle.batch_intent.specs.Means.{Means, MeansMap, has_pending}
+use Rattle.batch_intent.specs.Gate.{intent_area}
+use Rattle.batch_intent.specs.Means.{Means, has_pending}
 use Rattle.batch_intent.specs.Spelling.{Spells, bound_value, fits_item, intent_bytes, item_bytes}
 use Rattle.batch_intent.specs.declared.places.TheConstants.{INTENT, INTENT_SIZE}
 use Rattle.batch_intent.proofs.Meanings.{map_made}

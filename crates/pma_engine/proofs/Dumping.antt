@@ -1,5 +1,5 @@
 -- What comes of a dump, from the map that its file means at the entry.
-use Rattle.std.proofs.Common.{◌≡◌, ◌⊎◌, inl, inr, ℕ, List, ◌++◌, length, take, false, Some, None, Result, Ok, Err, refl, sym, ◌∙◌, ap, subst, arith, length-append}
+use Rattle.std.proofs.Common.{◌≡◌, ◌⊎◌, inl, inr, ℕ, ◌+◌, ◌^◌, ◌≤◌, List, ◌++◌, length, take, false, Some, None, Result, Ok, Err, refl, sym, ◌∙◌, ap, subst, arith, length-append}
 use Rattle.std.specs.List.{flat_map}
 use Rattle.std.specs.FinMap.{entries}
 use Rattle.std.proofs.lemmas.List.{append-nil, take-append-le}
@@ -16,7 +16,9 @@ use Rattle.map_model.specs.Store.{Map}
 use Rattle.batch_intent.specs.Means.{MeansMap, meant_map}
 use Rattle.range_scan.specs.SweepView.{SweepView}
 use Rattle.range_scan.specs.Sweeping.{scan_of}
+use Rattle.range_scan.specs.Walk.{after_walk}
 use Rattle.range_scan.proofs.Walks.{walk_written}
+use Rattle.window_tally.specs.View.{TallyView}
 use Rattle.segment.specs.declared.fault.Damage.{Damage}
 use Rattle.recovery.specs.declared.fault.OpenFault.{OpenFault}
 use Rattle.recovery.specs.declared.fault.OpenFault.TheVariants as opening
@@ -24,19 +26,21 @@ use Rattle.command_text.specs.Answers.{range_lines}
 use Rattle.command_text.specs.Reply.{reply_text}
 use Rattle.command_text.specs.declared.reply.Reply.{Reply}
 use Rattle.command_text.specs.declared.reply.Reply.TheVariants as reply
-use Rattle.pma_store.specs.Opens.{IsAllAtRest}
+use Rattle.pma_store.specs.Opens.{CallsOpening, IsAllAtRest}
 use Rattle.pma_store.specs.Store.{StoreView}
 use Rattle.pma_engine.specs.Carrying.{Looks}
+use Rattle.pma_engine.specs.Costs.{Walks}
 use Rattle.pma_engine.specs.Dumping.{DumpsFile, DumpsOpened, IsDumpStatus, SaidFront, dump_text}
 use Rattle.pma_engine.specs.Closing.{IsButClosed, WritesGate}
-use Rattle.pma_engine.specs.Opening.{IsOpened, IsUnopened, Reopens}
+use Rattle.pma_engine.specs.Opening.{IsOpened, IsUnopened, Reopens, reopening_calls}
 use Rattle.pma_engine.specs.Outcome.{IsRefused}
 use Rattle.pma_engine.specs.Ranging.{SaysSweep, scan_text}
 use Rattle.pma_engine.specs.Refusing.{SaysLine, SaysLastLine, line_text, line_of_opening, line_of_serving, status_of_opening, status_of_serving}
-use Rattle.pma_engine.specs.Upgrading.{KeepsMeaning}
+use Rattle.pma_engine.specs.Upgrading.{KeepsMeaning, opened_height}
 use Rattle.pma_engine.specs.declared.fault.ServeFault.{ServeFault}
 use Rattle.pma_engine.specs.declared.fault.ServeFault.TheVariants as serving
 use Rattle.pma_engine.specs.declared.status.TheConstants.{DONE, REFUSED, DISK_FAULT, REPLY_FAULT, OUT_OF_MEMORY}
+use Rattle.pma_engine.proofs.Calling.{opening_more}
 use Rattle.pma_engine.proofs.Closing.{but_of}
 use Rattle.pma_engine.proofs.Ending.{run_damaged, last_line, on_done, of_disk, of_reply, no_line}
 use Rattle.pma_engine.proofs.Meant.{opened_map}
@@ -47,7 +51,14 @@ use Rattle.pma_engine.proofs.Upgrading.{keeps_opened, unopened_run}
 
 -- The dump of an open store.
 
-module _ (s t : SweepView) (a b : View) (law : Lawful a) (law_b : Lawful b) (nothing : NothingPending a) (all : Told a → scan_of s a.held ≡ entries (map_of a.held)) where
+-- the sweep goes over all segments of a store
+pub record SweepsStore (s : SweepView) (v : StoreView) : Type 0 where
+  pub layout : s.reader.layout ≡ v.place.layout
+  pub region : s.reader.region ≡ v.place.region
+  pub first : s.reader.next ≡ 0
+  pub height : s.tally.height ≡ v.tally.height
+
+module _ (v : StoreView) (s t : SweepView) (of : SweepsStore s v) (a b : View) (law : Lawful a) (law_b : Lawful b) (nothing : NothingPending a) (all : Told a → scan_of s a.held ≡ entries (map_of a.held)) where
   text_is : Told a → scan_text s a.held ≡ dump_text (map_of a.held)
   text_is told = ap (λ (l : List Record). flat_map reply_text (range_lines l)) (all told)
 
@@ -75,11 +86,25 @@ module _ (s t : SweepView) (a b : View) (law : Lawful a) (law_b : Lawful b) (not
           said_is = taken.2 ∙ ap (λ (l : List ℕ). a.said ++ l) (sym (take-append-le taken.0 says.text more.0 taken.1) ∙ ap (take taken.0) whole);
         }
 
+    within : t.reader.next ≤ 2 ^ v.tally.height
+    within = omega (arith, says.is_sweep.reader.within, says.is_sweep.within, ap (λ (x : TallyView). 2 ^ x.height) says.same.tally_is, ap (λ (h : ℕ). 2 ^ h) of.height)
+
+    walks : (to : ℕ) × Walks v 0 to a.travel b.travel
+    walks = (
+      t.reader.next,
+      record { onward = omega arith; within = within; travel = says.walks ∙ (λ i. after_walk (of.layout i) (of.region i) (of.first i) t.reader.next a.travel) },
+    )
+
+    calls : Told a → b.calls ≤ a.calls + (2 ^ v.tally.height + length (dump_text (map_of a.held)))
+    calls told = omega (arith, says.calls.1, says.calls.2 told, ap length (text_is told), within, of.first)
+
     -- no segment was damaged
-    quiet : (line_of_serving r ≡ None) → (status_of_serving r ≡ DONE) ⊎ ((status_of_serving r ≡ REFUSED) ⊎ ((status_of_serving r ≡ DISK_FAULT) ⊎ (status_of_serving r ≡ REPLY_FAULT))) → DumpsOpened (status_of_serving r) a b
+    quiet : (line_of_serving r ≡ None) → (status_of_serving r ≡ DONE) ⊎ ((status_of_serving r ≡ REFUSED) ⊎ ((status_of_serving r ≡ DISK_FAULT) ⊎ (status_of_serving r ≡ REPLY_FAULT))) → DumpsOpened (status_of_serving r) v a b
     quiet none is = record {
       status_is = is;
       looks = looks;
+      walks = walks;
+      calls = calls;
       done = λ e told said. on_done r e says.whole told said ∙ ap (λ (l : List ℕ). a.said ++ l) (text_is told);
       front = front_said;
       undamaged = λ e. absurd (no_line r none e);
@@ -90,7 +115,7 @@ module _ (s t : SweepView) (a b : View) (law : Lawful a) (law_b : Lawful b) (not
     }
 
   -- one was
-  damaged : (segment : ℕ) (why : Damage) → SaysSweep (Err (serving.Damaged segment why)) s t a b → (d : View) → Says (reply_text (reply.Damaged segment why)) b d → (SaidTold b → SaysLine (reply.Damaged segment why) b.said b d) → DumpsOpened REFUSED a d
+  damaged : (segment : ℕ) (why : Damage) → SaysSweep (Err (serving.Damaged segment why)) s t a b → (d : View) → Says (reply_text (reply.Damaged segment why)) b d → (SaidTold b → SaysLine (reply.Damaged segment why) b.said b d) → DumpsOpened REFUSED v a d
   damaged segment why says d last line =
       let here = looks (Err (serving.Damaged segment why)) says in
       record {
@@ -101,6 +126,8 @@ module _ (s t : SweepView) (a b : View) (law : Lawful a) (law_b : Lawful b) (not
           left = λ honest image left. here.left (ap (λ f. f.honest) (sym last.fixed) ∙ honest) image (left_says last honest image left);
           unwritten = ap (λ (x : Travel). x.written) last.travel ∙ here.unwritten;
         };
+        walks = let before = walks (Err (serving.Damaged segment why)) says in (before.0, record { onward = before.1.onward; within = before.1.within; travel = last.travel ∙ before.1.travel });
+        calls = λ told. absurd (says.told told);
         done = λ e. absurd (omega (arith, e));
         front = λ told. absurd (says.told told);
         undamaged = λ e told. says.told told;
@@ -113,12 +140,12 @@ module _ (s t : SweepView) (a b : View) (law : Lawful a) (law_b : Lawful b) (not
       }
 
   pub dumped_of : (r : Result (Unit {0}) ServeFault) → SaysSweep r s t a b → (d : View) → Says (line_text (line_of_serving r)) b d → (line_of_serving r ≡ None → d ≡ b)
-      → ((line : Reply) → line_of_serving r ≡ Some line → SaidTold b → SaysLine line b.said b d) → DumpsOpened (status_of_serving r) a d
-  dumped_of (Ok done) says d last silent line = subst (DumpsOpened DONE a) (sym (silent refl)) (quiet (Ok done) says refl (inl refl))
-  dumped_of (Err serving.Disk) says d last silent line = subst (DumpsOpened DISK_FAULT a) (sym (silent refl)) (quiet (Err serving.Disk) says refl (inr (inr (inl refl))))
+      → ((line : Reply) → line_of_serving r ≡ Some line → SaidTold b → SaysLine line b.said b d) → DumpsOpened (status_of_serving r) v a d
+  dumped_of (Ok done) says d last silent line = subst (DumpsOpened DONE v a) (sym (silent refl)) (quiet (Ok done) says refl (inl refl))
+  dumped_of (Err serving.Disk) says d last silent line = subst (DumpsOpened DISK_FAULT v a) (sym (silent refl)) (quiet (Err serving.Disk) says refl (inr (inr (inl refl))))
   dumped_of (Err (serving.Damaged segment why)) says d last silent line = damaged segment why says d last (line (reply.Damaged segment why) refl)
   dumped_of (Err serving.Script) says d last silent line = absurd says.never
-  dumped_of (Err serving.Reply) says d last silent line = subst (DumpsOpened REPLY_FAULT a) (sym (silent refl)) (quiet (Err serving.Reply) says refl (inr (inr (inr refl))))
+  dumped_of (Err serving.Reply) says d last silent line = subst (DumpsOpened REPLY_FAULT v a) (sym (silent refl)) (quiet (Err serving.Reply) says refl (inr (inr (inr refl))))
   dumped_of (Err serving.Spent) says d last silent line = absurd says.never
 
 -- What the whole job comes to.
@@ -130,7 +157,7 @@ pub record Comes (status : ℕ) (a b : View) : Type 0 where
   pub disk : status ≡ DISK_FAULT → Rose a.disk_faults b.disk_faults
   pub reply : status ≡ REPLY_FAULT → Rose a.say_faults b.say_faults
 
-module _ (a b : View) (law : Lawful a) (ab : Steps Reopens (attached_by false a) b) where
+module _ (a b : View) (law : Lawful a) (ab : Steps Reopens (attached_by false a) b) (asked : Told a → CallsOpening (reopening_calls a.held) (attached_by false a) b) where
   module _ (d : View) where
     -- a file that was not opened isn't refused
     quiet_file : (fault : OpenFault) → IsUnopened fault (attached_by false a) b → (status : ℕ) → (status ≡ DISK_FAULT) ⊎ (status ≡ OUT_OF_MEMORY) → (status ≡ DISK_FAULT → fault ≡ opening.Failed) → (status ≡ OUT_OF_MEMORY → fault ≡ opening.Memory) → Comes status a b
@@ -150,6 +177,8 @@ module _ (a b : View) (law : Lawful a) (ab : Steps Reopens (attached_by false a)
         unwritten = unopened.unwritten;
         kept = λ no_disk told rest. elim is [ inl e ↦ absurd (no_disk e) | inr e ↦ but_of (unopened.memory (memory e)).closes told ];
         written = unopened.cost;
+        calls = λ other told. opening_more (reopening_calls a.held) (2 ^ opened_height a.held + length (dump_text (meant_map a.held))) (attached_by false a) b b (omega arith) (asked told);
+        refused_calls = λ e. absurd (other REFUSED ((λ x. omega (arith, x)), (λ x. omega (arith, x))) e);
       };
       disk = λ e. unopened.failed (failed e);
       reply = λ e. absurd (other REPLY_FAULT ((λ x. omega (arith, x)), (λ x. omega (arith, x))) e);
@@ -159,8 +188,8 @@ module _ (a b : View) (law : Lawful a) (ab : Steps Reopens (attached_by false a)
         other n none e = elim is [ inl x ↦ none.0 (sym e ∙ x) | inr x ↦ none.1 (sym e ∙ x) ]
 
     -- it is refused, and means no map
-    refused_file : (fault : OpenFault) → IsUnopened fault (attached_by false a) b → IsRefused a d → {text : List ℕ} → Says text b d → (Told a → IsAllAtRest a.held → IsButClosed a.held a.held b.held) → (Told a → (m : Map) → MeansMap (layout_in a.held) a.held m → ⊥) → Comes REFUSED a d
-    refused_file fault unopened refused says kept never = record {
+    refused_file : (fault : OpenFault) → IsUnopened fault (attached_by false a) b → IsRefused a d → {text : List ℕ} → Says text b d → d.calls ≤ b.calls + 512 → (Told a → IsAllAtRest a.held → IsButClosed a.held a.held b.held) → (Told a → (m : Map) → MeansMap (layout_in a.held) a.held m → ⊥) → Comes REFUSED a d
+    refused_file fault unopened refused says line_calls kept never = record {
       status_is = inr (inl refl);
       attached = says.attached ∙ ab.frame.attached;
       dumped = record {
@@ -176,29 +205,35 @@ module _ (a b : View) (law : Lawful a) (ab : Steps Reopens (attached_by false a)
         unwritten = λ told rest. subst (WritesGate a.held a.travel.written) (sym (ap (λ (x : Travel). x.written) says.travel)) (unopened.unwritten told rest);
         kept = λ other told rest. subst (IsButClosed a.held a.held) (sym says.held) (kept told rest);
         written = λ told. omega (arith, unopened.cost told, ap (λ (x : Travel). x.written) says.travel);
+        calls = λ other. absurd (other refl);
+        refused_calls = λ e told. opening_more (reopening_calls a.held) 512 (attached_by false a) b d line_calls (asked told);
       };
       disk = λ e. absurd (omega (arith, e));
       reply = λ e. absurd (omega (arith, e));
     }
 
-    pub comes_unopened : (fault : OpenFault) → IsUnopened fault (attached_by false a) b → (line_of_opening fault ≡ None → d ≡ b) → Says (line_text (line_of_opening fault)) b d → ((line : Reply) → line_of_opening fault ≡ Some line → SaidTold b → SaysLine line b.said b d)
+    pub comes_unopened : (fault : OpenFault) → IsUnopened fault (attached_by false a) b → (line_of_opening fault ≡ None → d ≡ b) → Says (line_text (line_of_opening fault)) b d → ((line : Reply) → line_of_opening fault ≡ Some line → SaidTold b → SaysLine line b.said b d) → d.calls ≤ b.calls + 512
         → Comes (status_of_opening fault) a d
-    comes_unopened opening.Memory unopened silent says line = subst (Comes OUT_OF_MEMORY a) (sym (silent refl)) (quiet_file opening.Memory unopened OUT_OF_MEMORY (inr refl) (λ e. absurd (omega (arith, e))) (λ e. refl))
-    comes_unopened opening.Failed unopened silent says line = subst (Comes DISK_FAULT a) (sym (silent refl)) (quiet_file opening.Failed unopened DISK_FAULT (inl refl) (λ e. refl) (λ e. absurd (omega (arith, e))))
-    comes_unopened (opening.NotStore reason) unopened silent says line =
-        refused_file (opening.NotStore reason) unopened (not_store_refused a b ab d reason unopened says (line (reply.NotStore reason) refl)) says
+    comes_unopened opening.Memory unopened silent says line line_calls = subst (Comes OUT_OF_MEMORY a) (sym (silent refl)) (quiet_file opening.Memory unopened OUT_OF_MEMORY (inr refl) (λ e. absurd (omega (arith, e))) (λ e. refl))
+    comes_unopened opening.Failed unopened silent says line line_calls = subst (Comes DISK_FAULT a) (sym (silent refl)) (quiet_file opening.Failed unopened DISK_FAULT (inl refl) (λ e. refl) (λ e. absurd (omega (arith, e))))
+    comes_unopened (opening.NotStore reason) unopened silent says line line_calls =
+        refused_file (opening.NotStore reason) unopened (not_store_refused a b ab d reason unopened says (line (reply.NotStore reason) refl)) says line_calls
         (λ told rest. unopened.bare reason refl told rest.rest.bare) (no_map a b ab d reason unopened)
-    comes_unopened (opening.Damaged segment why) unopened silent says line =
-        refused_file (opening.Damaged segment why) unopened (damaged_refused a b ab d segment why unopened (line (reply.Damaged segment why) refl)) says
+    comes_unopened (opening.Damaged segment why) unopened silent says line line_calls =
+        refused_file (opening.Damaged segment why) unopened (damaged_refused a b ab d segment why unopened (line (reply.Damaged segment why) refl)) says line_calls
         (λ told. absurd (unopened.undamaged told)) (λ told. absurd (unopened.undamaged told))
 
   -- of a file that was opened
-  module _ (v : StoreView) (opened : IsOpened v (attached_by false a) b) (status : ℕ) (d : View) (dumps : DumpsOpened status b d) where
+  module _ (v : StoreView) (opened : IsOpened v (attached_by false a) b) (status : ℕ) (d : View) (dumps : DumpsOpened status v b d) where
     on : Told a → Told b
     on told = ap (λ f. f.tells_held) ab.frame.fixed ∙ told
 
     on_said : SaidTold a → SaidTold b
     on_said told = ap (λ f. f.tells_said) ab.frame.fixed ∙ told
+
+    -- the height at which the store was opened
+    same_height : Told a → v.tally.height ≡ opened_height a.held
+    same_height told = sym (opened.store.on.stands b.held (inl (on told, refl))).balanced.stands.height_is ∙ ap (λ (s : ArrayState). s.height) (opened.state told)
 
     -- the map that the file meant
     same_text : Told a → dump_text (map_of b.held) ≡ dump_text (meant_map a.held)
@@ -265,6 +300,10 @@ module _ (a b : View) (law : Lawful a) (ab : Steps Reopens (attached_by false a)
         unwritten = λ told rest. subst (WritesGate a.held a.travel.written) (sym dumps.looks.unwritten) (opened.unwritten told rest);
         kept = λ other told rest. subst (IsButClosed a.held a.held) (sym (dumps.looks.held (on told))) (opened.kept told rest);
         written = λ told. omega (arith, opened.cost told, dumps.looks.unwritten);
+        calls = λ other told.
+            opening_more (reopening_calls a.held) (2 ^ opened_height a.held + length (dump_text (meant_map a.held))) (attached_by false a) b d
+            (omega (arith, dumps.calls (on told), ap length (same_text told), ap (λ (h : ℕ). 2 ^ h) (same_height told))) (asked told);
+        refused_calls = λ e told. absurd (dumps.undamaged e (on told));
       };
       disk = disk;
       reply = cut;

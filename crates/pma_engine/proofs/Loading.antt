@@ -45,7 +45,7 @@ use Rattle.pma_store.specs.Readying.{clear_cost}
 use Rattle.pma_store.specs.Store.{StoreView, IsOpenOn}
 use Rattle.pma_engine.specs.Loading.{AnswersLoad, HasText, IsCutEarly, IsCutText, IsFileLoaded, IsLoadRefused, IsLoadStatus, IsWrongAt, LoadsFile, LoadsOpened, MayLoad, line_of_load, load_cost, status_of_load, text_cost}
 use Rattle.pma_engine.specs.Closing.{IsButClosed, StaysShut, WritesGate}
-use Rattle.pma_engine.specs.Opening.{IsOpened, IsUnopened, Reopens}
+use Rattle.pma_engine.specs.Opening.{IsOpened, IsUnopened, Reopens, reopening_cost}
 use Rattle.pma_engine.specs.Jobs.{TakesNothing}
 use Rattle.pma_engine.specs.Outcome.{empty_map}
 use Rattle.pma_engine.specs.declared.words.Job.TheVariants as asked
@@ -83,6 +83,7 @@ pub record FactsBy (reader : ReaderView) (r : Result Loaded LoadFault) (s : Stor
   pub steps : Steps (Loads s.place (TextFor s.place.layout reader s0)) a b
   pub untouched : 0 < sum s.tally.counts → Steps Same a b × (b.travel ≡ a.travel) × (b.held ≡ a.held)
   pub cost : IfOk r (λ loaded. b.travel.written ≤ a.travel.written + (2 * segment_size s.place.layout * 2 ^ loaded.height + 9))
+  pub most_cost : b.travel.written ≤ a.travel.written + (2 * segment_size s.place.layout * 2 ^ height_limit s.place.layout + 9)
   pub fault : IfErr r (IsLoadFault s.place.layout.format (most_records s.place.layout) (sum s.tally.counts) reader s0 s1)
   pub kept : IfErr r (λ fault. IsNoDisk fault → EachHeld (StandsFor s.place s.tally) b)
   pub damaged : IfErr r (λ fault. Told a → IsNoDamage fault)
@@ -222,6 +223,7 @@ module _ (laws : Laws) (most : ℕ) (s : StoreView) (s0 s1 : SourceView) (layout
       early = λ e. absurd (elim e [ inl x ↦ omega (arith, x) | inr x ↦ omega (arith, x) ]);
       admitted = λ told_s told none rows text short calm_disk calm_script. absurd (no_text told_s told none rows text short calm_disk calm_script);
       written = λ e. absurd (omega (arith, e));
+      most_written = omega (arith, facts.most_cost, ap (λ (t : Travel). t.written) says.travel);
       disk = λ e. absurd (omega (arith, e));
       script = λ e. absurd (omega (arith, e));
     }
@@ -251,6 +253,7 @@ module _ (laws : Laws) (most : ℕ) (s : StoreView) (s0 s1 : SourceView) (layout
       early = early;
       admitted = λ told_s told zero_is rows text short calm_disk calm_script. absurd (no_text told_s told zero_is rows text short calm_disk calm_script);
       written = λ e. absurd (other DONE e ((λ x. omega (arith, x)), (λ x. omega (arith, x)), (λ x. omega (arith, x))));
+      most_written = omega (arith, facts.most_cost);
       disk = λ e. facts.failed (ap Err (disk_is e));
       script = script_is;
     }
@@ -303,6 +306,7 @@ module _ (laws : Laws) (most : ℕ) (s : StoreView) (s0 s1 : SourceView) (layout
           let spent : b.travel.written ≤ a.travel.written + text_cost s.place.layout (height_of b.held) =
           subst (λ (h : ℕ). b.travel.written ≤ a.travel.written + text_cost s.place.layout h) (sym (facts.loaded.1.represents b.held (inl (told_on (Ok done) b facts told, refl))).height_is) facts.cost in
           omega (arith, spent);
+      most_written = omega (arith, facts.most_cost);
       disk = λ e. absurd (omega (arith, e));
       script = λ e. absurd (omega (arith, e));
     }
@@ -377,6 +381,7 @@ module _ (most : ℕ) (s : SourceView) (a b : View) (law : Lawful a) (ab : Steps
       complete = λ told m here calm. inr (inl (ends calm));
       admitted = λ told_s told here rows text short calm calm_script. inr (ends calm);
       written = λ e. absurd (other DONE e ((λ x. omega (arith, x)), (λ x. omega (arith, x))));
+      most_written = λ told. omega (arith, unopened.cost told);
     };
     disk = λ e. unopened.failed (failed e);
     script = λ e. absurd (other SCRIPT_FAULT e ((λ x. omega (arith, x)), (λ x. omega (arith, x))));
@@ -389,8 +394,8 @@ module _ (most : ℕ) (s : SourceView) (a b : View) (law : Lawful a) (ab : Steps
       ends calm = elim is [ inl e ↦ absurd (calm (unopened.failed (failed e))) | inr e ↦ e ]
 
   -- it is refused, and means no map
-  refused_file : IsLoadRefused s s a d → {text : List ℕ} → Says text b d → (Told a → (m : Map) → MeansMap (layout_in a.held) a.held m → ⊥) → Comes REFUSED most s s a d
-  refused_file refused says never = record {
+  refused_file : IsLoadRefused s s a d → {text : List ℕ} → Says text b d → (Told a → b.travel.written ≤ a.travel.written + reopening_cost a.held) → (Told a → (m : Map) → MeansMap (layout_in a.held) a.held m → ⊥) → Comes REFUSED most s s a d
+  refused_file refused says cost never = record {
     status_is = inr (inl refl);
     attached = says.attached ∙ ab.frame.attached;
     loaded = record {
@@ -410,6 +415,7 @@ module _ (most : ℕ) (s : SourceView) (a b : View) (law : Lawful a) (ab : Steps
       complete = λ told m here. absurd (never told m here);
       admitted = λ told_s told here. absurd (never told empty_map here);
       written = λ e. absurd (omega (arith, e));
+      most_written = λ told. omega (arith, cost told, ap (λ (t : Travel). t.written) says.travel);
     };
     disk = λ e. absurd (omega (arith, e));
     script = λ e. absurd (omega (arith, e));
@@ -426,7 +432,7 @@ module _ (most : ℕ) (s : SourceView) (a b : View) (law : Lawful a) (ab : Steps
         recovers = λ told r is. subst (λ (x : List ℕ). IsButClosed a.held (recovered (layout_in a.held) a.held) (recovered (layout_in a.held) x)) (sym says.held) (unopened.recovers reason refl told);
         bare = λ told r is bare. subst (IsButClosed a.held a.held) (sym says.held) (unopened.bare reason refl told bare);
         kept = λ told rest some. (subst (IsButClosed a.held a.held) (sym says.held) (unopened.bare reason refl told rest.rest.bare), subst (WritesGate a.held a.travel.written) (sym (ap (λ (t : Travel). t.written) says.travel)) (unopened.unwritten told rest));
-      }) says (no_map a b ab d reason unopened)
+      }) says unopened.cost (no_map a b ab d reason unopened)
     where
       from : SaidTold a → SaysLine (reply.NotStore reason) a.said a d
       from told = said_since a b d (reply.NotStore reason) ab.frame.said (sym ab.frame.say_faults) (line (reply.NotStore reason) refl (ap (λ f. f.tells_said) ab.frame.fixed ∙ told))
@@ -437,7 +443,7 @@ module _ (most : ℕ) (s : SourceView) (a b : View) (law : Lawful a) (ab : Steps
         recovers = λ told. absurd (unopened.undamaged told);
         bare = λ told. absurd (unopened.undamaged told);
         kept = λ told. absurd (unopened.undamaged told);
-      }) says (λ told. absurd (unopened.undamaged told))
+      }) says unopened.cost (λ told. absurd (unopened.undamaged told))
     where
       from : SaidTold a → SaysLine (reply.Damaged segment why) a.said a d
       from told = said_since a b d (reply.Damaged segment why) ab.frame.said (sym ab.frame.say_faults) (line (reply.Damaged segment why) refl (ap (λ f. f.tells_said) ab.frame.fixed ∙ told))
@@ -549,6 +555,7 @@ module _ (most : ℕ) (s0 s1 : SourceView) (a b : View) (law : Lawful a) (ab : S
         admitted = λ told_s told here rows text short calm calm_script.
             inl (loads.admitted told_s (on told) (sym (same_map told empty_map here) ∙ len_none) rows (subst (λ (x : Layout). HasText x s0 rows) (sym (opened.layout told)) text) short (λ rose. calm (omega (arith, rose, ab.frame.disk_faults))) calm_script);
         written = λ e told. omega (arith, opened.cost told, loads.written e (on told), ap (λ (x : Layout). load_cost x (height_of d.held)) (opened.layout told));
+        most_written = λ told. omega (arith, opened.cost told, loads.most_written, ap (λ (x : Layout). load_cost x (height_limit x)) (opened.layout told));
       };
       disk = disk;
       script = loads.script;

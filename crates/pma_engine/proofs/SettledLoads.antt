@@ -45,6 +45,7 @@ loads_refused s a law opened nothing most s0 records same some d says line = rec
   early = λ e. absurd (elim e [ inl x ↦ omega (arith, x) | inr x ↦ omega (arith, x) ]);
   admitted = λ told_s told zero. absurd (omega (arith, zero, some, same));
   written = λ e. absurd (omega (arith, e));
+  most_written = omega (arith, ap (λ (t : Travel). t.written) says.travel);
   disk = λ e. absurd (omega (arith, e));
   script = λ e. absurd (omega (arith, e));
 }
@@ -77,6 +78,7 @@ module _ {T : Type 0} {r : Result T StoreFault} (s t : StoreView) (a b : View) (
     early = λ e. absurd (elim e [ inl x ↦ omega (arith, x) | inr x ↦ omega (arith, x) ]);
     admitted = λ told_s told zero rows text short calm. absurd (calm rose);
     written = λ e. absurd (omega (arith, e));
+    most_written = omega (arith, settles.cost);
     disk = λ e. rose;
     script = λ e. absurd (omega (arith, e));
   }
@@ -135,6 +137,7 @@ module _ {T : Type 0} {r : Result T StoreFault} (s t : StoreView) (a b : View) (
       early = loads.early;
       admitted = λ told_s told zero rows text short calm. loads.admitted told_s (told_settled s t a b opened settles told) zero rows text short (λ rose. calm (omega (arith, rose, settles.meant.frame.disk_faults)));
       written = λ e told. omega (arith, loads.written e (told_settled s t a b opened settles told), settles.cost);
+      most_written = omega (arith, loads.most_written, settles.cost);
       disk = λ e. omega (arith, loads.disk e, settles.meant.frame.disk_faults);
       script = loads.script;
     }

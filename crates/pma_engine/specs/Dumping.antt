@@ -1,5 +1,5 @@
 -- What the dump of a file comes to.
-use Rattle.std.specs.Prelude.{◌≡◌, ◌⊎◌, ℕ, ◌+◌, ◌≤◌, List, ◌++◌, length, take, false, None}
+use Rattle.std.specs.Prelude.{◌≡◌, ◌⊎◌, ℕ, ◌+◌, ◌^◌, ◌≤◌, List, ◌++◌, length, take, false, None}
 use Rattle.std.specs.List.{flat_map}
 use Rattle.std.specs.FinMap.{entries}
 use Rattle.station.specs.View.{View, Told, SaidTold, NothingPending, Rose, attached_by}
@@ -11,13 +11,15 @@ use Rattle.map_model.specs.Store.{Map}
 use Rattle.batch_intent.specs.Means.{MeansMap, meant_map, opening_reason}
 use Rattle.command_text.specs.Answers.{range_lines}
 use Rattle.command_text.specs.Reply.{reply_text}
-use Rattle.pma_store.specs.Opens.{IsAllAtRest}
+use Rattle.pma_store.specs.Opens.{CallsOpening, IsAllAtRest}
+use Rattle.pma_store.specs.Store.{StoreView}
 use Rattle.pma_engine.specs.Carrying.{Looks}
+use Rattle.pma_engine.specs.Costs.{Walks}
 use Rattle.pma_engine.specs.Closing.{IsButClosed, WritesGate}
-use Rattle.pma_engine.specs.Opening.{IsOutOfMemory, reopening_cost}
+use Rattle.pma_engine.specs.Opening.{IsOutOfMemory, reopening_calls, reopening_cost}
 use Rattle.pma_engine.specs.Outcome.{IsRefused}
 use Rattle.pma_engine.specs.Refusing.{SaysLastLine}
-use Rattle.pma_engine.specs.Upgrading.{KeepsMeaning}
+use Rattle.pma_engine.specs.Upgrading.{KeepsMeaning, opened_height}
 use Rattle.pma_engine.specs.declared.status.TheConstants.{DONE, REFUSED, DISK_FAULT, REPLY_FAULT, OUT_OF_MEMORY}
 
 -- the statuses with which a dump may end
@@ -27,6 +29,11 @@ IsDumpStatus status = (status ≡ DONE) ⊎ ((status ≡ REFUSED) ⊎ ((status �
 -- the lines of all records of a map, ascending, and then the line with their number
 abbrev pub dump_text : Map → List ℕ
 dump_text m = flat_map reply_text (range_lines (entries m))
+
+-- the calls of a dump, besides those of the items of an intent that is to be applied: those of the opening, one for each segment,
+-- and at most one for each byte that is said
+abbrev pub dump_calls : List ℕ → ℕ
+dump_calls image = reopening_calls image + (2 ^ opened_height image + length (dump_text (meant_map image)))
 
 -- a front of a text was said behind what was said before
 pub record SaidFront (text said_before said : List ℕ) : Type 0 where
@@ -54,12 +61,18 @@ pub record DumpsFile (status : ℕ) (a b : View) : Type 0 where
   pub unwritten : Told a → IsAllAtRest a.held → WritesGate a.held a.travel.written b.travel.written
   pub kept : (status ≡ DISK_FAULT → ⊥) → Told a → IsAllAtRest a.held → IsButClosed a.held a.held b.held
   pub written : Told a → b.travel.written ≤ a.travel.written + reopening_cost a.held
+  -- the calls, with those of a line of refusal
+  pub calls : (status ≡ REFUSED → ⊥) → Told a → CallsOpening (dump_calls a.held) (attached_by false a) b
+  pub refused_calls : status ≡ REFUSED → Told a → CallsOpening (reopening_calls a.held + 512) (attached_by false a) b
 
 -- what the dump of an open store came to, on whose station nothing is pending
-pub record DumpsOpened (status : ℕ) (a b : View) : Type 0 where
+pub record DumpsOpened (status : ℕ) (s : StoreView) (a b : View) : Type 0 where
   pub status_is : (status ≡ DONE) ⊎ ((status ≡ REFUSED) ⊎ ((status ≡ DISK_FAULT) ⊎ (status ≡ REPLY_FAULT)))
   -- nothing is written, and no byte changes at any moment
   pub looks : Looks a b
+  -- whatever was answered, segments were read in order, from the first on and each at most once
+  pub walks : (to : ℕ) × Walks s 0 to a.travel b.travel
+  pub calls : Told a → b.calls ≤ a.calls + (2 ^ s.tally.height + length (dump_text (map_of a.held)))
   pub done : status ≡ DONE → Told a → SaidTold a → b.said ≡ a.said ++ dump_text (map_of a.held)
   pub front : Told a → SaidTold a → SaidFront (dump_text (map_of a.held)) a.said b.said
   pub undamaged : status ≡ REFUSED → Told a → ⊥

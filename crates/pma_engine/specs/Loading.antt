@@ -7,7 +7,7 @@ use Rattle.line_source.specs.Lines.{complete_lines, raw_lines}
 use Rattle.line_source.specs.SourceView.{SourceView, SourceTold, SourceRose}
 use Rattle.header_gate.specs.InPlace.{IsBare}
 use Rattle.header_gate.specs.Header.{layout_in}
-use Rattle.header_gate.specs.Places.{segment_size}
+use Rattle.header_gate.specs.Places.{height_limit, segment_size}
 use Rattle.header_gate.specs.Recovered.{recovered}
 use Rattle.header_gate.specs.declared.layout.Layout.{Layout}
 use Rattle.header_gate.specs.declared.reason.Reason.{Reason}
@@ -177,6 +177,8 @@ pub record LoadsFile (status most : ℕ) (s0 s1 : SourceView) (a b : View) : Typ
   pub admitted : SourceTold s0 → Told a → MeansMap (layout_in a.held) a.held empty_map → (rows : List Record) → HasText (layout_in a.held) s0 rows → length s0.left < most →
       (Rose a.disk_faults b.disk_faults → ⊥) → (SourceRose s0 s1 → ⊥) → (status ≡ DONE) ⊎ (status ≡ OUT_OF_MEMORY)
   pub written : status ≡ DONE → Told a → b.travel.written ≤ a.travel.written + (reopening_cost a.held + load_cost (layout_in a.held) (height_of b.held))
+  -- and at every status no more than with the most records that a store of this layout may hold
+  pub most_written : Told a → b.travel.written ≤ a.travel.written + (reopening_cost a.held + load_cost (layout_in a.held) (height_limit (layout_in a.held)))
 
 -- what a load into an open store of this layout with so many records came to, on whose station nothing is pending, where so many
 -- bytes may be written before the text is read; its file has no intent that is to be applied
@@ -200,5 +202,6 @@ pub record LoadsOpened (status most : ℕ) (l : Layout) (records before : ℕ) (
   pub admitted : SourceTold s0 → Told a → records ≡ 0 → (rows : List Record) → HasText l s0 rows → length s0.left < most →
       (Rose a.disk_faults b.disk_faults → ⊥) → (SourceRose s0 s1 → ⊥) → status ≡ DONE
   pub written : status ≡ DONE → Told a → b.travel.written ≤ a.travel.written + (before + text_cost l (height_of b.held))
+  pub most_written : b.travel.written ≤ a.travel.written + (before + text_cost l (height_limit l))
   pub disk : status ≡ DISK_FAULT → Rose a.disk_faults b.disk_faults
   pub script : status ≡ SCRIPT_FAULT → SourceRose s0 s1

@@ -14,7 +14,7 @@ ghost use Rattle.pma_store.specs.Opens.{CallsOpening, IsAllAtRest};
 ghost use Rattle.pma_store.specs.Store.{IsOpenOn};
 ghost use Rattle.redo_journal.specs.Rest.{RestsAt};
 ghost use Rattle.recovery.specs.Parts.{Fits, AgreesWith};
-ghost use Rattle.pma_engine.specs.Opening.{OpensStore, SyncsOpened, TakesParts, sync_calls};
+ghost use Rattle.pma_engine.specs.Opening.{OpensStore, SyncsOpened, TakesParts, reopening_calls, sync_calls};
 ghost use Rattle.pma_engine.specs.Refusing.{SaysLine, line_text, line_of_opening, status_of_opening};
 
 use crate::refusing::say_refusal;
@@ -39,7 +39,8 @@ pub(crate) fn open_file<S: Station>(
     requires first { (S.view station.old).attached ≡ None }
     requires named { NamedBy name.now (S.view station.old).fixed.name }
     requires clean { quick ≡ true → Told (S.view station.old) → IsClean (S.view station.old).held }
-    ensures { OpensStore quick result (attached_by false (S.view station.old)) (S.view station.new) }
+    ensures opens { OpensStore quick result (attached_by false (S.view station.old)) (S.view station.new) }
+    ensures calls { quick ≡ false → Told (S.view station.old) → CallsOpening (reopening_calls (S.view station.old).held) (attached_by false (S.view station.old)) (S.view station.new) }
 {
     let Ok(()) = station.attach(name, false) else {
         return Err(OpenFault::Failed);
@@ -120,6 +121,7 @@ fn sync_opened<S: Station>(station: &mut S, store: Store) -> Result<Store, OpenF
 /// Ends a job whose store could not be opened, and says the line where its file is refused.
 pub(crate) fn end_unopened<S: Station>(station: &mut S, fault: OpenFault) -> u8
     ensures status { result ≡ status_of_opening fault }
+    ensures calls { (S.view station.new).calls ≤ (S.view station.old).calls + 512 }
     ensures says { Says (line_text (line_of_opening fault)) (S.view station.old) (S.view station.new) }
     ensures silent { line_of_opening fault ≡ None → station.new ≡ station.old }
     ensures line { (line : Reply) → line_of_opening fault ≡ Some line → SaidTold (S.view station.old) → SaysLine line (S.view station.old).said (S.view station.old) (S.view station.new) }

@@ -42,7 +42,7 @@ pub(crate) fn dump_file<S: Station>(alloc: Global, station: &mut S, name: &str) 
 fn dump_opened<S: Station>(station: &mut S, store: Store) -> u8
     requires open { IsOpenOn store (S.view station.old) }
     requires nothing { NothingPending (S.view station.old) }
-    ensures { DumpsOpened result (S.view station.old) (S.view station.new) }
+    ensures { DumpsOpened result store (S.view station.old) (S.view station.new) }
 {
     let parts = store.into_parts();
     let mut page = HeldPage::new();

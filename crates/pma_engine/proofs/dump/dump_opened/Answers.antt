@@ -7,7 +7,8 @@ use Rattle.map_model.specs.Standing.{StandsBalanced}
 use Rattle.redo_journal.specs.declared.place.Place.{Place}
 use Rattle.pma_store.proofs.Resting.{readable_held}
 use Rattle.pma_engine.specs.Dumping.{DumpsOpened}
-use Rattle.pma_engine.proofs.Dumping.{dumped_of}
+use Rattle.window_tally.specs.View.{TallyView}
+use Rattle.pma_engine.proofs.Dumping.{SweepsStore, dumped_of}
 use Rattle.pma_engine.proofs.dump.dump_opened.Goals as goal
 use Rattle.pma_engine.proofs.dump.dump_opened.Goals.{After-sweep_all-sweep}
 
@@ -35,7 +36,15 @@ returns g c =
     let a = g.S.Station.view c.args.station.now in
     let b = g.S.Station.view c.say_sweep-said.new.station in
     let d = g.S.Station.view c.end_served.new.station in
-    subst (λ n. DumpsOpened n a d) (sym c.end_served.ensures.status)
-    (dumped_of c.sweep_all-sweep.result c.say_sweep-said.new.sweep a b (g.met.S.Station.lawful c.args.station.now) (g.met.S.Station.lawful c.say_sweep-said.new.station) c.requires.nothing
+    let parts = c.into_parts-parts.ensures in
+    let does = c.sweep_all-sweep.ensures in
+    let of : SweepsStore c.sweep_all-sweep.result c.args.store = record {
+      layout = does.layout ∙ ap (λ (p : Place). p.layout) parts.place;
+      region = does.region ∙ ap (λ (p : Place). p.region) parts.place;
+      first = does.first;
+      height = ap (λ (t : TallyView). t.height) (does.tally ∙ parts.tally);
+    } in
+    subst (λ n. DumpsOpened n c.args.store a d) (sym c.end_served.ensures.status)
+    (dumped_of c.args.store c.sweep_all-sweep.result c.say_sweep-said.new.sweep of a b (g.met.S.Station.lawful c.args.station.now) (g.met.S.Station.lawful c.say_sweep-said.new.station) c.requires.nothing
     (λ told. c.sweep_all-sweep.ensures.all a.held (stands_by g here told)) c.say_sweep-said.result c.say_sweep-said.ensures d c.end_served.ensures.says
     (λ none. ap g.S.Station.view (c.end_served.ensures.silent none)) c.end_served.ensures.line)

@@ -12,12 +12,12 @@ returns-in-Err g c =
     let d = g.S.Station.view c.end_unopened.new.station in
     let comes : Comes c.end_unopened.result c.args.most s s a d =
     subst (λ n. Comes n c.args.most s s a d) (sym c.end_unopened.ensures.status)
-    (comes_unopened c.args.most s a (g.S.Station.view c.open_file.new.station) (g.met.S.Station.lawful c.args.station.now) c.open_file.ensures.steps d c.in-Err.fault c.in-Err.ensures.unopened
+    (comes_unopened c.args.most s a (g.S.Station.view c.open_file.new.station) (g.met.S.Station.lawful c.args.station.now) c.open_file.ensures.opens.steps d c.in-Err.fault c.in-Err.ensures.opens.unopened
     (λ none. ap g.S.Station.view (c.end_unopened.ensures.silent none)) c.end_unopened.ensures.says c.end_unopened.ensures.line) in
     record {
       status = comes.status_is;
       attached = comes.attached;
-      clean = clean_unopened a (g.S.Station.view c.open_file.new.station) d (g.met.S.Station.lawful c.args.station.now) (g.met.S.Station.lawful c.open_file.new.station) c.open_file.ensures.steps c.open_file.ensures.clean c.end_unopened.ensures.says;
+      clean = clean_unopened a (g.S.Station.view c.open_file.new.station) d (g.met.S.Station.lawful c.args.station.now) (g.met.S.Station.lawful c.open_file.new.station) c.open_file.ensures.opens.steps c.open_file.ensures.opens.clean c.end_unopened.ensures.says;
       loaded = comes.loaded;
       untaken = λ none. refl;
       disk = comes.disk;
@@ -36,17 +36,17 @@ returns-in-Ok g c =
     let law_b = g.met.S.Station.lawful c.open_file.new.station in
     let on : Told b → Told d = λ told. ap (λ (f : Fixed). f.tells_held) (c.load_opened.ensures.loads.run.fixed) ∙ told in
     let comes : Comes c.load_opened.result c.args.most s0 s1 a d =
-    comes_opened c.args.most s0 s1 a b law c.open_file.ensures.steps c.in-Ok.store c.in-Ok.ensures.opened c.load_opened.result d c.load_opened.ensures.loads c.load_opened.ensures.shut in
+    comes_opened c.args.most s0 s1 a b law c.open_file.ensures.opens.steps c.in-Ok.store c.in-Ok.ensures.opens.opened c.load_opened.result d c.load_opened.ensures.loads c.load_opened.ensures.shut in
     record {
       status = comes.status_is;
       attached = comes.attached;
-      clean = clean_opened a b d (g.met.S.Station.lawful c.args.station.now) law_b c.open_file.ensures.steps c.open_file.ensures.clean c.in-Ok.ensures.settled (keeps_staying on c.in-Ok.ensures.opened.shut (c.load_opened.ensures.shut));
+      clean = clean_opened a b d (g.met.S.Station.lawful c.args.station.now) law_b c.open_file.ensures.opens.steps c.open_file.ensures.opens.clean c.in-Ok.ensures.opens.settled (keeps_staying on c.in-Ok.ensures.opens.opened.shut (c.load_opened.ensures.shut));
       loaded = comes.loaded;
-      untaken = λ none. c.load_opened.ensures.untaken (untaken_of c.args.most s0 s1 a b law c.open_file.ensures.steps c.in-Ok.store c.in-Ok.ensures.opened c.load_opened.result d c.load_opened.ensures.loads none);
+      untaken = λ none. c.load_opened.ensures.untaken (untaken_of c.args.most s0 s1 a b law c.open_file.ensures.opens.steps c.in-Ok.store c.in-Ok.ensures.opens.opened c.load_opened.result d c.load_opened.ensures.loads none);
       disk = comes.disk;
       script = comes.script;
       went = c.load_opened.ensures.went;
     }
 
 pub load_opened-requires-clause-nothing : goal.load_opened-requires-clause-nothing
-load_opened-requires-clause-nothing g c = c.in-Ok.ensures.settled
+load_opened-requires-clause-nothing g c = c.in-Ok.ensures.opens.settled

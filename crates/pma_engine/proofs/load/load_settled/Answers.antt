@@ -64,6 +64,7 @@ returns g c =
             ap (λ st. (g.S.Station.view st).held) same_station,
           );
       cost = does.cost;
+      most_cost = does.most_cost;
       fault = does.fault;
       kept = does.kept;
       damaged = does.damaged;
