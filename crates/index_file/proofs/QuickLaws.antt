@@ -62,7 +62,7 @@ loaded_parts place old new was index journal are kept tally room tall balanced =
         is_tally = tally;
         tally_room = ap (λ (t : TallyView). t.hmax) kept ∙ are.tally_room;
         height = omega (arith, height, are.height);
-        index_room = room ∙ are.index_room;
+        index_room = omega (arith, room, are.index_room);
         index_height = tall ∙ are.index_height ∙ sym height;
         journal_is = are.journal_is;
       };

@@ -12,7 +12,7 @@ use Rattle.header_gate.specs.Places.{IsLayout, height_limit, file_length, page_s
 use Rattle.header_gate.specs.Reasons.{header_reason, IsSoundHeader, IsHeader}
 use Rattle.map_model.specs.Image.{height_of}
 use Rattle.index_file.specs.Clean.{version_of}
-use Rattle.index_file.specs.Reading.{IsAreaFront, after_area, area_calls}
+use Rattle.index_file.specs.Reading.{IsAreaFront, NamesPlace, after_area, area_calls}
 use Rattle.recovery.specs.Parts.{Fits, AgreesWith}
 use Rattle.recovery.specs.declared.fault.OpenFault.{OpenFault}
 use Rattle.recovery.specs.declared.fault.OpenFault.TheVariants.{Memory, NotStore, Failed}
@@ -52,6 +52,10 @@ IsFileOf l h a = IsLayout l × (h ≤ height_limit l) × (Told a → (layout_in 
 abbrev pub IsQuickFront : View → Travel → Type 0
 IsQuickFront a now = IsPageRead a.travel now ⊎ ((l : Layout) × (h : ℕ) × IsFileOf l h a × IsAreaFront l h (after_read 0 page_size a.travel) now)
 
+-- the place of the index that is named is one that was read behind the header page, of a file with that layout and height
+abbrev pub NamesRead : View → ℕ → Travel → Type 0
+NamesRead a place now = (l : Layout) × (h : ℕ) × IsFileOf l h a × NamesPlace l h place (after_read 0 page_size a.travel) now
+
 -- of the header of a file that may be opened so: the file has an index, and of the gates the clean one alone is odd, but that
 -- the journal's may be either where there are two
 abbrev pub is_quick : Header → Bool
@@ -72,6 +76,7 @@ pub record IsKnown (header : Header) (a : View) : Type 0 where
 pub record IsOpenedQuickly (parts : Parts) (a b : View) : Type 0 where
   pub agrees : EachHeld (AgreesWith parts.place parts.tally parts.index) b
   pub fits : Fits parts.place parts.tally parts.index parts.frames.journal
+  pub room : parts.index.hmax ≡ height_limit parts.place.layout
   pub reach : file_length parts.place.layout ≤ a.fixed.reach
   pub indexed : INDEXED ≤ parts.place.layout.version
   pub unrested : parts.tally.marks ≡ no_marks parts.tally.height

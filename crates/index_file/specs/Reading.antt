@@ -84,6 +84,33 @@ pub record IsFrontRead (place size : ℕ) (before now : Travel) : Type 0 where
 abbrev pub IsAreaFront : Layout → ℕ → Travel → Travel → Type 0
 IsAreaFront l h before now = IsFrontRead (node_place l 0) (NODE_SIZE * (2 ^ h - 1)) before now ⊎ IsFrontRead (count_place l 0) (COUNT_SIZE * 2 ^ h) (after_nodes l h before) now
 
+-- Of so many things the first were read, piece by piece, and one of these is named: it lies in the piece that was read last, or
+-- all were read.
+pub record IsAmong (piece all read x : ℕ) : Type 0 where
+  pub below : x < read
+  pub most : read ≤ all
+  pub last : (read ≤ x + piece) ⊎ (read ≡ all)
+
+-- the place is that of a node that was read, of an index of h levels
+pub record NamesNode (l : Layout) (h place : ℕ) (before now : Travel) : Type 0 where
+  pub position : ℕ
+  pub read : ℕ
+  pub place_is : place ≡ node_place l position
+  pub among : IsAmong 64 (2 ^ h - 1) read position
+  pub travel : now ≡ after_part (node_place l 0) (NODE_SIZE * read) before
+
+-- the place is that of a count that was read
+pub record NamesCount (l : Layout) (h place : ℕ) (before now : Travel) : Type 0 where
+  pub segment : ℕ
+  pub read : ℕ
+  pub place_is : place ≡ count_place l segment
+  pub among : IsAmong 1024 (2 ^ h) read segment
+  pub travel : now ≡ after_part (count_place l 0) (COUNT_SIZE * read) before
+
+-- in the order of the tests: the place is that of a node, and no count was read, or that of a count, behind all nodes
+abbrev pub NamesPlace : Layout → ℕ → ℕ → Travel → Travel → Type 0
+NamesPlace l h place before now = NamesNode l h place before now ⊎ NamesCount l h place (after_nodes l h before) now
+
 -- the counts of an index of h levels were read, or a front of them: the file is as it was
 pub record ReadsCounts {T : Type 0} (l : Layout) (h : ℕ) (result : Result T AreaFault) (a b : View) : Type 0 where
   -- no byte changed

@@ -8,7 +8,7 @@ ghost use Rattle.density_rule.specs.Marks.{no_marks};
 ghost use Rattle.header_gate.specs.Places.{IsLayout, file_length};
 ghost use Rattle.header_gate.specs.declared.layout.TheConstants.{INDEXED};
 ghost use Rattle.index_file.specs.Area.{count_place};
-ghost use Rattle.index_file.specs.Reading.{HasIndex, IsUncounted, TakesCounts, ReadsCounts};
+ghost use Rattle.index_file.specs.Reading.{HasIndex, IsUncounted, TakesCounts, NamesCount, ReadsCounts};
 ghost use Rattle.index_file.specs.Counting.{AreCounted, AreCountedIn, IsFirstBad, CountFailsAt};
 ghost use Rattle.window_tally.specs.View.{IsTally};
 
@@ -38,6 +38,7 @@ pub(crate) fn read_counts<S: Station>(
         CountFailsAt layout.now tally.old.height (2 ^ tally.old.height) (S.view station.old).held place) }
     ensures counts { TakesCounts tally.old tally.new }
     ensures reads { ReadsCounts layout.now tally.old.height result (S.view station.old) (S.view station.new) }
+    ensures named { IfErr result (λ e. (place : ℕ) → e ≡ AreaFault.Wrong place → NamesCount layout.now tally.old.height place (S.view station.old).travel (S.view station.new).travel) }
 {
     let end = segment_count(tally);
     let mut first = 0;
@@ -67,6 +68,7 @@ fn read_count_piece<S: Station>(
         AreCounted layout.now tally.old.height (first + count) tally.new.counts (S.view station.old).held) }
     ensures refused { IfErr result (λ e. Told (S.view station.old) → AreCounted layout.now tally.old.height first tally.old.counts (S.view station.old).held →
         (place : ℕ) → e ≡ AreaFault.Wrong place → CountFailsAt layout.now tally.old.height (first + count) (S.view station.old).held place) }
+    ensures named { IfErr result (λ e. (place : ℕ) → e ≡ AreaFault.Wrong place → (i : ℕ) × (first ≤ i) × (i < first + count) × (place ≡ count_place layout.now i)) }
     ensures counts { TakesCounts tally.old tally.new }
     ensures steps { Steps Same (S.view station.old) (S.view station.new) }
     ensures travel { (S.view station.new).travel ≡ after_read (count_place layout.now first) (COUNT_SIZE * count) (S.view station.old).travel }

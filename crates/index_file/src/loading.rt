@@ -11,7 +11,7 @@ ghost use Rattle.header_gate.specs.declared.layout.TheConstants.{INDEXED};
 ghost use Rattle.header_gate.specs.declared.reason.Reason.TheVariants.{Index as WrongIndex};
 ghost use Rattle.index_file.specs.Judging.{area_reason, fences_reason, windows_reason, counts_read};
 ghost use Rattle.index_file.specs.Area.{node_place};
-ghost use Rattle.index_file.specs.Reading.{HasIndex, IsUncounted, TakesCounts, IsUnread, TakesFences, IsFrontRead, IsAreaFront, ReadsNodes, ReadsCounts, after_area, area_calls};
+ghost use Rattle.index_file.specs.Reading.{HasIndex, IsUncounted, TakesCounts, IsUnread, TakesFences, IsFrontRead, IsAreaFront, NamesNode, NamesCount, NamesPlace, ReadsNodes, ReadsCounts, after_area, area_calls};
 ghost use Rattle.index_file.specs.declared.sizes.TheConstants.{NODE_SIZE};
 ghost use Rattle.index_file.specs.Writing.{AreNodesOf};
 ghost use Rattle.window_tally.specs.View.{IsTally};
@@ -50,6 +50,7 @@ pub(crate) fn load_area<S: Station>(
     ensures steps { Steps Same (S.view station.old) (S.view station.new) }
     ensures travel { OnOk result ((S.view station.new).travel ≡ after_area layout.now tally.old.height (S.view station.old).travel) }
     ensures front { IfErr result (λ e. IsAreaFront layout.now tally.old.height (S.view station.old).travel (S.view station.new).travel) }
+    ensures named { IfErr result (λ e. (place : ℕ) → e ≡ AreaFault.Wrong place → NamesPlace layout.now tally.old.height place (S.view station.old).travel (S.view station.new).travel) }
     ensures calls { (S.view station.new).calls ≤ (S.view station.old).calls + area_calls tally.old.height }
     ensures failed { IsErrOf result AreaFault.Failed → Rose (S.view station.old).disk_faults (S.view station.new).disk_faults }
 {
@@ -76,6 +77,7 @@ fn load_fences<S: Station>(
     ensures fences { TakesFences index.old index.new }
     ensures reads { ReadsNodes layout.now h result (S.view station.old) (S.view station.new) }
     ensures front { OnErr result (IsFrontRead (node_place layout.now 0) (NODE_SIZE * (2 ^ h - 1)) (S.view station.old).travel (S.view station.new).travel) }
+    ensures named { IfErr result (λ e. (place : ℕ) → e ≡ AreaFault.Wrong place → NamesNode layout.now h place (S.view station.old).travel (S.view station.new).travel) }
 {
     match read_nodes(station, layout, index, h) {
         Ok(()) => match first_misplaced(index, h) {
@@ -100,6 +102,7 @@ fn load_counts<S: Station>(
         windows_reason layout.now tally.old.height (S.view station.old).held ≡ Some (WrongIndex place)) }
     ensures counts { TakesCounts tally.old tally.new }
     ensures reads { ReadsCounts layout.now tally.old.height result (S.view station.old) (S.view station.new) }
+    ensures named { IfErr result (λ e. (place : ℕ) → e ≡ AreaFault.Wrong place → NamesCount layout.now tally.old.height place (S.view station.old).travel (S.view station.new).travel) }
 {
     match read_counts(station, layout, tally) {
         Ok(()) => match first_broken(tally) {

@@ -1,17 +1,18 @@
 //! A store is opened by the index in its file.
 
-ghost use Rattle.std.specs.Prelude.{◌≡◌, ◌⊎◌, ◌<◌, ◌≤◌, ◌+◌, ◌==◌, ◌||◌, not, IsOk, OnOk, IfOk, IfErr, IfSome, IsNone, IsErrOf, None, true, false};
+ghost use Rattle.std.specs.Prelude.{◌≡◌, ℕ, ◌⊎◌, ◌<◌, ◌≤◌, ◌+◌, ◌==◌, ◌||◌, not, IsOk, OnOk, IfOk, IfErr, IfSome, IsNone, IsErrOf, None, true, false};
 ghost use Rattle.station.specs.Bytes.{Same};
 ghost use Rattle.station.specs.View.{Told, EachHeld, NothingPending, Rose};
 ghost use Rattle.station.specs.Steps.{Steps};
 ghost use Rattle.density_rule.specs.Marks.{no_marks};
-ghost use Rattle.header_gate.specs.Places.{file_length};
+ghost use Rattle.header_gate.specs.Places.{file_length, height_limit};
 ghost use Rattle.header_gate.specs.Reasons.{header_reason};
 ghost use Rattle.header_gate.specs.declared.layout.TheConstants.{INDEXED, PAIRED};
 ghost use Rattle.index_file.specs.Clean.{IsClean, IsLeft};
-ghost use Rattle.index_file.specs.Opening.{IsQuick, IsQuickFault, IsPageRead, IsQuickFront, IsOpenedQuickly, IsKnown, is_quick, after_quick};
-ghost use Rattle.index_file.specs.Reading.{IsAreaFront, area_calls};
+ghost use Rattle.index_file.specs.Opening.{IsQuick, IsQuickFault, IsPageRead, IsQuickFront, NamesRead, IsOpenedQuickly, IsKnown, is_quick, after_quick};
+ghost use Rattle.index_file.specs.Reading.{IsAreaFront, NamesPlace, area_calls};
 ghost use Rattle.map_model.specs.Image.{height_of};
+ghost use Rattle.recovery.specs.Opening.{SyncsFirst};
 ghost use Rattle.recovery.specs.Parts.{Fits, AgreesWith, turn_of};
 ghost use Rattle.redo_journal.specs.Rest.{RestsAt};
 
@@ -26,13 +27,14 @@ use std::alloc::Global;
 /// journal's gate may be either: it names the live one, which is empty where the index was left.
 ///
 /// It begins with a sync, writes nothing, and reads the header page and the index, and no byte of a region. None where the
-/// file has to be opened by its live region. `NotStore` names the first place of the index that is wrong; it never comes where
-/// the station tells its bytes. `Memory` is want of memory, `Failed` a fault of the disk.
+/// file has to be opened by its live region. `NotStore` names the first place of the index that is wrong, which was read; it never
+/// comes where the station tells its bytes. `Memory` is want of memory, `Failed` a fault of the disk.
 pub fn open_quick<S: Station>(alloc: Global, station: &mut S) -> Result<Option<Parts>, OpenFault>
     requires clean { Told (S.view station.old) → IsClean (S.view station.old).held }
     // The parts of the store, which agree with the file.
     ensures agrees { IfOk result (λ given. IfSome given (λ parts. EachHeld (AgreesWith parts.place parts.tally parts.index) (S.view station.new))) }
     ensures fits { IfOk result (λ given. IfSome given (λ parts. Fits parts.place parts.tally parts.index parts.frames.journal)) }
+    ensures room { IfOk result (λ given. IfSome given (λ parts. parts.index.hmax ≡ height_limit parts.place.layout)) }
     ensures reach { IfOk result (λ given. IfSome given (λ parts. file_length parts.place.layout ≤ (S.view station.old).fixed.reach)) }
     ensures indexed { IfOk result (λ given. IfSome given (λ parts. INDEXED ≤ parts.place.layout.version)) }
     ensures unrested { IfOk result (λ given. IfSome given (λ parts. parts.tally.marks ≡ no_marks parts.tally.height)) }
@@ -46,12 +48,14 @@ pub fn open_quick<S: Station>(alloc: Global, station: &mut S) -> Result<Option<P
     ensures complete { Told (S.view station.old) → ¬ Rose (S.view station.old).disk_faults (S.view station.new).disk_faults →
         IsOk result ⊎ IsErrOf result OpenFault.Memory }
 
-    // What becomes of the file, and what is read.
+    // What becomes of the file, and what is read. The sync comes first, before anything is read.
+    ensures synced { SyncsFirst Same result (S.view station.old) (S.view station.new) }
     ensures steps { Steps Same (S.view station.old) (S.view station.new) }
     ensures unwritten { (S.view station.new).travel.written ≡ (S.view station.old).travel.written }
     ensures travel { IfOk result (λ given. IfSome given (λ parts. (S.view station.new).travel ≡ after_quick parts.place.layout parts.tally.height (S.view station.old).travel)) }
     ensures page { IfOk result (λ given. IsNone given → IsPageRead (S.view station.old).travel (S.view station.new).travel) }
     ensures front { IfErr result (λ e. IsQuickFront (S.view station.old) (S.view station.new).travel) }
+    ensures named { IfErr result (λ e. (place : ℕ) → e ≡ OpenFault.NotStore (Reason.Index place) → NamesRead (S.view station.old) place (S.view station.new).travel) }
     ensures calls { IfOk result (λ given. IfSome given (λ parts. (S.view station.new).calls ≤ (S.view station.old).calls + (3 + area_calls parts.tally.height))) }
     ensures page_calls { IfOk result (λ given. IsNone given → (S.view station.new).calls ≤ (S.view station.old).calls + 3) }
     ensures calls_told { Told (S.view station.old) → (S.view station.new).calls ≤ (S.view station.old).calls + (3 + area_calls (height_of (S.view station.old).held)) }
@@ -85,6 +89,7 @@ fn open_left<S: Station>(
     ensures passed { IfOk result (λ given. IsNone given → (is_quick header.now ≡ false) × ((S.view station.new).travel ≡ (S.view station.old).travel)) }
     ensures steps { Steps Same (S.view station.old) (S.view station.new) }
     ensures front { IfErr result (λ e. IsAreaFront header.now.layout header.now.height (S.view station.old).travel (S.view station.new).travel) }
+    ensures named { IfErr result (λ e. (place : ℕ) → e ≡ OpenFault.NotStore (Reason.Index place) → NamesPlace header.now.layout header.now.height place (S.view station.old).travel (S.view station.new).travel) }
     ensures calls { (S.view station.new).calls ≤ (S.view station.old).calls + area_calls header.now.height }
     ensures no_calls { IfOk result (λ given. IsNone given → (S.view station.new).calls ≡ (S.view station.old).calls) }
     ensures causes { IfErr result IsQuickFault }
@@ -112,6 +117,7 @@ fn load_parts<S: Station>(
     ensures opened { IfOk result (λ parts. IsOpenedQuickly parts (S.view station.old) (S.view station.new)) }
     ensures steps { Steps Same (S.view station.old) (S.view station.new) }
     ensures front { IfErr result (λ e. IsAreaFront header.now.layout header.now.height (S.view station.old).travel (S.view station.new).travel) }
+    ensures named { IfErr result (λ e. (place : ℕ) → e ≡ OpenFault.NotStore (Reason.Index place) → NamesPlace header.now.layout header.now.height place (S.view station.old).travel (S.view station.new).travel) }
     ensures calls { (S.view station.new).calls ≤ (S.view station.old).calls + area_calls header.now.height }
     ensures causes { IfErr result IsQuickFault }
     ensures told { IfErr result (λ e. (r : Reason) → e ≡ OpenFault.NotStore r → ¬ Told (S.view station.old)) }

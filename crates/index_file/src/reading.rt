@@ -9,7 +9,7 @@ ghost use Rattle.header_gate.specs.declared.layout.TheConstants.{INDEXED};
 ghost use Rattle.key_slot.specs.Format.{wide};
 ghost use Rattle.veb_index.specs.View.{fence_at};
 ghost use Rattle.index_file.specs.Area.{node_place};
-ghost use Rattle.index_file.specs.Reading.{HasIndex, IsUnread, TakesFences, IsFirstWrong, FailsAt, IsFrontRead, ReadsNodes};
+ghost use Rattle.index_file.specs.Reading.{HasIndex, IsUnread, TakesFences, IsFirstWrong, FailsAt, IsFrontRead, NamesNode, ReadsNodes};
 ghost use Rattle.index_file.specs.Writing.{IsNodeOf, AreNodesOf};
 
 use crate::area::{links_at, node_at, wrong_node};
@@ -38,6 +38,7 @@ pub(crate) fn read_nodes<S: Station>(
     ensures fences { TakesFences index.old index.new }
     ensures reads { ReadsNodes layout.now h result (S.view station.old) (S.view station.new) }
     ensures front { IsFrontRead (node_place layout.now 0) (NODE_SIZE * (2 ^ h - 1)) (S.view station.old).travel (S.view station.new).travel }
+    ensures named { IfErr result (λ e. (place : ℕ) → e ≡ AreaFault.Wrong place → NamesNode layout.now h place (S.view station.old).travel (S.view station.new).travel) }
 {
     let end = node_count(h);
     let mut first = 0;
@@ -68,6 +69,7 @@ fn read_node_piece<S: Station>(
         AreNodesOf layout.now.format layout.now h index.new.fences (first + count) (S.view station.old).held) }
     ensures refused { IfErr result (λ e. Told (S.view station.old) → AreNodesOf layout.now.format layout.now h index.old.fences first (S.view station.old).held →
         (place : ℕ) → e ≡ AreaFault.Wrong place → FailsAt layout.now h (first + count) (S.view station.old).held place) }
+    ensures named { IfErr result (λ e. (place : ℕ) → e ≡ AreaFault.Wrong place → (x : ℕ) × (first ≤ x) × (x < first + count) × (place ≡ node_place layout.now x)) }
     ensures fences { TakesFences index.old index.new }
     ensures steps { Steps Same (S.view station.old) (S.view station.new) }
     ensures travel { (S.view station.new).travel ≡ after_read (node_place layout.now first) (NODE_SIZE * count) (S.view station.old).travel }

@@ -3,7 +3,7 @@ use Rattle.std.proofs.Common.{◌^◌, ◌≡◌, ◌≢◌, ◌⊎◌, inl, inr
 use mathlib.Core.Bool.{true≢false}
 use Rattle.std.specs.Prelude.{IsOk, IsErrOf, is_ok}
 use Rattle.station.specs.Bytes.{Touched}
-use Rattle.station.specs.View.{View, Told, Honest, MayHold, EachHeld, Lawful, Rose}
+use Rattle.station.specs.View.{View, Told, Honest, MayHold, EachHeld, Lawful, Rose, up}
 use Rattle.station.specs.Steps.{Frame, Steps}
 use Rattle.station.proofs.Composition.{frame_on, honest_on, told_on, weaken}
 use Rattle.batch_intent.specs.Means.{InBatch, KeepsIntent, Means, MeansMap, has_pending, map_after_all, meant_map, opening_reason, pending}
@@ -21,7 +21,7 @@ use Rattle.map_model.specs.Items.{map_after_items, AreAdmitted}
 use Rattle.map_model.specs.Store.{Map, Update}
 use Rattle.recovery.specs.Costs.{opening_cost, opening_reads}
 use Rattle.recovery.specs.Faults.{IsNoDamage, IsRereadFault, repair_fault}
-use Rattle.recovery.specs.Opening.{OpensFile}
+use Rattle.recovery.specs.Opening.{OpensFile, GoesOn, SyncsFirst}
 use Rattle.recovery.specs.Restores.{Opens, IsAtRest}
 use Rattle.recovery.specs.declared.fault.OpenFault.{OpenFault}
 use Rattle.recovery.specs.declared.fault.OpenFault.TheVariants.{Memory, Failed, NotStore, Damaged}
@@ -122,6 +122,20 @@ module _ {T U : Type 0} {a b : View} where
     unsound = opens.unsound;
     damaged = tt;
   }
+
+-- the sync comes first there too
+pub synced_meant : {T U : Type 0} {a b : View} (r : Result T OpenFault) (q : Result U OpenFault) → (GoesOn q a b → GoesOn r a b) → SyncsFirst Opens r a b → SyncsFirst OpensMeant q a b
+synced_meant {a = a} r q goes first = record {
+  called = first.called;
+  synced = λ on honest image said left. opens_meant a.held image (first.synced (goes on) honest image said left);
+}
+
+pub goes_fault : {T U : Type 0} (a b : View) (fault : OpenFault) → GoesOn {T = U} (Err fault) a b → GoesOn {T = T} (Err fault) a b
+goes_fault {T = T} {U = U} a b fault (inl other) = inl (λ is. other (back is))
+  where
+    back : IsErrOf {T = T} (Err fault) Failed → IsErrOf {T = U} (Err fault) Failed
+    back is = let own : fault ≡ Failed = cc in ap Err own
+goes_fault a b fault (inr more) = inr more
 
 -- what it writes, whatever is answered
 pub idle_writes : (image : List ℕ) (before after : ℕ) → after ≤ before + opening_cost (layout_in image) → WritesOpening image before after
@@ -274,6 +288,25 @@ module _ {X : Type 0} {a b c : View} (x : X) (items : List Update) (s t : StoreV
 
   steps : Steps OpensMeant a c
   steps = if_told law_a frame steps_told
+
+  -- whatever a crash leaves behind the sync comes from what was held at entry
+  held_then : (told : Told a) (honest : Honest a) (image said : List ℕ) → (b.may_have_left (up a.calls 1) image said → OpensMeant a.held image)
+      → b.may_have_left (up a.calls 1) image said ⊎ ((said ≡ b.said) × ((start : List ℕ) × b.may_leave start × Touched (IsItemPlace s.place.layout) start image))
+      → b.may_have_left (up a.calls 1) image said ⊎ ((said ≡ b.said) × ((start : List ℕ) × b.may_leave start × MeansNow s.place.layout (meant_map a.held) start image))
+      → OpensMeant a.held image
+  held_then told honest image said before (inl early) other = before early
+  held_then told honest image said before (inr one) (inl early) = before early
+  held_then told honest image said before (inr one) (inr two) = at_start told honest image said one.1.0 one.1.1 one.1.2 two.1.2
+
+  pub items_synced : {U : Type 0} (result : Result U OpenFault) → SyncsFirst Opens (Ok x) a b → SyncsFirst OpensMeant result a c
+  items_synced result first = record {
+    called = omega (arith, first.called, made.touched.frame.calls);
+    synced = λ goes honest image said left.
+        let told = (law_a.tells honest).0 in
+        let there = honest_on opens.steps.frame honest in
+        held_then told honest image said (λ early. opens_meant a.held image (first.synced (inl (λ is. true≢false (ap is_ok is))) honest image said early))
+        (made.touched.moments.each there (up a.calls 1) image said first.called left) ((now told).moments.each there (up a.calls 1) image said first.called left);
+  }
 
   busy : {P : Type 0} → Told a → IsAllAtRest a.held → P
   busy told rest = absurd (true≢false (sym (waits told).0 ∙ rest.no_intent))

@@ -61,7 +61,10 @@ same_leaves ab written = record { steps = ab; unwritten = written }
 restores_now : {a b : View} → Steps Same a b → Steps Restores a b
 restores_now ab = weaken ab (λ d i left step. restores_same d i step)
 
-opens_now : {a b : View} → Steps Same a b → Steps Opens a b
+pub opens_none : (d : List ℕ) → Opens d d
+opens_none d = opens_restored d d (restores_same d d refl)
+
+pub opens_now : {a b : View} → Steps Same a b → Steps Opens a b
 opens_now ab = weaken ab (λ d i left step. opens_restored d i (restores_same d i step))
 
 -- the header is refused, or the disk failed
@@ -132,7 +135,7 @@ opens_later result a b c ab written read opens =
       sound = on_ok_weaker result (λ none told. sym (ap opening_reason (ab.held told)) ∙ none (told_on ab.frame told)) opens.sound;
       refused = IfErr-weaker result _ _ (λ e why r is told. sym (ap opening_reason (ab.held told)) ∙ why r is (told_on ab.frame told)) opens.refused;
       complete = λ told m height means calm. opens.complete (told_on ab.frame told) m height (subst (λ (f : List ℕ). Means f m height) (sym (ab.held told)) means) (λ rose. calm (omega (arith, rose, ab.frame.disk_faults)));
-      steps = on_same ab opens.steps (λ d. opens_restored d d (restores_same d d refl));
+      steps = on_same ab opens.steps opens_none;
       late = IfErr-weaker result _ _ (λ e late r is. on_same ab (late r is) (λ d. restores_same d d refl)) opens.late;
       early = IfErr-weaker result _ _ (λ e untouched r is early. leaves_on leaves (untouched r is early)) opens.early;
       bare = IfErr-weaker result _ _ (λ e untouched r is told bare. leaves_on leaves (untouched r is (told_on ab.frame told) (subst (λ (f : List ℕ). IsBare (layout_in f) f) (sym (ab.held told)) bare))) opens.bare;
@@ -302,6 +305,7 @@ module _ (result : Result (Unit {0}) OpenFault) (x : Unit {0}) (head : Header) (
       by_result (Err e) done quiet = tt
       by_result (Ok y) done quiet = record {
         agrees = done.agrees;
+        room = done.room ∙ back.room ∙ awaits.room ∙ ap (λ (p : Place). height_limit p.layout) (sym (done.place ∙ back.place));
         fits = done.fits;
         reach = subst (λ (p : Place). file_length p.layout ≤ a.fixed.reach) (sym (done.place ∙ back.place)) awaits.reach;
         unrested = done.unrested;

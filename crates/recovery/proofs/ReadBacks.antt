@@ -65,7 +65,7 @@ intent_read Failed is = tt
 intent_read (NotStore r) is = tt
 intent_read (Damaged segment why) is = is
 
-module _ (head : Header) (old mid : Parts) (a b : View) (awaits : Awaits head old a) (steps : Steps Restores a b) (place : mid.place ≡ old.place)
+module _ (head : Header) (old mid : Parts) (a b : View) (awaits : Awaits head old a) (steps : Steps Restores a b) (place : mid.place ≡ old.place) (room : mid.index.hmax ≡ old.index.hmax)
     (kept_by : Told a → IsBare old.place.layout a.held → LeavesFile a b) (read_by : Told a → IsBare old.place.layout a.held → b.travel.read ≤ a.travel.read + bare_reads old.place.layout + segment_size old.place.layout * 2 ^ head.height)
     (cost : b.travel.written ≤ a.travel.written + replay_cost old.place.layout)
     (calls : b.calls ≤ a.calls + (replay_calls old.place.layout + region_calls old.place.layout head.height)) (few_by : Told a → IsBare old.place.layout a.held → b.calls ≤ a.calls + bare_calls old.place.layout + region_calls old.place.layout head.height) where
@@ -95,6 +95,7 @@ module _ (head : Header) (old mid : Parts) (a b : View) (awaits : Awaits head ol
     back = tt;
     height_is = tt;
     place = place;
+    room = room;
     array = tt;
     waits = tt;
     items = tt;
@@ -143,6 +144,7 @@ module _ (head : Header) (old mid : Parts) (a b : View) (awaits : Awaits head ol
       back = tt;
       height_is = tt;
       place = place;
+      room = room;
       array = tt;
       waits = tt;
       items = tt;
@@ -167,6 +169,7 @@ module _ (head : Header) (old mid : Parts) (a b : View) (awaits : Awaits head ol
       back = still_back b c law_b law_c bc back;
       height_is = height;
       place = place;
+      room = room;
       array = λ told. ap array_of (bc.held (told_on steps.frame told)) ∙ arrays told;
       waits = λ told. waits (told_on steps.frame told) ∙ waits_kept a.held b.held (steps.held told);
       items = items;

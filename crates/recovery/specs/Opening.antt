@@ -1,6 +1,6 @@
 -- What an opening comes to, and what is known of parts and file between its steps.
-use Rattle.std.specs.Prelude.{◌≡◌, ◌≢◌, ◌⊎◌, ℕ, ◌+◌, ◌^◌, ◌≤◌, List, sum, Some, None, Result, IsOk, OnOk, IfErr, IsErrOf}
-use Rattle.station.specs.View.{View, Told, EachHeld, NothingPending, Rose}
+use Rattle.std.specs.Prelude.{◌≡◌, ◌≢◌, ◌⊎◌, ℕ, ◌+◌, ◌^◌, ◌<◌, ◌≤◌, List, sum, Some, None, Result, IsOk, OnOk, IfErr, IsErrOf}
+use Rattle.station.specs.View.{View, Told, Honest, EachHeld, NothingPending, Rose, up}
 use Rattle.station.specs.Steps.{Steps}
 use Rattle.density_rule.specs.Bounds.{IsInBounds}
 use Rattle.density_rule.specs.Marks.{no_marks}
@@ -9,7 +9,7 @@ use Rattle.header_gate.specs.declared.header.Header.{Header}
 use Rattle.header_gate.specs.declared.reason.Reason.{Reason}
 use Rattle.header_gate.specs.Header.{layout_in}
 use Rattle.header_gate.specs.InPlace.{IsBare}
-use Rattle.header_gate.specs.Places.{file_length}
+use Rattle.header_gate.specs.Places.{file_length, height_limit}
 use Rattle.header_gate.specs.Reasons.{header_reason}
 use Rattle.map_model.specs.Store.{Map}
 use Rattle.map_model.specs.Image.{array_of, height_of}
@@ -55,9 +55,20 @@ pub record OpensFile {T : Type 0} (opens : List ℕ → List ℕ → Type 0) (re
   -- where bytes are told a segment that is read again is as it was
   pub damaged : IfErr result (λ e. Told a → IsNoDamage e)
 
+-- more was done than one call that failed
+abbrev pub GoesOn : {T : Type 0} → Result T OpenFault → View → View → Type 0
+GoesOn result a b = (IsErrOf result Failed → ⊥) ⊎ (up a.calls 1 < b.calls)
+
+-- The first call is a sync, before anything is read: behind that one call, whatever a crash leaves comes by R from the bytes that
+-- were held at entry, and from no other image.
+pub record SyncsFirst {T : Type 0} (R : List ℕ → List ℕ → Type 0) (result : Result T OpenFault) (a b : View) : Type 0 where
+  pub called : up a.calls 1 ≤ b.calls
+  pub synced : GoesOn result a b → Honest a → (image said : List ℕ) → b.may_have_left (up a.calls 1) image said → R a.held image
+
 -- The parts of an opened store, and the file that they agree with: its array is the repair of the old one.
 pub record IsOpened (parts : Parts) (a b : View) : Type 0 where
   pub agrees : EachHeld (AgreesWith parts.place parts.tally parts.index) b
+  pub room : parts.index.hmax ≡ height_limit parts.place.layout
   pub fits : Fits parts.place parts.tally parts.index parts.frames.journal
   pub reach : file_length parts.place.layout ≤ a.fixed.reach
   pub unrested : parts.tally.marks ≡ no_marks parts.tally.height
@@ -71,6 +82,7 @@ pub record IsOpened (parts : Parts) (a b : View) : Type 0 where
 -- Parts that were made for the file with this header, of which nothing is known yet.
 pub record Awaits (head : Header) (parts : Parts) (v : View) : Type 0 where
   pub parts_are : AreParts parts.place parts.tally parts.index parts.frames.journal
+  pub room : parts.index.hmax ≡ height_limit parts.place.layout
   pub height_is : parts.tally.height ≡ head.height
   pub unrested : parts.tally.marks ≡ no_marks parts.tally.height
   pub reach : file_length parts.place.layout ≤ v.fixed.reach
@@ -95,6 +107,7 @@ pub record ReadsBack (head : Header) (result : Result (Unit {0}) OpenFault) (old
   pub back : OnOk result (IsReadBack new.place new.tally new.index new.frames.journal new.frames.turn b)
   pub height_is : OnOk result (new.tally.height ≡ head.height)
   pub place : new.place ≡ old.place
+  pub room : new.index.hmax ≡ old.index.hmax
   pub array : OnOk result (Told a → array_of b.held ≡ array_of a.held)
   -- the intent
   pub waits : OnOk result (Told a → new.intent ≡ intent_of a.held)
@@ -122,6 +135,7 @@ pub record Repairs (result : Result (Unit {0}) OpenFault) (old new : Parts) (a b
   pub unrested : OnOk result (new.tally.marks ≡ no_marks new.tally.height)
   pub array : OnOk result (Told a → array_of b.held ≡ repair_of old.tally.height (array_of a.held))
   pub place : new.place ≡ old.place
+  pub room : new.index.hmax ≡ old.index.hmax
   pub intent : new.intent ≡ old.intent
   pub steps : Steps (Rearranges old.place) a b
   pub cost : b.travel.written ≤ a.travel.written + repair_cost old.place.layout.format old.tally.height

@@ -22,6 +22,7 @@ pub fn make_parts(alloc: Global, header: &Header) -> Result<Parts, AllocError>
     requires live { header.now.live < 2 }
     requires height { header.now.height ≤ height_limit header.now.layout }
     ensures parts { IfOk result (λ parts. AreParts parts.place parts.tally parts.index parts.frames.journal) }
+    ensures room { IfOk result (λ parts. parts.index.hmax ≡ height_limit header.now.layout) }
     ensures place { IfOk result (λ parts. parts.place ≡ record { layout = header.now.layout; region = header.now.live }) }
     ensures turn { IfOk result (λ parts. parts.frames.turn ≡ 0) }
     ensures intent { IfOk result (λ parts. parts.intent ≡ None) }

@@ -18,6 +18,10 @@ returns-in-None-clause-counted g c told are =
     let front : IsCountFront c.args.layout.now c.args.first c.args.count (g.S.Station.view c.args.station.now).held c.read_front.new.piece = λ k lt. c.in-Ok.ensures.filled told k lt ∙ ap (λ (p : ℕ). byte (g.S.Station.view c.args.station.now).held (p + k)) c.count_at.ensures in
     counted_read c.args.layout.now c.args.tally.now.height c.args.first c.args.count c.args.tally.now.counts c.take_counts.new.tally.counts (g.S.Station.view c.args.station.now).held c.read_front.new.piece front (c.in-None.ensures.taken refl) c.take_counts.ensures.before are
 
+pub returns-in-Some-clause-named : goal.returns-in-Some-clause-named
+returns-in-Some-clause-named g c place e =
+    (c.in-Some.i, c.in-Some.ensures.bad.from, c.in-Some.ensures.bad.below, sym (wrong_one (count_place c.args.layout.now c.in-Some.i) place (sym c.wrong_count.ensures ∙ e)))
+
 pub returns-in-Some-clause-refused : goal.returns-in-Some-clause-refused
 returns-in-Some-clause-refused g c told are place e =
     let front : IsCountFront c.args.layout.now c.args.first c.args.count (g.S.Station.view c.args.station.now).held c.read_front.new.piece = λ k lt. c.in-Ok.ensures.filled told k lt ∙ ap (λ (p : ℕ). byte (g.S.Station.view c.args.station.now).held (p + k)) c.count_at.ensures in

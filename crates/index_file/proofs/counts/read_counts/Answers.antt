@@ -1,4 +1,4 @@
-use Rattle.std.proofs.Common.{◌≡◌, ◌≤◌, ℕ, ◌+◌, ◌*◌, ◌^◌, List, refl, sym, ap, subst, ◌∙◌, arith}
+use Rattle.std.proofs.Common.{◌≡◌, inl, ◌≤◌, ℕ, ◌+◌, ◌*◌, ◌^◌, List, refl, sym, ap, subst, ◌∙◌, arith}
 use Rattle.density_rule.specs.Marks.{no_marks}
 use Rattle.station.proofs.Composition.{no_steps, same_on, told_on}
 use Rattle.header_gate.specs.declared.layout.Layout.{Layout}
@@ -88,6 +88,18 @@ returns-in-Err-clause-refused g c told place e =
     (moved c.args.layout.now c.args.tally.now.height c.loop-first.tally.height c.loop-first.first c.loop-first.tally.counts (g.S.Station.view c.args.station.now).held (g.S.Station.view c.loop-first.station).held (sym tall) (sym same) (i.counted told)) place e in
     count_fails_more c.args.layout.now c.args.tally.now.height (c.loop-first.first + c.min-count.result) (2 ^ c.args.tally.now.height) (g.S.Station.view c.args.station.now).held place (omega (arith, c.segment_count-end.ensures.count, c.loop-first-test.true))
     (fails_moved c.args.layout.now c.loop-first.tally.height c.args.tally.now.height (c.loop-first.first + c.min-count.result) (g.S.Station.view c.loop-first.station).held (g.S.Station.view c.args.station.now).held place tall same fails)
+
+-- the place is that of a count of the piece that was read last
+pub returns-in-Err-clause-named : goal.returns-in-Err-clause-named
+returns-in-Err-clause-named g c place e =
+    let is = c.in-Err.ensures.named place e in
+    record {
+      segment = is.0;
+      read = c.loop-first.first + c.min-count.result;
+      place_is = is.3;
+      among = record { below = is.2; most = omega (arith, c.segment_count-end.ensures.count, c.loop-first-test.true); last = inl (omega (arith, is.1, c.min-count.ensures)) };
+      travel = counts_on c.args.layout.now c.loop-first.first c.min-count.result _ _ _ (omega (arith, c.loop-first-test.true)) c.loop-first.invariant.travel c.read_count_piece.ensures.travel;
+    }
 
 pub returns-clause-counted : goal.returns-clause-counted
 returns-clause-counted g c told =

@@ -1,4 +1,4 @@
-use Rattle.std.proofs.Common.{◌≡◌, ℕ, ◌+◌, ◌*◌, ◌^◌, ◌≤◌, List, Some, refl, sym, ap, subst, ◌∙◌, arith}
+use Rattle.std.proofs.Common.{◌≡◌, inr, ℕ, ◌+◌, ◌*◌, ◌^◌, ◌≤◌, List, Some, refl, sym, ap, subst, ◌∙◌, arith}
 use Rattle.std.proofs.Math.Pow.{pow_mono}
 use Rattle.header_gate.specs.declared.reason.Reason.TheVariants.{Index}
 use Rattle.map_model.specs.Reasons.{first_reason}
@@ -41,6 +41,18 @@ returns-in-Some-clause-refused g c told place e =
     subst (λ (p : ℕ). windows_reason c.args.layout.now c.args.tally.now.height (g.S.Station.view c.args.station.now).held ≡ Some (Index p)) same
     (subst (λ (ns : List ℕ). first_reason (row_reason c.args.layout.now c.args.tally.now.height ns) (c.args.tally.now.height + 1) ≡ Some (Index (count_place c.args.layout.now (c.in-Some.window.number * 2 ^ c.in-Some.window.height)))) counts
     (subst (λ (h : ℕ). first_reason (row_reason c.args.layout.now h c.read_counts.new.tally.counts) (h + 1) ≡ Some (Index (count_place c.args.layout.now (c.in-Some.window.number * 2 ^ c.in-Some.window.height)))) tall (c.in-Some.ensures.broken.2 c.args.layout.now)))
+
+-- all counts were read
+pub returns-in-Some-clause-named : goal.returns-in-Some-clause-named
+returns-in-Some-clause-named g c place e =
+    let tall : 2 ^ c.read_counts.new.tally.height ≡ 2 ^ c.args.tally.now.height = ap (λ (t : TallyView). 2 ^ t.height) c.read_counts.ensures.counts.kept in
+    record {
+      segment = c.first_segment.result;
+      read = 2 ^ c.args.tally.now.height;
+      place_is = sym (wrong_one (count_place c.args.layout.now c.first_segment.result) place (sym c.wrong_count.ensures ∙ e));
+      among = record { below = omega (arith, c.first_segment.ensures, c.in-Some.ensures.broken.1, tall); most = omega arith; last = inr refl };
+      travel = c.in-Ok.ensures.reads.travel;
+    }
 
 pub returns-in-Err-clause-refused : goal.returns-in-Err-clause-refused
 returns-in-Err-clause-refused g c told place e = count_fails_reason c.args.layout.now c.args.tally.now.height (g.S.Station.view c.args.station.now).held place (c.in-Err.ensures.refused told place e)

@@ -1,4 +1,4 @@
-use Rattle.std.proofs.Common.{◌≡◌, ℕ, Some, refl, sym, ap, subst, ◌∙◌}
+use Rattle.std.proofs.Common.{◌≡◌, inr, ℕ, ◌-◌, ◌^◌, Some, refl, sym, ap, subst, ◌∙◌, arith}
 use Rattle.header_gate.specs.declared.reason.Reason.TheVariants.{Index}
 use Rattle.veb_index.specs.Nodes.{fence_place}
 use Rattle.index_file.specs.Area.{node_place}
@@ -19,6 +19,16 @@ returns-in-Some-clause-refused g c told place e =
     let same : node_place c.args.layout.now (fence_place c.args.h c.in-Some.segment) ≡ place = ap (node_place c.args.layout.now) (sym c.fence_position.ensures.place) ∙ wrong_one (node_place c.args.layout.now c.fence_position.result) place (sym c.wrong_node.ensures ∙ e) in
     subst (λ (p : ℕ). fences_reason c.args.layout.now c.args.h (g.S.Station.view c.args.station.now).held ≡ Some (Index p)) same
     (fences_some c.args.layout.now c.args.h c.read_nodes.new.index.fences (g.S.Station.view c.args.station.now).held (node_place c.args.layout.now (fence_place c.args.h c.in-Some.segment)) (c.in-Ok.ensures.taken told) (c.in-Some.ensures.misplaced.2 c.args.layout.now))
+
+-- all nodes were read
+pub returns-in-Some-clause-named : goal.returns-in-Some-clause-named
+returns-in-Some-clause-named g c place e = record {
+  position = c.fence_position.result;
+  read = 2 ^ c.args.h - 1;
+  place_is = sym (wrong_one (node_place c.args.layout.now c.fence_position.result) place (sym c.wrong_node.ensures ∙ e));
+  among = record { below = c.fence_position.ensures.within; most = omega arith; last = inr refl };
+  travel = c.in-Ok.ensures.reads.travel;
+}
 
 pub returns-in-Err-clause-refused : goal.returns-in-Err-clause-refused
 returns-in-Err-clause-refused g c told place e = fences_fail c.args.layout.now c.args.h (g.S.Station.view c.args.station.now).held place (c.in-Err.ensures.refused told place e)

@@ -9,15 +9,16 @@ use Rattle.header_gate.specs.InPlace.{IsBare}
 use Rattle.header_gate.specs.declared.reason.Reason.{Reason}
 use Rattle.header_gate.specs.declared.reason.Reason.TheVariants.{Index}
 use Rattle.header_gate.specs.Header.{layout_in}
-use Rattle.header_gate.specs.Places.{file_length}
+use Rattle.header_gate.specs.Places.{file_length, height_limit}
 use Rattle.recovery.specs.Parts.{AreParts, AgreesWith, turn_of}
+use Rattle.recovery.specs.declared.fault.OpenFault.TheVariants.{NotStore}
 use Rattle.redo_journal.specs.Frames.{Batch}
 use Rattle.redo_journal.specs.Replaying.{gate_after}
 use Rattle.redo_journal.specs.Rest.{RestsAt}
 use Rattle.redo_journal.specs.declared.place.Place.{Place}
 use Rattle.window_tally.specs.View.{TallyView}
 use Rattle.index_file.specs.Judging.{counts_read, area_reason}
-use Rattle.index_file.specs.Reading.{after_area, area_calls}
+use Rattle.index_file.specs.Reading.{NamesPlace, after_area, area_calls}
 use Rattle.index_file.specs.Writing.{AreNodesOf}
 use Rattle.index_file.proofs.QuickLaws.{quick_agrees, quick_rests, loaded_parts, loaded_marks}
 use Rattle.index_file.proofs.SoundLaws.{left_sound}
@@ -51,6 +52,7 @@ returns-in-Ok-load_area-clause-opened g c =
           c.in-Ok-load_area.ensures.balanced in
           subst (AgreesWith c.in-Ok.parts.place c.load_area.new.tally c.load_area.new.index) (sym (c.load_area.ensures.steps.held told)) own);
       fits = fits;
+      room = c.load_area.ensures.fences.hmax ∙ c.in-Ok.ensures.room ∙ ap height_limit (sym layout);
       reach = subst (λ (l : Layout). file_length l ≤ (g.S.Station.view c.args.station.now).fixed.reach) (sym layout) c.requires.known.reach;
       indexed = subst (λ (l : Layout). INDEXED ≤ l.version) (sym layout) c.requires.indexed;
       unrested = loaded_marks parts.tally c.load_area.new.tally kept (ap (λ (t : TallyView). t.marks) c.in-Ok.ensures.tally ∙ ap (λ (t : TallyView). no_marks t.height) (sym c.in-Ok.ensures.tally));
@@ -74,3 +76,16 @@ returns-clause-told g c r e told =
     ap (λ (l : Layout). area_reason l c.in-Ok.parts.tally.height (g.S.Station.view c.args.station.now).held) (sym layout)
     ∙ ap (λ (h : ℕ). area_reason (layout_in (g.S.Station.view c.args.station.now).held) h (g.S.Station.view c.args.station.now).held) (sym tall) ∙ sound in
     none_some (Index c.in-Err-Wrong.place) (area_reason c.in-Ok.parts.place.layout c.in-Ok.parts.tally.height (g.S.Station.view c.args.station.now).held) found here
+
+same_place : (p q : ℕ) → NotStore (Index p) ≡ NotStore (Index q) → p ≡ q
+same_place p q e = cc
+
+pub returns-clause-named : goal.returns-clause-named
+returns-clause-named g c place e =
+    let s = (g.S.Station.view c.args.station.now).travel in
+    let t = (g.S.Station.view c.load_area.new.station).travel in
+    let here = c.in-Err-Wrong.ensures.named c.in-Err-Wrong.place c.in-Err-Wrong.field-0-is in
+    let layout = ap (λ (p : Place). p.layout) c.in-Ok.ensures.place in
+    let tall = ap (λ (t : TallyView). t.height) c.in-Ok.ensures.tally in
+    subst (λ (n : ℕ). NamesPlace c.args.header.now.layout c.args.header.now.height n s t) (same_place c.in-Err-Wrong.place place e)
+    (subst (λ (l : Layout). NamesPlace l c.args.header.now.height c.in-Err-Wrong.place s t) layout (subst (λ (h : ℕ). NamesPlace c.in-Ok.parts.place.layout h c.in-Err-Wrong.place s t) tall here))

@@ -1,17 +1,18 @@
-use Rattle.std.proofs.Common.{◌≡◌, ℕ, List, inr, sym, ap, subst, ◌∙◌, arith}
+use Rattle.std.proofs.Common.{◌≡◌, ℕ, List, inr, refl, sym, ap, subst, ◌∙◌, arith}
 use Rattle.station.specs.View.{Fixed, Told, NothingPending, after_read}
 use Rattle.station.specs.declared.travel.Travel.{Travel}
-use Rattle.station.proofs.Composition.{nothing_on, told_back, told_on}
+use Rattle.station.proofs.Composition.{nothing_on, same_on, told_back, told_on}
 use Rattle.header_gate.specs.Header.{layout_in}
 use Rattle.header_gate.specs.Places.{page_size}
 use Rattle.header_gate.specs.Reasons.{IsSoundHeader, IsHeader, header_reason}
 use Rattle.map_model.specs.Image.{height_of}
-use Rattle.index_file.specs.Reading.{IsAreaFront, area_calls}
+use Rattle.index_file.specs.Reading.{IsAreaFront, NamesPlace, area_calls}
 use Rattle.header_gate.proofs.Soundness.{sound_of_none}
 use Rattle.index_file.specs.Opening.{IsQuick}
 use Rattle.index_file.proofs.Answering.{err_weaker, given_weaker, ok_weaker, on_ok_any}
 use Rattle.index_file.proofs.QuickLaws.{quick_file, not_quick_file}
 use Rattle.index_file.proofs.Travelling.{unwritten_by}
+use Rattle.recovery.proofs.Syncing.{sync_failed, syncs_first}
 use Rattle.index_file.proofs.quick.open_quick.Goals as goal
 
 pub open_left-requires-clause-known : goal.open_left-requires-clause-known
@@ -34,6 +35,9 @@ open_left-requires-clause-known g c =
 
 pub returns-in-Ok-read_header-clause-indexed : goal.returns-in-Ok-read_header-clause-indexed
 returns-in-Ok-read_header-clause-indexed g c = given_weaker c.open_left.result _ _ (λ parts is. is.indexed) c.open_left.ensures.opened
+
+pub returns-in-Ok-read_header-clause-room : goal.returns-in-Ok-read_header-clause-room
+returns-in-Ok-read_header-clause-room g c = given_weaker c.open_left.result _ _ (λ parts is. is.room) c.open_left.ensures.opened
 
 pub returns-in-Ok-read_header-clause-rests : goal.returns-in-Ok-read_header-clause-rests
 returns-in-Ok-read_header-clause-rests g c = given_weaker c.open_left.result _ _ (λ parts is. is.rests) c.open_left.ensures.opened
@@ -85,6 +89,38 @@ returns-in-Ok-read_header-clause-front g c =
       ),
       subst (λ (t : Travel). IsAreaFront h.layout h.height t (g.S.Station.view c.open_left.new.station).travel) travel front,
     )) c.open_left.ensures.front
+
+pub returns-in-Ok-read_header-clause-named : goal.returns-in-Ok-read_header-clause-named
+returns-in-Ok-read_header-clause-named g c =
+    let a = g.S.Station.view c.args.station.now in
+    let b = g.S.Station.view c.sync.new.self in
+    let fits = c.in-Ok-read_header.ensures.fits in
+    let h = c.in-Ok-read_header.header in
+    let travel : (g.S.Station.view c.read_header.new.station).travel ≡ after_read 0 page_size a.travel = c.in-Ok-read_header.ensures.one_page ∙ ap (after_read 0 page_size) c.sync.ensures.travel in
+    err_weaker c.open_left.result _ _ (λ e names place is. (
+      h.layout,
+      h.height,
+      (
+        fits.0,
+        fits.2,
+        (λ told.
+            let head = c.in-Ok-read_header.ensures.header (told_on c.sync.ensures.steps.frame told) in
+            let same : b.held ≡ a.held = c.sync.ensures.steps.held told in
+            (ap layout_in (sym same) ∙ sym head.layout_is, ap height_of (sym same) ∙ sym head.height_is)),
+      ),
+      subst (λ (t : Travel). NamesPlace h.layout h.height place t (g.S.Station.view c.open_left.new.station).travel) travel (names place is),
+    )) c.open_left.ensures.named
+
+-- The sync.
+
+pub returns-in_default-clause-synced : goal.returns-in_default-clause-synced
+returns-in_default-clause-synced g c = sync_failed (g.S.Station.view c.args.station.now) (g.S.Station.view c.sync.new.self) c.sync.ensures.counted
+
+pub returns-in-Ok-read_header-clause-synced : goal.returns-in-Ok-read_header-clause-synced
+returns-in-Ok-read_header-clause-synced g c =
+    syncs_first c.open_left.result (g.S.Station.view c.args.station.now) (g.S.Station.view c.sync.new.self) (g.S.Station.view c.open_left.new.station)
+    (g.met.S.Station.lawful c.args.station.now) (g.met.S.Station.lawful c.sync.new.self) c.sync.ensures.counted c.sync.ensures.steps c.in-Ok.ensures.settled
+    (same_on c.read_header.ensures.steps c.open_left.ensures.steps) (λ d. refl)
 
 pub returns-in-Ok-read_header-clause-memory : goal.returns-in-Ok-read_header-clause-memory
 returns-in-Ok-read_header-clause-memory g c is = (

@@ -20,6 +20,10 @@ returns-in-None-clause-taken g c told are =
     let front : IsFront c.args.layout.now c.args.first c.args.count (g.S.Station.view c.args.station.now).held c.read_front.new.piece = λ k lt. c.in-Ok.ensures.filled told k lt ∙ ap (λ (p : ℕ). byte (g.S.Station.view c.args.station.now).held (p + k)) c.node_at.ensures in
     nodes_read c.args.layout.now c.requires.file.layout.format.most c.args.h c.args.index.now.fences c.take_nodes.new.index.fences c.args.first c.args.count (g.S.Station.view c.args.station.now).held c.read_front.new.piece front (c.in-None.ensures.taken refl) c.take_nodes.ensures.before are
 
+pub returns-in-Some-clause-named : goal.returns-in-Some-clause-named
+returns-in-Some-clause-named g c place e =
+    (c.in-Some.x, c.in-Some.ensures.wrong.from, c.in-Some.ensures.wrong.below, sym (wrong_one (node_place c.args.layout.now c.in-Some.x) place (sym c.wrong_node.ensures ∙ e)))
+
 pub returns-in-Some-clause-refused : goal.returns-in-Some-clause-refused
 returns-in-Some-clause-refused g c told are place e =
     let front : IsFront c.args.layout.now c.args.first c.args.count (g.S.Station.view c.args.station.now).held c.read_front.new.piece = λ k lt. c.in-Ok.ensures.filled told k lt ∙ ap (λ (p : ℕ). byte (g.S.Station.view c.args.station.now).held (p + k)) c.node_at.ensures in

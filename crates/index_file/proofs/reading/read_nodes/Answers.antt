@@ -1,4 +1,4 @@
-use Rattle.std.proofs.Common.{◌≡◌, ◌≤◌, ℕ, ◌+◌, ◌-◌, ◌*◌, ◌^◌, List, refl, sym, ap, subst, ◌∙◌, arith}
+use Rattle.std.proofs.Common.{◌≡◌, inl, ◌≤◌, ℕ, ◌+◌, ◌-◌, ◌*◌, ◌^◌, List, refl, sym, ap, subst, ◌∙◌, arith}
 use Rattle.station.proofs.Composition.{no_steps, same_on, told_on}
 use Rattle.index_file.specs.Area.{node_place}
 use Rattle.index_file.specs.Reading.{FailsAt, after_part}
@@ -66,6 +66,18 @@ returns-in-Err-clause-front g c = record {
   most = omega (arith, c.node_count-end.ensures, c.loop-first-test.true);
   now_is = nodes_on c.args.layout.now c.loop-first.first c.min-count.result _ _ _ (omega (arith, c.loop-first-test.true)) c.loop-first.invariant.travel c.read_node_piece.ensures.travel;
 }
+
+-- the place is that of a node of the piece that was read last
+pub returns-in-Err-clause-named : goal.returns-in-Err-clause-named
+returns-in-Err-clause-named g c place e =
+    let is = c.in-Err.ensures.named place e in
+    record {
+      position = is.0;
+      read = c.loop-first.first + c.min-count.result;
+      place_is = is.3;
+      among = record { below = is.2; most = omega (arith, c.node_count-end.ensures, c.loop-first-test.true); last = inl (omega (arith, is.1, c.min-count.ensures)) };
+      travel = nodes_on c.args.layout.now c.loop-first.first c.min-count.result _ _ _ (omega (arith, c.loop-first-test.true)) c.loop-first.invariant.travel c.read_node_piece.ensures.travel;
+    }
 
 pub returns-clause-front : goal.returns-clause-front
 returns-clause-front g c = record { bytes = 64 * c.loop-first.first; most = omega (arith, c.loop-first.invariant.within); now_is = c.loop-first.invariant.travel }

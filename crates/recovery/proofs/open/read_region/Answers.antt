@@ -15,7 +15,7 @@ use Rattle.window_tally.specs.View.{TallyView}
 use Rattle.recovery.specs.Parts.{HasHeader, HasFences}
 use Rattle.recovery.proofs.CostLaws.{one_pass}
 use Rattle.recovery.proofs.Opening.{by_journal, reason_restored, array_restored, stands, fenced, refused_back}
-use Rattle.recovery.proofs.PartLaws.{parts_kept, on_ok_both}
+use Rattle.recovery.proofs.PartLaws.{parts_kept, same_exponent, on_ok_both}
 use Rattle.recovery.proofs.open.read_region.Goals as goal
 use Rattle.recovery.proofs.open.read_region.Goals.{After-load_region}
 
@@ -64,6 +64,9 @@ returns-in-Ok-clause-parts g c =
     parts_kept parts.place parts.tally c.load_region.new.tally parts.index c.load_region.new.fences parts.frames.journal c.recover.new.frames.journal c.requires.awaits.parts_are
     c.load_region.ensures.tally (ap (λ (t : TallyView). t.hmax) c.load_region.ensures.kept) (ap (λ (t : TallyView). t.height) c.load_region.ensures.kept)
     c.load_region.ensures.same_fences c.load_region.ensures.same_room c.recover.ensures.frames) c.load_region.ensures.root
+
+pub returns-in-Ok-clause-room : goal.returns-in-Ok-clause-room
+returns-in-Ok-clause-room g c = same_exponent c.load_region.new.fences.hmax c.args.parts.now.index.hmax c.load_region.ensures.same_room
 
 pub returns-in-Ok-clause-steps : goal.returns-in-Ok-clause-steps
 returns-in-Ok-clause-steps g c = same_on c.recover.ensures.steps c.load_region.ensures.steps
