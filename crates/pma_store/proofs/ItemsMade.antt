@@ -225,10 +225,9 @@ module _ (items : List Update) (k charge : ℕ) (s t next : StoreView) (a b c : 
     cost = tt;
     images = tt;
     most = λ told.
-        let tall : t.tally.height ≡ (next_states (limit_of s) (state_in s a.held) (take k items)).height =
-        sym (stands_there t is.on (told_on is.touched.frame told)).balanced.stands.height_is ∙ ap (λ (x : ArrayState). x.height) (is.state told) in
-        let same : most_written t.place.layout t.tally.height ≡ most_written s.place.layout (next_states (limit_of s) (state_in s a.held) (take k items)).height = (λ τ. most_written (is.layout τ) (tall τ)) in
-        record { made = k; some = omega (arith, lt); bytes = omega (arith, is.cost told, made.most, same) };
+        let own = made.cost (told_on is.touched.frame told) in
+        let same : update_cost_in t.place.layout (state_in t b.held) (get_or items k d) ≡ update_cost_in s.place.layout (next_states (limit_of s) (state_in s a.held) (take k items)) (get_or items k d) = (λ τ. update_cost_in (is.layout τ) (is.state told τ) (get_or items k d)) in
+        record { made = suc k; some = omega (arith, lt); bytes = omega (arith, is.cost told, own, same, costs_next s.place.layout (state_in s a.held) items k d lt) };
     spent = omega (arith, spends (Err fault) made, times_up (most_written s.place.layout (limit_of s)) (suc k) (length items) (omega (arith, lt)));
     of_items = is.of_items + own_calls (Err fault) made;
     are_for = record {

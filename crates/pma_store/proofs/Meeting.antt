@@ -24,6 +24,7 @@ use Rattle.pma_store.specs.Answers.{reported}
 use Rattle.pma_store.specs.Calling.{commit_calls, update_calls}
 use Rattle.pma_store.specs.Damaging.{AreNextTallies, IsMetBehind, IsMetLate, IsMetMid, IsNextTally, IsOrderly, MeetsItem, UpdatesAt, UpdatesIn, change_in, moved, picked, report_at}
 use Rattle.pma_store.specs.Readying.{broken_in, readied, resizes}
+use Rattle.pma_store.specs.Rewrites.{commit_cost}
 use Rattle.pma_store.specs.Spots.{FindsSpot}
 use Rattle.pma_store.specs.Store.{StoreView}
 use Rattle.pma_store.specs.Touching.{place_after}
@@ -53,6 +54,7 @@ first_met u fault changed_in report_in s t rows found orderly = record {
   asked = omega (arith, found.calls);
   calls = tt;
   spared = λ none. omega (arith, found.unwritten);
+  written = omega (arith, found.unwritten);
 }
 
 -- the update is made where it was found
@@ -71,6 +73,7 @@ module _ {T : Type 0} {a b c : View} (u : Update) (spot : Spot) (r : Result T St
     asked = omega (arith, updates_at.asked, found.calls);
     calls = IfOk-weaker r _ _ (λ done calls. omega (arith, calls, found.calls)) updates_at.calls;
     spared = λ none. on_err_weaker r (λ few. omega (arith, few, found.unwritten)) (updates_at.spared none);
+    written = omega (arith, updates_at.written, found.unwritten);
   }
 
 -- What was made is answered in other words.
@@ -87,6 +90,7 @@ met_as {T} {U} {a} {b} u x y changed_x changed_y in_x in_y s t changed same met 
   asked = met.asked;
   calls = subst (λ (r : Report). b.calls ≤ a.calls + (1 + update_calls s.place.layout s.tally.height t.tally.height r)) same met.calls;
   spared = λ none. tt;
+  written = met.written;
 }
 
 -- by a store with the same counts at the same place
@@ -134,6 +138,7 @@ met_err u fault changed_x changed_y in_x in_y s t next tally place is = record {
   asked = is.asked;
   calls = tt;
   spared = is.spared;
+  written = is.written;
 }
 
 -- What an update that asks for nothing, or for no room, comes to; one that replaces a value; and one that adds or takes.
@@ -152,10 +157,10 @@ moved_replaced (unbind key) true asks = absurd cc
 moved_replaced (unbind key) false asks = absurd cc
 
 pub quiet_within : {a : View} (u : Update) (i : ℕ) (s : StoreView) → UpdatesIn {T = Outcome × Report} (change_in u) i (Ok (Unchanged, quiet_report)) (λ done. moved u done.0) (λ done. done.1) s s a a
-quiet_within u i s = record { report = ap (λ (b : Bool). report_at b (change_in u) i s.tally) (sym (moved_none u)); counts = inl refl; late = tt; asked = omega arith; calls = omega arith; spared = λ none. tt }
+quiet_within u i s = record { report = ap (λ (b : Bool). report_at b (change_in u) i s.tally) (sym (moved_none u)); counts = inl refl; late = tt; asked = omega arith; calls = omega arith; spared = λ none. tt; written = omega arith }
 
-pub replaced_within : {a b : View} (u : Update) (there : Bool) (i : ℕ) (s t : StoreView) → need_of u there ≡ need.Replace → t.tally ≡ s.tally → b.calls ≤ a.calls + commit_calls → UpdatesIn {T = Outcome × Report} (change_in u) i (Ok (Replaced, quiet_report)) (λ done. moved u done.0) (λ done. done.1) s t a b
-replaced_within u there i s t asks same few = record { report = ap (λ (b : Bool). report_at b (change_in u) i s.tally) (sym (moved_replaced u there asks)); counts = inl same; late = tt; asked = omega (arith, few); calls = omega (arith, few); spared = λ none. tt }
+pub replaced_within : {a b : View} (u : Update) (there : Bool) (i : ℕ) (s t : StoreView) → need_of u there ≡ need.Replace → t.tally ≡ s.tally → b.calls ≤ a.calls + commit_calls → b.travel.written ≤ a.travel.written + commit_cost s.place.layout → UpdatesIn {T = Outcome × Report} (change_in u) i (Ok (Replaced, quiet_report)) (λ done. moved u done.0) (λ done. done.1) s t a b
+replaced_within u there i s t asks same few cost = record { report = ap (λ (b : Bool). report_at b (change_in u) i s.tally) (sym (moved_replaced u there asks)); counts = inl same; late = tt; asked = omega (arith, few); calls = omega (arith, few); spared = λ none. tt; written = omega (arith, cost) }
 
 -- An item.
 
@@ -168,10 +173,11 @@ item_unfound u fault s t rows found = record {
   asked = omega (arith, found.calls);
   met = inl (record { damage = found.damage; read = found.read });
   spared = λ none. omega (arith, found.unwritten);
+  written = omega (arith, found.unwritten);
 }
 
 pub item_made : {T U : Type 0} {a b : View} (u : Update) (x : T) (y : U) (changed_in : T → Bool) (report_in : T → Report) (s t : StoreView) → UpdatesAt u (Ok x) changed_in report_in s t a b → MeetsItem u (Ok y) s t a b
-item_made u x y changed_in report_in s t met = record { at = met.at; within = met.within; own = met.own; counts = met.counts; asked = met.asked; met = tt; spared = λ none. tt }
+item_made u x y changed_in report_in s t met = record { at = met.at; within = met.within; own = met.own; counts = met.counts; asked = met.asked; met = tt; spared = λ none. tt; written = met.written }
 
 pub item_failed : {T U : Type 0} {a b : View} (u : Update) (fault : StoreFault) (changed_in : T → Bool) (report_in : T → Report) (s t : StoreView) → UpdatesAt {T = T} u (Err fault) changed_in report_in s t a b → MeetsItem {T = U} u (Err fault) s t a b
 item_failed u fault changed_in report_in s t met = record {
@@ -182,6 +188,7 @@ item_failed u fault changed_in report_in s t met = record {
   asked = met.asked;
   met = elim met.met [ inl first ↦ inl first.0 | inr late ↦ inr late ];
   spared = met.spared;
+  written = met.written;
 }
 
 -- A batch.

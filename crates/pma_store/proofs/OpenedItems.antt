@@ -273,10 +273,10 @@ module _ {X : Type 0} {a b c : View} (x : X) (items : List Update) (s t : StoreV
     pub items_writes : state_in s b.held ≡ opened_state a.held → b.travel.written ≤ a.travel.written + opening_cost (layout_in a.held) → WritesOpening a.held a.travel.written c.travel.written
     items_writes first within =
         let some = made.most (on told) in
-        let bytes : c.travel.written ≤ b.travel.written + 1 + updates_cost (layout_in a.held) (opened_state a.held) (take some.made (pending a.held)) + most_written (layout_in a.held) (next_states (height_limit (layout_in a.held)) (opened_state a.held) (take some.made (pending a.held))).height =
-        subst (λ (us : List Update). c.travel.written ≤ b.travel.written + 1 + updates_cost (layout_in a.held) (opened_state a.held) (take some.made us) + most_written (layout_in a.held) (next_states (height_limit (layout_in a.held)) (opened_state a.held) (take some.made us)).height) (sym (waits told).1)
-        (subst (λ (y : ArrayState). c.travel.written ≤ b.travel.written + 1 + updates_cost (layout_in a.held) y (take some.made items) + most_written (layout_in a.held) (next_states (height_limit (layout_in a.held)) y (take some.made items)).height) first
-        (subst (λ (l : Layout). c.travel.written ≤ b.travel.written + 1 + updates_cost l (state_in s b.held) (take some.made items) + most_written l (next_states (height_limit l) (state_in s b.held) (take some.made items)).height) own_layout some.bytes)) in
+        let bytes : c.travel.written ≤ b.travel.written + 1 + updates_cost (layout_in a.held) (opened_state a.held) (take some.made (pending a.held)) =
+        subst (λ (us : List Update). c.travel.written ≤ b.travel.written + 1 + updates_cost (layout_in a.held) (opened_state a.held) (take some.made us)) (sym (waits told).1)
+        (subst (λ (y : ArrayState). c.travel.written ≤ b.travel.written + 1 + updates_cost (layout_in a.held) y (take some.made items)) first
+        (subst (λ (l : Layout). c.travel.written ≤ b.travel.written + 1 + updates_cost l (state_in s b.held) (take some.made items)) own_layout some.bytes)) in
         record {
           back = λ idle. absurd (true≢false (sym (waits told).0 ∙ idle));
           items = record {

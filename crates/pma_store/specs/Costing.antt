@@ -3,7 +3,7 @@ use Rattle.std.specs.Prelude.{ℕ, ◌+◌, ◌*◌, ◌≤◌, if◌then◌else
 use Rattle.header_gate.specs.declared.layout.Layout.{Layout}
 use Rattle.header_gate.specs.Places.{height_limit}
 use Rattle.map_model.specs.Array.{Array}
-use Rattle.map_model.specs.ArrayState.{ArrayState, UpdateReport, next_state, next_states, report_of}
+use Rattle.map_model.specs.ArrayState.{ArrayState, UpdateReport, next_state, report_of}
 use Rattle.map_model.specs.Store.{Update}
 use Rattle.pma_store.specs.Charging.{changes}
 use Rattle.pma_store.specs.Changing.{outcome_of, window_cost, most_written}
@@ -31,9 +31,8 @@ updates_cost l s (u ∷ us) = update_cost_in l s u + updates_cost l (next_state 
 abbrev pub most_of : Layout → ℕ → ℕ
 most_of l updates = most_written l (height_limit l) * updates
 
--- Updates in order wrote no more, however many of them were made: those that were have their bounds, and the next one has
--- the greatest of one update.
+-- Updates in order wrote no more, however many of them were made: so many were begun, and each of these has its own bound.
 pub record WritesSome (l : Layout) (s : ArrayState) (us : List Update) (before after : ℕ) : Type 0 where
   pub made : ℕ
   pub some : made ≤ length us
-  pub bytes : after ≤ before + updates_cost l s (take made us) + most_written l (next_states (height_limit l) s (take made us)).height
+  pub bytes : after ≤ before + updates_cost l s (take made us)

@@ -1,5 +1,5 @@
 -- The items of a batch, made one after another.
-use Rattle.std.specs.Prelude.{◌≡◌, ◌^◌, ◌⊎◌, ℕ, ◌+◌, ◌*◌, ◌≤◌, Bool, false, List, length, Option, Some, None, Result, OnOk, IfOk, IfErr, IsErrOf}
+use Rattle.std.specs.Prelude.{◌≡◌, ◌^◌, ◌⊎◌, ℕ, ◌+◌, ◌*◌, ◌≤◌, Bool, false, List, length, Option, Some, None, is_some, Result, OnOk, IfOk, IfErr, IsErrOf}
 use Rattle.station.specs.Bytes.{Touched}
 use Rattle.station.specs.View.{View, Told, EachHeld, Rose}
 use Rattle.station.specs.Steps.{Steps}
@@ -11,7 +11,9 @@ use Rattle.map_model.specs.ArrayState.{next_state, next_states}
 use Rattle.map_model.specs.Charges.{charge_after}
 use Rattle.map_model.specs.Image.{array_of, height_of}
 use Rattle.map_model.specs.Items.{AreAdmitted, charge_after_items}
-use Rattle.map_model.specs.Store.{Map, Update}
+use Rattle.map_model.specs.Store.{Map, Update, key_of}
+use Rattle.key_slot.specs.Record.{Record}
+use Rattle.segment.specs.Rows.{value_of}
 use Rattle.segment.specs.declared.fault.StoreFault.{StoreFault}
 use Rattle.segment.specs.declared.fault.StoreFault.TheVariants.{Failed}
 use Rattle.pma_store.specs.Answers.{state_in}
@@ -23,11 +25,28 @@ use Rattle.pma_store.specs.Looking.{TellsOther}
 use Rattle.pma_store.specs.Meaning.{MeansNow}
 use Rattle.pma_store.specs.Store.{StoreView, StandsOn, limit_of}
 use Rattle.pma_store.specs.Touching.{Updates, IsUpdatePlace}
+use Rattle.pma_store.specs.Updating.{need_of}
+use Rattle.pma_store.specs.declared.update.Need.TheVariants as need
+use Rattle.window_tally.specs.declared.Change.{Change}
+use Rattle.window_tally.specs.View.{TallyView}
 
 -- a key is there as it was found, if it was looked for
 abbrev pub IsAsFound : Option Bool → Bool → Type 0
 IsAsFound None present = Unit {0}
 IsAsFound (Some found) present = present ≡ found
+
+-- A key isn't as it was found, in the rows that were read.
+abbrev pub IsContradicted : Option Bool → Update → List Record → Type 0
+IsContradicted found u rows = ¬ IsAsFound found (is_some (value_of (key_of u) rows))
+
+-- what an update asks for adds no record and takes none, by whether its key is there
+abbrev pub ChangesNone : Update → Bool → Type 0
+ChangesNone u present = (change : Change) → need_of u present ≡ need.Change change → ⊥
+
+-- an item that would add no record and take none by what was found of its key left the counts as they were
+abbrev pub CountsAsFound : Option Bool → Update → TallyView → TallyView → Type 0
+CountsAsFound None u t v = Unit {0}
+CountsAsFound (Some present) u t v = ChangesNone u present → v ≡ t
 
 -- One item was made, with this charge.
 pub record MakesItem (u : Update) (result : Result ℕ StoreFault) (s t : StoreView) (a b : View) : Type 0 where
@@ -38,7 +57,7 @@ pub record MakesItem (u : Update) (result : Result ℕ StoreFault) (s t : StoreV
   pub steps : Steps (Updates (limit_of s) u) a b
   pub layout : t.place.layout ≡ s.place.layout
   pub closed : t.closed ≡ s.closed
-  pub cost : OnOk result (Told a → b.travel.written ≤ a.travel.written + update_cost_in s.place.layout (state_in s a.held) u)
+  pub cost : Told a → b.travel.written ≤ a.travel.written + update_cost_in s.place.layout (state_in s a.held) u
   pub images : IfOk result (λ charge. b.travel.written ≤ a.travel.written + 4101 * s.place.layout.format * charge)
   pub most : b.travel.written ≤ a.travel.written + most_written s.place.layout s.tally.height
   pub tall : s.tally.height ≤ limit_of s

@@ -1,6 +1,6 @@
 //! The items of a batch, made one after another.
 
-ghost use Rattle.std.specs.Prelude.{◌≡◌, ◌↔◌, ◌<◌, ◌≤◌, IfOk, IfErr, IsTrue, T, is_ok, is_some};
+ghost use Rattle.std.specs.Prelude.{◌≡◌, ◌↔◌, ◌<◌, ◌≤◌, OnOk, IfOk, IfErr, IsTrue, T, is_ok, is_some};
 ghost use Rattle.std.specs.List.{list_all};
 ghost use Rattle.station.specs.View.{Told};
 ghost use Rattle.batch_intent.specs.Items as intents;
@@ -11,7 +11,8 @@ ghost use Rattle.segment.specs.Rows.{value_of};
 ghost use Rattle.map_model.specs.Image.{array_of, map_of};
 ghost use Rattle.cost_ledger.specs.Work.{IsWork};
 ghost use Rattle.pma_store.specs.Charging.{changes, charge_told, work_by};
-ghost use Rattle.pma_store.specs.Items.{IsAsFound, MakesItem, MakesItems};
+ghost use Rattle.pma_store.specs.Damaging.{IsOrderly};
+ghost use Rattle.pma_store.specs.Items.{CountsAsFound, IsAsFound, IsContradicted, MakesItem, MakesItems};
 ghost use Rattle.pma_store.specs.Judging.{AreAllFound, found_at};
 ghost use Rattle.pma_store.specs.Spots.{FindsSpot};
 ghost use Rattle.pma_store.specs.Store.{IsStore, StandsOn};
@@ -85,7 +86,8 @@ impl OpenArray {
         requires on { StandsOn self.old (S.view station.old) }
         requires fits { FitsFormat self.old.place.layout.format (update_of update.now) }
         requires found { Told (S.view station.old) → IsAsFound found (is_some (value_of (key_of (update_of update.now)) (segment_at (array_of (S.view station.old).held) (segment_for (array_of (S.view station.old).held) (key_of (update_of update.now)))))) }
-        ensures { MakesItem (update_of update.now) result self.old self.new (S.view station.old) (S.view station.new) }
+        ensures made { MakesItem (update_of update.now) result self.old self.new (S.view station.old) (S.view station.new) }
+        ensures as_found { OnOk result (CountsAsFound found (update_of update.now) self.old.tally self.new.tally) }
     {
         match self.find_as(station, update, found, rows) {
             Ok(spot) => match self.apply_at(station, update, spot, rows) {
@@ -118,6 +120,7 @@ impl OpenArray {
         ensures spot { FindsSpot (update_of update.now) result self.old self.new rows.new (S.view station.old) (S.view station.new) }
         ensures store { IsStore self.new }
         ensures as_found { IfOk result (λ spot. IsAsFound found (is_ok spot.found)) }
+        ensures contradicted { IfErr result (λ fault. ¬ IsOrderly fault → IsContradicted found (update_of update.now) rows.new) }
     {
         match self.find_spot(station, update, rows) {
             Ok(spot) if is_as_found(spot, found) => Ok(spot),

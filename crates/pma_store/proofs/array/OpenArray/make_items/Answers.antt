@@ -51,7 +51,7 @@ returns-in-Err g c =
     let a = g.S.Station.view c.args.station.now in
     let b = g.S.Station.view c.loop-i.station in
     let e = g.S.Station.view c.make_item.new.station in
-    one_fails items i c.loop-i.charges c.args.self.now c.loop-i.self c.make_item.new.self a b e c.loop-i.invariant.made d lt c.in-Err.fault c.len-i-end.ensures.intent.most (subst (λ (u : Update). MakesItem u (Err c.in-Err.fault) c.loop-i.self c.make_item.new.self b e) item c.in-Err.ensures)
+    one_fails items i c.loop-i.charges c.args.self.now c.loop-i.self c.make_item.new.self a b e c.loop-i.invariant.made d lt c.in-Err.fault c.len-i-end.ensures.intent.most (subst (λ (u : Update). MakesItem u (Err c.in-Err.fault) c.loop-i.self c.make_item.new.self b e) item c.in-Err.ensures.made)
 
 pub loop-i-preserved : goal.loop-i-preserved
 loop-i-preserved g c =
@@ -67,7 +67,7 @@ loop-i-preserved g c =
     record {
       made = subst (λ (n : ℕ). HasMade items n (c.loop-i.charges + c.in-Ok.charge) c.args.self.now c.make_item.new.self a e) next
           (one_more items i c.loop-i.charges c.args.self.now c.loop-i.self c.make_item.new.self a b e c.loop-i.invariant.made d lt c.in-Ok.charge (g.met.S.Station.lawful c.make_item.new.station)
-          (subst (λ (u : Update). MakesItem u (Ok c.in-Ok.charge) c.loop-i.self c.make_item.new.self b e) item c.in-Ok.ensures));
+          (subst (λ (u : Update). MakesItem u (Ok c.in-Ok.charge) c.loop-i.self c.make_item.new.self b e) item c.in-Ok.ensures.made));
     }
 
 pub returns-in-Ok-close_intent : goal.returns-in-Ok-close_intent
