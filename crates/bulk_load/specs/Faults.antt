@@ -26,7 +26,7 @@ pub record IsCutIn (format most : ℕ) (r0 : ReaderView) (s0 s : SourceView) : T
   pub ended : Bool
   pub reading : loading format most given ≡ reads rows ended
 
--- and all bytes were taken that may be
+-- the complete lines among the bytes that were taken make no refusal due, and all bytes were taken that may be
 pub record IsSpentIn (format most : ℕ) (r0 : ReaderView) (s0 s : SourceView) : Type 0 where
   pub read : IsCutIn format most r0 s0 s
   pub all : length s0.left ≡ length s.left + r0.room

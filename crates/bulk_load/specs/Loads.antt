@@ -59,7 +59,8 @@ pub record IsWrittenOut (place : Place) (rows : List Record) (records height : �
   pub limit : height ≤ height_limit place.layout
   pub written : Told z → HasWritten place (spread_over (2 ^ height) rows) (2 ^ height) z.held
 
--- the file has the records of a text, spread over the segments of the least height that holds them
+-- the file has the records of a text, spread evenly over the segments of the least height that holds them, with every window
+-- within its bounds; it is a valid file at the place of the other region
 pub record IsLoaded (place : Place) (rows : List Record) (records height : ℕ) (Text : List Record → Type 0) (z : View) : Type 0 where
   pub text : Text rows
   pub count : records ≡ length rows

@@ -57,36 +57,50 @@ pub fn load_rows<I: Source, S: Station>(
     requires rests { RestsAt place.old.layout frames.old.turn (S.view station.old) }
     requires unread { IsUnread reader.old }
 
-    // On Ok the file has the records of the text.
+    // On Ok the store had no records, and the file has those of the text, spread evenly over the segments of the least
+    // height that holds them, with every window within its bounds.
     ensures loaded { IfOk result (λ loaded. (rows : List Record) × IsLoaded place.old rows loaded.records loaded.height (TextFor place.old.layout reader.old (I.view source.old)) (S.view station.new)) }
     ensures empty { OnOk result (sum tally.now.counts ≡ 0) }
+    // On Ok the source is at its end, and gave fewer bytes than might be taken.
     ensures whole { OnOk result (SourceTold (I.view source.old) → ((I.view source.new).left ≡ []) × (length (I.view source.old).left < reader.old.room)) }
+    // On Ok nothing is pending, the station is at rest, and the place is that of the other region. A fault leaves the place.
     ensures settled { OnOk result (NothingPending (S.view station.new)) }
     ensures rests { OnOk result (RestsAt place.new.layout frames.new.turn (S.view station.new)) }
     ensures place { OnOk result (place.new ≡ record place.old { region = 1 - place.old.region }) }
     ensures place_kept { OnErr result (place.new ≡ place.old) }
+    // Whatever is answered, the frames are for a journal of the same length, and note its gate as before.
     ensures journal { frames.new.journal ≡ frames.old.journal }
     ensures turn { frames.new.turn ≡ frames.old.turn }
 
-    // At every moment the map is the empty one, or that of the whole text; and a store that has records is left alone.
+    // At every moment the file represents the map that it did, at its height, or that of the whole text at the least height.
+    // Gate and layout stay, and so does each byte but those of the selector, the other copy and the other region.
     ensures steps { Steps (Loads place.old (TextFor place.old.layout reader.old (I.view source.old))) (S.view station.old) (S.view station.new) }
+    // A store that has records is left alone: no call of the station or of the source is made.
     ensures untouched { 0 < sum tally.now.counts → (station.new ≡ station.old) × (source.new ≡ source.old) }
+    // Costs: on Ok at most `8192 * F * 2^h + 9` bytes written in slots of format F, h the height.
     ensures cost { IfOk result (λ loaded. (S.view station.new).travel.written ≤ (S.view station.old).travel.written + (2 * segment_size place.old.layout * 2 ^ loaded.height + 9)) }
+    // Costs: with frames for n segments, on Ok one call for each n packed segments written, one for each `n / 2` of them
+    // read again, one for each `n - n / 2` segments of the new array, each number rounded up, and four for the flip.
     ensures calls { IfOk result (λ loaded. (S.view station.new).calls ≤ (S.view station.old).calls + load_calls place.old.layout loaded.records (2 ^ loaded.height)) }
 
-    // Whatever is answered, it costs no more than a load of the most records that the store may hold.
+    // Whatever is answered, it costs no more than the load of the most records that the store may hold.
     ensures most_cost { (S.view station.new).travel.written ≤ (S.view station.old).travel.written + (2 * segment_size place.old.layout * 2 ^ height_limit place.old.layout + 9) }
     ensures most_calls { (S.view station.new).calls ≤ (S.view station.old).calls + load_calls place.old.layout (most_records place.old.layout) (2 ^ height_limit place.old.layout) }
 
-    // Whatever is answered, what was taken is a front of the text, and no more than the reader might take.
+    // Whatever is answered, what was taken is a front of what the source had left, and no more than might be taken.
     ensures takes { SourceTold (I.view source.old) → TakesAtMost reader.old.room (I.view source.old) (I.view source.new) }
 
-    // Why it fails.
+    // `NotEmpty` comes exactly if there are records. Else `Line` is the first line that can't stand there, or the one behind an
+    // unfinished text; `Full` a record too many; `Script` a failed read; `Spent` a text of all bytes that may be taken, or more.
     ensures fault { IfErr result (IsLoadFault place.old.layout.format (most_records place.old.layout) (sum tally.now.counts) reader.old (I.view source.old) (I.view source.new)) }
+    // After every fault but the disk's the file stands for the counts of before.
     ensures kept { IfErr result (λ fault. IsNoDisk fault → EachHeld (StandsFor place.old tally.now) (S.view station.new)) }
+    // If the station tells its bytes, no segment is found damaged. Else a frame shows the damage.
     ensures damaged { IfErr result (λ fault. Told (S.view station.old) → IsNoDamage fault) }
     ensures shown { IfErr result (IsShownBy place.old.layout.format frames.new) }
+    // `Disk` comes only if the count of disk faults rose.
     ensures failed { IsErrOf result LoadFault.Disk → Rose (S.view station.old).disk_faults (S.view station.new).disk_faults }
+    // The source goes on telling or not, and its count of failed reads doesn't fall.
     ensures went { Went (I.view source.old) (I.view source.new) }
 {
     let records = tally.count(Window {

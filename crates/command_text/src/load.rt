@@ -30,6 +30,8 @@ pub enum LoadLine {
 /// number below 2^32.
 pub fn parse_load(line: &[u8], format: u32) -> LoadLine
     requires format { format ≤ wide }
+    // The line that is defined for these bytes in a load text of the format: nothing, a record that fits a slot of it, the end
+    // with its number of records, or `Bad` for all others.
     ensures { result ≡ load_line format line.now }
 {
     match next_word(line) {

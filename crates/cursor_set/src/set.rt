@@ -57,7 +57,9 @@ impl CursorSet {
     ///
     /// Where a cursor of this name is open, or 16 are, nothing changes.
     pub fn begin(&mut self, name: &Key, low: Option<Key>, high: Option<Key>) -> Opened
+        // `Taken` if the name has a cursor, else `NoRoom` if 16 are open, else `Opened`.
         ensures answer { result ≡ opening self.old name.now }
+        // A cursor that is opened has these bounds, and gave nothing. Else the set stays.
         ensures after { self.new ≡ after_open self.old name.now low high }
     {
         if find_entry(&self.slots, name).is_some() {
@@ -79,7 +81,9 @@ impl CursorSet {
 
     /// Closes the cursor of a name, and answers whether there was one.
     pub fn close(&mut self, name: &Key) -> bool
+        // Whether the name had a cursor.
         ensures answer { result ≡ contains_key self.old name.now }
+        // The name has no cursor now, and the others stay.
         ensures after { self.new ≡ remove self.old name.now }
     {
         match find_entry(&self.slots, name) {
@@ -94,7 +98,8 @@ impl CursorSet {
     /// The next record of a cursor: that with the least key within its bounds which is above the key of the last record that
     /// it gave.
     ///
-    /// Where there is none the cursor is closed. It reads at most two segments, and without a cursor none. A fault of the store leaves the set as it was.
+    /// Where there is none the cursor is closed. It reads at most two segments, and without a cursor none. A fault of the store
+    /// leaves the set as it was.
     pub fn next_row<S: Station, R: Seek>(
         &mut self,
         store: &mut R,
@@ -105,21 +110,35 @@ impl CursorSet {
         requires store { EachHeld (R.stands store.old) (S.view station.old) }
         requires rests { R.rests store.old (S.view station.old) }
         requires reach { file_length (R.kept store.old).layout ≤ (S.view station.old).fixed.reach }
+        // If the station tells its bytes, the record with the least key that is within the bounds and above the last one given,
+        // in the map that they represent; `End` exactly if there is none.
         ensures answer { IfOk result (λ step. Told (S.view station.old) → told_by step ≡ step_in onward (map_of (S.view station.old).held) self.old name.now) }
+        // `NoCursor` comes exactly if the name has no cursor, on every station.
         ensures known { IfOk result (λ step. is_some (told_by step) ≡ contains_key self.old name.now) }
+        // A cursor that gave a record stands behind it, and one that came to its end is closed. The other cursors stay.
         ensures after { IfOk result (λ step. self.new ≡ after_answer self.old name.now step) }
         ensures next { OnOk result (Told (S.view station.old) → self.new ≡ after_step onward (map_of (S.view station.old).held) self.old name.now) }
+        // A fault leaves the set as it was.
         ensures unchanged { OnErr result (self.new ≡ self.old) }
+        // It answers Ok if the station tells its bytes and the count of disk faults didn't rise.
         ensures complete { Told (S.view station.old) → ¬ Rose (S.view station.old).disk_faults (S.view station.new).disk_faults → IsOk result }
+        // If the station tells its bytes, no segment is found damaged.
         ensures damaged { IfErr result (λ fault. Told (S.view station.old) → fault ≡ StoreFault.Failed) }
+        // `Failed` comes only if the count of disk faults rose.
         ensures failed { IsErrOf result StoreFault.Failed → Rose (S.view station.old).disk_faults (S.view station.new).disk_faults }
+        // A fault closes the store, and nothing else does. All else that contracts see of it stays.
         ensures closed { R.closed store.new ≡ is_err result }
         ensures state { R.state store.new ≡ R.state store.old }
         ensures kept { R.kept store.new ≡ R.kept store.old }
+        // After an Ok the store stands for the held bytes, and its station is as it needs it.
         ensures store { OnOk result (EachHeld (R.stands store.new) (S.view station.new)) }
         ensures rests { OnOk result (R.rests store.new (S.view station.new)) }
+        // No byte changes.
         ensures steps { Steps Same (S.view station.old) (S.view station.new) }
+        // On every station one segment is read, or two that stand side by side, once each and by one call each; at height 0 it is
+        // one. Nothing is written, and damage is that of the last one read.
         ensures reads { (k : Cursor) → get self.old name.now ≡ Some k → ReadsNear (later k.low k.past) (R.kept store.old) result (S.view station.old) (S.view station.new) }
+        // Without a cursor of this name nothing is read, and no call is made.
         ensures idle { get self.old name.now ≡ None → (S.view station.new).travel ≡ (S.view station.old).travel }
         ensures uncalled { get self.old name.now ≡ None → (S.view station.new).calls ≡ (S.view station.old).calls }
     {
@@ -145,7 +164,8 @@ impl CursorSet {
     /// The previous record of a cursor: that with the greatest key within its bounds which is below the key of the last record
     /// that it gave. A cursor that gave none steps back from its upper bound.
     ///
-    /// Where there is none the cursor is closed. It reads at most two segments, and without a cursor none. A fault of the store leaves the set as it was.
+    /// Where there is none the cursor is closed. It reads at most two segments, and without a cursor none. A fault of the store
+    /// leaves the set as it was.
     pub fn step_back<S: Station, R: Seek>(
         &mut self,
         store: &mut R,
@@ -156,21 +176,35 @@ impl CursorSet {
         requires store { EachHeld (R.stands store.old) (S.view station.old) }
         requires rests { R.rests store.old (S.view station.old) }
         requires reach { file_length (R.kept store.old).layout ≤ (S.view station.old).fixed.reach }
+        // If the station tells its bytes, the record with the greatest key that is within the bounds and below the last one
+        // given, in the map that they represent; `End` exactly if there is none.
         ensures answer { IfOk result (λ step. Told (S.view station.old) → told_by step ≡ step_in back (map_of (S.view station.old).held) self.old name.now) }
+        // `NoCursor` comes exactly if the name has no cursor, on every station.
         ensures known { IfOk result (λ step. is_some (told_by step) ≡ contains_key self.old name.now) }
+        // A cursor that gave a record stands at it, and one that came to its end is closed. The other cursors stay.
         ensures after { IfOk result (λ step. self.new ≡ after_answer self.old name.now step) }
         ensures prev { OnOk result (Told (S.view station.old) → self.new ≡ after_step back (map_of (S.view station.old).held) self.old name.now) }
+        // A fault leaves the set as it was.
         ensures unchanged { OnErr result (self.new ≡ self.old) }
+        // It answers Ok if the station tells its bytes and the count of disk faults didn't rise.
         ensures complete { Told (S.view station.old) → ¬ Rose (S.view station.old).disk_faults (S.view station.new).disk_faults → IsOk result }
+        // If the station tells its bytes, no segment is found damaged.
         ensures damaged { IfErr result (λ fault. Told (S.view station.old) → fault ≡ StoreFault.Failed) }
+        // `Failed` comes only if the count of disk faults rose.
         ensures failed { IsErrOf result StoreFault.Failed → Rose (S.view station.old).disk_faults (S.view station.new).disk_faults }
+        // A fault closes the store, and nothing else does. All else that contracts see of it stays.
         ensures closed { R.closed store.new ≡ is_err result }
         ensures state { R.state store.new ≡ R.state store.old }
         ensures kept { R.kept store.new ≡ R.kept store.old }
+        // After an Ok the store stands for the held bytes, and its station is as it needs it.
         ensures store { OnOk result (EachHeld (R.stands store.new) (S.view station.new)) }
         ensures rests { OnOk result (R.rests store.new (S.view station.new)) }
+        // No byte changes.
         ensures steps { Steps Same (S.view station.old) (S.view station.new) }
+        // On every station one segment is read, and maybe the one before it, once each and by one call each; at height 0 it is
+        // one. Nothing is written, and damage is that of the last one read.
         ensures reads { (k : Cursor) → get self.old name.now ≡ Some k → ReadsBehind (earlier k.past k.high) (R.kept store.old) result (S.view station.old) (S.view station.new) }
+        // Without a cursor of this name nothing is read, and no call is made.
         ensures idle { get self.old name.now ≡ None → (S.view station.new).travel ≡ (S.view station.old).travel }
         ensures uncalled { get self.old name.now ≡ None → (S.view station.new).calls ≡ (S.view station.old).calls }
     {
