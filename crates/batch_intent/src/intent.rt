@@ -73,9 +73,12 @@ impl Intent {
     /// It is refused where there are 16, else where one has the key, else where the spelling would have more than 512 bytes;
     /// then nothing changes.
     pub fn push(&mut self, item: Item) -> Result<(), IntentFault>
+        // An item that is taken is the last one. Else nothing changes, and the fault is the first that holds: 16 items are there,
+        // one has the key, the spelling would have more than 512 bytes.
         ensures outcome { MatchResult result
             (λ _. (push_fault self.old (update_of item) ≡ None) × (self.new ≡ self.old ++ update_of item ∷ []))
             (λ fault. (push_fault self.old (update_of item) ≡ Some fault) × (self.new ≡ self.old)) }
+        // There are at most 16 items, no key twice, with a spelling of at most 512 bytes.
         ensures intent { IsIntent self.new }
     {
         let count = self.bytes[0];
@@ -98,7 +101,9 @@ impl Intent {
     /// How many items there are.
     pub fn len(&self) -> u32
         ensures count { result ≡ length self.now }
+        // There are at most 16 items, no key twice, with a spelling of at most 512 bytes.
         ensures intent { IsIntent self.now }
+        // Each key has 1 to 40 bytes, and each value at most 80.
         ensures sizes { T (list_all (has_sizes MAX_KEY_LEN MAX_VALUE_LEN) self.now) }
     {
         self.bytes[0].into()

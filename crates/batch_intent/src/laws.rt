@@ -31,11 +31,17 @@ pub fn batches_begin_at_once()
 /// middle through each update, and means that map behind the last one, while the gate is closed too. A file with an intent
 /// that is to be applied is at the beginning of its batch.
 pub fn batches_go_on()
+    // In the middle of a batch whose items meet no full store, a file has the layout of before, and means the map after all of
+    // them, however many were made.
     ensures means { (layout : Layout) (base : Map) (items : List Update) → AreAdmitted (height_limit layout) base items → (k : ℕ) (image : List ℕ) → InBatch layout base items k image → MeansMap layout image (map_after_all layout base items) }
+    // A file stays in the middle of a batch if its intent is kept and it represents the map after some of the items, from the
+    // first on.
     ensures next { (layout : Layout) (base : Map) (items : List Update) (start image : List ℕ) (k j : ℕ) → InBatch layout base items k start → KeepsIntent start image →
         RepresentsMap image (map_after_items (height_limit layout) base (take j items)) → InBatch layout base items j image }
+    // Behind the last item of a batch a file goes on to mean that map while the gate is closed.
     ensures closed { (layout : Layout) (base : Map) (items : List Update) → AreAdmitted (height_limit layout) base items → (start image : List ℕ) (k : ℕ) → InBatch layout base items k start →
         map_after_items (height_limit layout) base (take k items) ≡ map_after_all layout base items → Touched IsIntentGatePlace start image → MeansMap layout image (map_after_all layout base items) }
+    // A file with an intent that is to be applied is at the beginning of its batch.
     ensures begun { (image : List ℕ) (m : Map) (height : ℕ) (means : Means image m height) → has_pending image ≡ true → InBatch (layout_in image) means.base (pending image) 0 image }
 {}
 
