@@ -28,13 +28,13 @@ IsOwnFault i kept (Damaged segment (NotSegment slot)) = (segment ≡ i) × (slot
 IsOwnFault i kept (Damaged segment (OtherCount found other)) = (segment ≡ i) × (other ≡ kept) × (found ≢ kept)
 IsOwnFault i kept (Damaged segment OutOfOrder) = ⊥
 
--- A segment of a region, for which so many records are kept, was found damaged, or the disk failed.
+-- A segment of a region, for which `kept` records are kept, was found damaged, or the disk failed.
 pub record IsFoundDamaged (layout : Layout) (region segment kept : ℕ) (fault : StoreFault) (a b : View) : Type 0 where
-  -- where bytes are told, damage is exactly what is wrong with those of the segment
+  -- if the station tells its bytes, damage is exactly what is wrong with those of the segment
   pub damage : Told a → (i : ℕ) (why : Damage) → fault ≡ Damaged i why → damage_of layout.format (page_in layout region a.held segment) kept ≡ Some why
-  -- on any station it is damage of this segment
+  -- on every station it is damage of this segment
   pub own : IsOwnFault segment kept fault
-  -- a failure of the disk was counted
+  -- `Failed` comes only if the count of disk faults rose
   pub failed : fault ≡ Failed → Rose a.disk_faults b.disk_faults
 
 -- What the decoding of a segment found: the disk's fault, or the first bad slot of its bytes.

@@ -30,7 +30,7 @@ abbrev pub read_for : List Bytes → ℕ → ℕ
 read_for [] count = count
 read_for (p ∷ along) count = 0
 
--- so many segments of a layout, from one on, can be read at once: there are as many, and there is room for them
+-- `count` segments of a layout, one at least, can be read at once from `from` on: they lie before `to`, and fit 16 KiB
 pub record IsRun (layout : Layout) (from to count : ℕ) : Type 0 where
   pub some : 1 ≤ count
   pub within : from + count ≤ to
@@ -48,28 +48,30 @@ met_page r along file = first_of along (page_in r.layout r.region file r.next)
 abbrev pub met_fault : ReaderView → List Bytes → List ℕ → Option RegionFault
 met_fault r along file = page_fault r.layout.format (met_number r along) r.last (met_page r along file)
 
--- A segment was met in a page, or a fault: also where no bytes are told, its records fit a segment of the format, and the others
--- of its run stand along.
+-- A segment was met in a page, or a fault: on every station its records fit a segment of the format, and the others of its run
+-- stand along.
 pub record MetIn (count : ℕ) (r : ReaderView) (before after : PageView) : Type 0 where
   pub fits : FitsSegment r.layout.format after.rows
   pub format_is : after.format ≡ r.layout.format
   pub others : length after.along + 1 ≡ length before.along + read_for before.along count
 
--- a reader of the same segments, so many further
+-- a reader of the same segments, n further
 pub record StepsBy (n : ℕ) (old new : ReaderView) : Type 0 where
   pub layout_is : new.layout ≡ old.layout
   pub region_is : new.region ≡ old.region
   pub end_is : new.end ≡ old.end
   pub next_is : new.next ≡ old.next + n
 
--- A reader met the next segment, where there was one, and read so many for it where none was along.
+-- A reader met the next segment, if there was one, and read `count` of them if none was along.
 pub record MeetsOn {E : Type 0} (result : Result Bool E) (count : ℕ) (old new : ReaderView) (before after : PageView) : Type 0 where
+  -- false comes exactly if no segment is left, and then reader and page stay
   pub none : IfOk result (λ more. (more ≡ false) ↔ ((before.along ≡ []) × (old.next ≡ old.end)))
   pub ended : IfOk result (λ more. more ≡ false → new ≡ old)
   pub kept : IfOk result (λ more. more ≡ false → after ≡ before)
+  -- at true its records fit the slot format, and the reader notes the last key; it is `count` segments further if none was along
   pub met : IfOk result (λ more. more ≡ true → MetIn count old before after)
   pub reader : IfOk result (λ more. more ≡ true → new ≡ record old { next = old.next + read_for before.along count; last = last_behind old.last after.rows })
-  -- a fault leaves no records
+  -- on a failure the page has no records, and the reader is as many segments further
   pub cleared : OnErr result (after.rows ≡ [])
   pub left : OnErr result (MetIn count old before after)
   pub stopped : OnErr result (StepsBy (read_for before.along count) old new)

@@ -46,8 +46,8 @@ abbrev pub stands_at : Option Bytes → Option Record → Bool
 stands_at past None = false
 stands_at past (Some r) = is_at past r.0
 
--- One segment or two that stand side by side were read, in ascending order and once each, and nothing was written: also where
--- no bytes are told.
+-- One segment or two that stand side by side were read, in ascending order and once each, and nothing was written, on every
+-- station.
 pub record ReadsNear {A : Type 0} (start : Option Bytes) (k : KeptRegion) (result : Result A StoreFault) (a b : View) : Type 0 where
   pub from : ℕ
   pub to : ℕ
@@ -63,7 +63,7 @@ pub record ReadsNear {A : Type 0} (start : Option Bytes) (k : KeptRegion) (resul
   -- damage is that of the segment that was read last, by the count that is kept for it
   pub causes : IfErr result (IsDamageAt (to - 1) k.counts)
 
--- One segment was read, and maybe behind it the one before it, each once, and nothing was written: also where no bytes are told.
+-- One segment was read, and maybe behind it the one before it, each once, and nothing was written, on every station.
 pub record ReadsBehind {A : Type 0} (end : Option Bytes) (k : KeptRegion) (result : Result A StoreFault) (a b : View) : Type 0 where
   pub last : ℕ
   pub count : ℕ
@@ -77,7 +77,7 @@ pub record ReadsBehind {A : Type 0} (end : Option Bytes) (k : KeptRegion) (resul
   pub inside : count ≤ last + 1
   -- the first is that to which the bound belongs
   pub own : Told a → last ≡ last_for end (array_of a.held)
-  -- the other one is read only where no record of the first is below the bound
+  -- the other one is read only if no record of the first is below the bound
   pub needed : 1 < count → Told a → T (are_behind end (segment_at (array_of a.held) last))
   -- damage is that of the segment that was read last, by the count that is kept for it
   pub causes : IfErr result (IsDamageAt (last + 1 - count) k.counts)

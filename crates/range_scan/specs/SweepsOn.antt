@@ -21,18 +21,20 @@ pub record SweepsOn {A : Type 0} (result : Result A StoreFault) (s t : SweepView
   pub same : GoesOn s t
   pub is_sweep : IsSweep t
   pub sweeping : OnOk result (Told b → IsSweeping t b.held)
+  -- it is closed exactly after a failure
   pub faulted : t.faulted ≡ is_err result
+  -- no byte changes; it reads the next segments in order, each once, and writes nothing
   pub steps : Steps Same a b
   pub reads : b.travel ≡ after_walk s.reader.layout s.reader.region s.reader.next t.reader.next a.travel
   -- at most one call is made for each segment that is read
   pub calls : b.calls ≤ a.calls + (t.reader.next - s.reader.next)
-  -- it goes on to another segment only where those before it have no record that isn't below the lower bound
+  -- it goes on to another segment only if those before it have no record that isn't below the lower bound
   pub needed : Told a → T (are_before s.low (between (judged s) (judged t - 1) (cut s.tally.counts (entries (map_of a.held)))))
-  -- it reads only where it judged all that it read before, and then a run
+  -- it reads only if it judged all that it read before, and then a run
   pub runs : s.reader.next < t.reader.next → ReadsRun s t
-  -- where the scan begins in its first segment, it reads at most two besides one for each four records that it answered
+  -- if the scan begins in its first segment, it reads at most two besides one for each four records that it answered
   pub few : Told a → BeginsThere s (entries (map_of a.held)) → t.reader.next - s.first ≤ t.given / 4 + 2
-  -- it goes to none while records are kept, nor where the bounds leave no room
+  -- no segment is read while records are kept, or if the bounds leave no room
   pub idle : 0 < length s.kept → t.reader ≡ s.reader
   pub void : is_void s.low s.high ≡ true → t.reader ≡ s.reader
 

@@ -28,7 +28,7 @@ use segment::{SegmentView, StoreFault};
 use station::Station;
 use window_tally::Tally;
 
-/// The bound below which a look must end for the last record that is below `past` and below `high`.
+/// The earlier of `past` and `high`: the bound below which a look must end for the last record that is below both.
 pub fn end_bound(past: Option<Key>, high: Option<Key>) -> Option<Key>
     ensures { result ≡ earlier past high }
 {
@@ -61,10 +61,16 @@ pub fn last_behind_in<S: Station>(
     requires stands { Told (S.view station.old) → StandsBalanced layout region tally.now.height tally.now.counts (S.view station.old).held }
     requires readable { Told (S.view station.old) → IsRecovered layout (S.view station.old).held }
     requires ends { Told (S.view station.old) → last ≡ last_for end.now (array_of (S.view station.old).held) }
+    // On Ok the record with the greatest key that isn't below the lower bound, is below `past` and is below `high`, or None if
+    // there is none, if the station tells its bytes.
     ensures row { IfOk result (λ row. Told (S.view station.old) → (past high : Option Bytes) → end.now ≡ earlier past high → option_map record_of row ≡ record_ahead back (record { low = low.now; high = high; past = past }) (entries (map_of (S.view station.old).held))) }
+    // If the station tells its bytes, no segment is found damaged.
     ensures damaged { IfErr result (λ fault. Told (S.view station.old) → fault ≡ StoreFault.Failed) }
+    // `Failed` comes only if the count of disk faults rose.
     ensures failed { IsErrOf result StoreFault.Failed → Rose (S.view station.old).disk_faults (S.view station.new).disk_faults }
+    // No byte changes.
     ensures steps { Steps Same (S.view station.old) (S.view station.new) }
+    // One segment is read, and maybe the one before it, each once, and nothing is written (`ReadsBehind`).
     ensures reads { ReadsBehind end.now (record { layout = layout; region = region; height = tally.now.height; counts = tally.now.counts }) result (S.view station.old) (S.view station.new) }
 {
     let place = read_below(station, &layout, region, tally, page, last, end)?;

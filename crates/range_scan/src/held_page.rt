@@ -95,15 +95,23 @@ impl HeldPage {
         requires region { region < 2 }
         requires segment { segment < 2 ^ height_limit layout.now }
         requires reach { file_length layout.now ≤ (S.view station.old).fixed.reach }
+        // On Ok the page has the records of the segment, and nothing is wrong with its bytes, if the station tells them.
         ensures rows { OnOk result (Told (S.view station.old) → self.new.rows ≡ segment_of layout.now.format (page_in layout.now region (S.view station.old).held segment)) }
         ensures sound { OnOk result (Told (S.view station.old) → damage_of layout.now.format (page_in layout.now region (S.view station.old).held segment) kept ≡ None) }
+        // On Ok the page has as many records as are kept for the segment, on every station.
         ensures count { OnOk result (length self.new.rows ≡ kept) }
+        // Whatever is answered, the records of the page ascend and fit the slot format, on every station.
         ensures fits { FitsSegment layout.now.format self.new.rows }
         ensures format { self.new.format ≡ layout.now.format }
+        // On a failure the page has no records; no segment is read along.
         ensures none { OnErr result (self.new.rows ≡ []) }
         ensures alone { self.new.along ≡ [] }
+        // Damage is that of this segment, and exactly what is wrong with it if the station tells its bytes; `Failed` comes only
+        // if the count of disk faults rose.
         ensures damaged { IfErr result (λ fault. IsFoundDamaged layout.now region segment kept fault (S.view station.old) (S.view station.new)) }
+        // No byte changes.
         ensures steps { Steps Same (S.view station.old) (S.view station.new) }
+        // The segment is read once, by at most one call.
         ensures reads { (S.view station.new).travel ≡ after_read (segment_place layout.now region segment) (segment_size layout.now) (S.view station.old).travel }
         ensures calls { (S.view station.new).calls ≤ (S.view station.old).calls + 1 }
     {
@@ -134,12 +142,21 @@ impl HeldPage {
         requires region { region < 2 }
         requires segment { segment < 2 ^ height_limit layout.now }
         requires reach { file_length layout.now ≤ (S.view station.old).fixed.reach }
+        // On Ok the answer is the value that is bound to the key in the segment, or None if none is, if the station tells its
+        // bytes.
         ensures some { IfOk result (λ found. IfSome found (λ value. Told (S.view station.old) → value_of key.now (segment_of layout.now.format (page_in layout.now region (S.view station.old).held segment)) ≡ Some value.now)) }
         ensures none { IfOk result (λ found. IfNone found (Told (S.view station.old) → value_of key.now (segment_of layout.now.format (page_in layout.now region (S.view station.old).held segment)) ≡ None)) }
+        // On every station the key and a value that is found fit a slot of the format.
         ensures fits { IfOk result (λ found. IfSome found (λ value. T (is_record layout.now.format (key.now, value.now)))) }
+        // On Ok nothing is wrong with the bytes of the segment, and it has the number of records that is kept, if the station
+        // tells them.
         ensures sound { OnOk result (Told (S.view station.old) → damage_of layout.now.format (page_in layout.now region (S.view station.old).held segment) kept ≡ None) }
+        // Damage is that of this segment, and exactly what is wrong with it if the station tells its bytes; `Failed` comes only
+        // if the count of disk faults rose.
         ensures damaged { IfErr result (λ fault. IsFoundDamaged layout.now region segment kept fault (S.view station.old) (S.view station.new)) }
+        // No byte changes.
         ensures steps { Steps Same (S.view station.old) (S.view station.new) }
+        // The segment is read once, by at most one call.
         ensures reads { (S.view station.new).travel ≡ after_read (segment_place layout.now region segment) (segment_size layout.now) (S.view station.old).travel }
         ensures calls { (S.view station.new).calls ≤ (S.view station.old).calls + 1 }
     {

@@ -52,15 +52,24 @@ pub trait Seek {
         requires store { EachHeld (stands self.old) (S.view station.old) }
         requires rests { rests self.old (S.view station.old) }
         requires reach { file_length (kept self.old).layout ≤ (S.view station.old).fixed.reach }
+        // On Ok the record with the least key that isn't below the lower bound, is above `past` and is below `high`, or None if
+        // there is none, if the station tells its bytes.
         ensures row { IfOk result (λ row. Told (S.view station.old) → option_map record_of row ≡ record_ahead onward (record { low = low; high = high; past = past }) (entries (map_of (S.view station.old).held))) }
+        // If the station tells its bytes, no segment is found damaged.
         ensures damaged { IfErr result (λ fault. Told (S.view station.old) → fault ≡ StoreFault.Failed) }
+        // `Failed` comes only if the count of disk faults rose.
         ensures failed { IsErrOf result StoreFault.Failed → Rose (S.view station.old).disk_faults (S.view station.new).disk_faults }
+        // The store is closed exactly after a failure.
         ensures closed { closed self.new ≡ is_err result }
+        // All else that contracts see of the store stays: its region, with height and counts, and its state.
         ensures kept { kept self.new ≡ kept self.old }
         ensures state { state self.new ≡ state self.old }
+        // On Ok the store stands for the bytes of the file, and the station is as the store needs it between calls.
         ensures store { OnOk result (EachHeld (stands self.new) (S.view station.new)) }
         ensures rests { OnOk result (rests self.new (S.view station.new)) }
+        // No byte changes.
         ensures steps { Steps Same (S.view station.old) (S.view station.new) }
+        // One segment is read, or two that stand side by side, each once, and nothing is written (`ReadsNear`).
         ensures reads { ReadsNear (later low past) (kept self.old) result (S.view station.old) (S.view station.new) };
 
     /// The record with the greatest key that isn't below `low`, is below `past` and is below `high`, or None where there is none.
@@ -78,14 +87,23 @@ pub trait Seek {
         requires store { EachHeld (stands self.old) (S.view station.old) }
         requires rests { rests self.old (S.view station.old) }
         requires reach { file_length (kept self.old).layout ≤ (S.view station.old).fixed.reach }
+        // On Ok the record with the greatest key that isn't below the lower bound, is below `past` and is below `high`, or None
+        // if there is none, if the station tells its bytes.
         ensures row { IfOk result (λ row. Told (S.view station.old) → option_map record_of row ≡ record_ahead back (record { low = low; high = high; past = past }) (entries (map_of (S.view station.old).held))) }
+        // If the station tells its bytes, no segment is found damaged.
         ensures damaged { IfErr result (λ fault. Told (S.view station.old) → fault ≡ StoreFault.Failed) }
+        // `Failed` comes only if the count of disk faults rose.
         ensures failed { IsErrOf result StoreFault.Failed → Rose (S.view station.old).disk_faults (S.view station.new).disk_faults }
+        // The store is closed exactly after a failure.
         ensures closed { closed self.new ≡ is_err result }
+        // All else that contracts see of the store stays: its region, with height and counts, and its state.
         ensures kept { kept self.new ≡ kept self.old }
         ensures state { state self.new ≡ state self.old }
+        // On Ok the store stands for the bytes of the file, and the station is as the store needs it between calls.
         ensures store { OnOk result (EachHeld (stands self.new) (S.view station.new)) }
         ensures rests { OnOk result (rests self.new (S.view station.new)) }
+        // No byte changes.
         ensures steps { Steps Same (S.view station.old) (S.view station.new) }
+        // One segment is read, and maybe the one before it, each once, and nothing is written (`ReadsBehind`).
         ensures reads { ReadsBehind (earlier past high) (kept self.old) result (S.view station.old) (S.view station.new) };
 }

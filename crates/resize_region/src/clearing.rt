@@ -28,17 +28,25 @@ pub fn clear_store<S: Station>(
     requires reach { file_length place.now.layout ≤ (S.view station.old).fixed.reach }
     requires settled { EachHeld (IsSettledAt place.now) (S.view station.old) }
     requires rests { RestsAt place.now.layout frames.old.turn (S.view station.old) }
+    // At every moment, and in the held bytes whatever is answered, the file represents the same map at the same height, and no
+    // byte differs but those of gate and journals.
     ensures steps { Steps (Settles place.now) (S.view station.old) (S.view station.new) }
+    // Below version 4, with one journal, the station stays as it was: no call is made.
     ensures untouched { place.now.layout.version ≢ PAIRED → station.new ≡ station.old }
+    // On Ok the array stays, and a tally that stood for the file still does.
     ensures stands { OnOk result ((tally : TallyView) → EachHeld (StandsFor place.now tally) (S.view station.old) → EachHeld (StandsFor place.now tally) (S.view station.new)) }
     ensures array { OnOk result (Told (S.view station.old) → array_of (S.view station.new).held ≡ array_of (S.view station.old).held) }
+    // On Ok nothing is pending, no page is to be laid over the live region, and the station is at rest.
     ensures nothing { OnOk result (NothingPending (S.view station.new)) }
     ensures bare { OnOk result (Told (S.view station.new) → IsBare place.now.layout (S.view station.new).held) }
     ensures rests { OnOk result (RestsAt place.now.layout frames.new.turn (S.view station.new)) }
+    // The frames stay but for the gate that they note.
     ensures frames { frames.new ≡ record frames.old { turn = frames.new.turn } }
+    // Costs: at most five bytes written, none read, at most four calls.
     ensures cost { (S.view station.new).travel.written ≤ (S.view station.old).travel.written + 5 }
     ensures no_reads { (S.view station.new).travel.read ≡ (S.view station.old).travel.read }
     ensures calls { (S.view station.new).calls ≤ (S.view station.old).calls + 4 }
+    // Fails only if the count of disk faults rose.
     ensures fault { IfErr result (λ fault. fault ≡ StoreFault.Failed) }
     ensures failed { IsErrOf result StoreFault.Failed → Rose (S.view station.old).disk_faults (S.view station.new).disk_faults }
 {

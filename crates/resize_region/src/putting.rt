@@ -18,8 +18,10 @@ pub fn put_row(frames: &mut Frames, format: u32, f: u32, count: u32, row: &Row)
     requires count { count ≡ length (share_in format f frames.old) }
     requires room { count < SEGMENT_SLOTS }
     requires fits { format ≡ narrow → T (is_record narrow (record_of row.now)) }
+    // The record stands behind the `count` that place `f` of the frames held; each place still holds a share (`HasShares`).
     ensures shares { HasShares format frames.new }
     ensures share { share_in format f frames.new ≡ share_in format f frames.old ++ record_of row.now ∷ [] }
+    // All other places stay, and so does all of the frames but their slots.
     ensures others { (i : ℕ) → i ≢ f → i < places format frames.old → share_in format i frames.new ≡ share_in format i frames.old }
     ensures rest { frames.new ≡ record frames.old { slots = frames.new.slots } }
 {

@@ -55,37 +55,52 @@ pub fn upgrade<S: Station>(
     requires bare { Told (S.view station.old) → IsBare place.old.layout (S.view station.old).held }
     requires rests { RestsAt place.old.layout frames.old.turn (S.view station.old) }
 
-    // Three answers, each exactly where it is due, for which no call of the station is made.
+    // `Already` comes exactly if the slot format is 2, `OneSegment` exactly if it is 1 and the height limit is 0.
     ensures already { (result ≡ Ok Upgrade.Already) ↔ (place.old.layout.format ≡ wide) }
     ensures one_segment { (result ≡ Ok Upgrade.OneSegment) ↔ ((place.old.layout.format ≡ narrow) × (place.old.layout.hmax ≡ 0)) }
+    // `TooMany` comes exactly if the slot format is 1, the height limit is at least 1, and the records are more than half as many
+    // segments may hold; it has their number.
     ensures too_many { (n : ℕ) → (result ≡ Ok (Upgrade.TooMany n)) ↔ TooManyFor place.old.layout (sum tally.now.counts) n }
+    // At any Ok but `Done` the station stays as it was: no call is made.
     ensures untouched { IfOk result (λ answer. (answer ≡ Upgrade.Done → ⊥) → station.new ≡ station.old) }
 
-    // The same map at every moment.
+    // At every moment, and in the held bytes whatever is answered, the file represents the same map, in the old array or in the
+    // new one at format 2; no byte differs but those of the selector, the other copy and the other region.
     ensures steps { Steps (Upgrades place.old (upgraded_height place.old.layout tally.now.height)) (S.view station.old) (S.view station.new) }
+    // On Ok nothing is pending, and the station is at rest.
     ensures settled { OnOk result (NothingPending (S.view station.new)) }
     ensures rests { OnOk result (RestsAt place.new.layout frames.new.turn (S.view station.new)) }
 
-    // Done.
+    // At `Done` the array is that of all records spread evenly over the height that the store had, or the greatest at format 2 if
+    // that is less; place, height and counts agree with the file.
     ensures array { result ≡ Ok Upgrade.Done → Told (S.view station.old) → array_of (S.view station.new).held ≡
         resized (array_of (S.view station.old).held) (upgraded_height place.old.layout tally.now.height) }
     ensures stands { let height = upgraded_height place.old.layout tally.now.height in
         result ≡ Ok Upgrade.Done → EachHeld (StandsWith place.new.layout place.new.region height (resized_counts tally.now.counts height)) (S.view station.new) }
+    // At `Done` the place names the other region and format 2; at any other answer it stays.
     ensures place { result ≡ Ok Upgrade.Done → place.new ≡ upgraded place.old }
     ensures place_kept { (result ≡ Ok Upgrade.Done → ⊥) → place.new ≡ place.old }
+    // The frames keep their room and the gate that they note.
     ensures same_journal { frames.new.journal ≡ frames.old.journal }
     ensures same_turn { frames.new.turn ≡ frames.old.turn }
+    // At most `8192 * 2^h + 9` bytes are written, for the new height h.
     ensures cost { (S.view station.new).travel.written ≤ (S.view station.old).travel.written +
         (segment_size (widened place.old.layout) * 2 ^ upgraded_height place.old.layout tally.now.height + 9) }
+    // The live region is read in one direction, each segment at most once.
     ensures reads { (n : ℕ) × (n ≤ 2 ^ tally.now.height) × Walks place.old 0 n (S.view station.old).travel (S.view station.new).travel }
+    // At `Done` the whole live region was read, in one direction, each segment once.
     ensures whole { result ≡ Ok Upgrade.Done → Walks place.old 0 (2 ^ tally.now.height) (S.view station.old).travel (S.view station.new).travel }
 
+    // At most one call for each old segment, one for each n new ones if the frames have room for n of format 2, and four for a
+    // flip.
     ensures calls { (S.view station.new).calls ≤ (S.view station.old).calls + widen_calls place.old tally.now.height }
 
-    // Why it fails.
+    // If the station tells its bytes, no segment is found damaged.
     ensures damaged { IfErr result (λ fault. Told (S.view station.old) → fault ≡ StoreFault.Failed) }
+    // `Damaged` is that of the segment that was read last: a bad slot, another number of records than is kept, or its order.
     ensures cause { IfErr result (λ fault. (i : ℕ) × (i < 2 ^ tally.now.height) × IsDamageAt i tally.now.counts fault) }
     ensures last { IfErr result (λ fault. (fault ≡ StoreFault.Failed) ⊎ ((i : ℕ) × IsDamageAt i tally.now.counts fault × Walks place.old 0 (i + 1) (S.view station.old).travel (S.view station.new).travel)) }
+    // `Failed` comes only if the count of disk faults rose.
     ensures failed { IsErrOf result StoreFault.Failed → Rose (S.view station.old).disk_faults (S.view station.new).disk_faults }
 {
     let root = Window {
@@ -105,10 +120,16 @@ pub fn upgrade<S: Station>(
 /// Why a store of this many records isn't upgraded, or None where it is.
 pub fn refusal(layout: &Layout, records: u32) -> Option<Upgrade>
     requires { IsLayout layout.now }
+    // `Already` comes exactly if the slot format is 2, `OneSegment` exactly if it is 1 and the height limit is 0.
     ensures already { (result ≡ Some Upgrade.Already) ↔ (layout.now.format ≡ wide) }
     ensures one_segment { (result ≡ Some Upgrade.OneSegment) ↔ ((layout.now.format ≡ narrow) × (layout.now.hmax ≡ 0)) }
+    // `TooMany` comes exactly if the slot format is 1, the height limit is at least 1, and the records are more than half as many
+    // segments may hold; it has their number.
     ensures too_many { (n : ℕ) → (result ≡ Some (Upgrade.TooMany n)) ↔ TooManyFor layout.now records n }
+    // `Done` is never the reason.
     ensures done { result ≡ Some Upgrade.Done → ⊥ }
+    // At None the slot format is 1, the height limit is at least 1, and the records are no more than half as many segments may
+    // hold.
     ensures narrow { result ≡ None → layout.now.format ≡ narrow }
     ensures limit { result ≡ None → 1 ≤ layout.now.hmax }
     ensures few { result ≡ None → records ≤ upper_of (layout.now.hmax - 1) }
