@@ -27,7 +27,7 @@ HasNodes l h fence file = (d p : ℕ) → d < h → p < 2 ^ d → IsNode l.forma
 abbrev pub HasCounts : Layout → ℕ → List ℕ → List ℕ → Type 0
 HasCounts l h counts file = (i : ℕ) → i < 2 ^ h → number file (count_place l i) ≡ get_or counts i 0
 
--- it has both
+-- the file has the nodes of an index over 2^h segments with these fences, and these counts
 pub record HasArea (l : Layout) (h : ℕ) (fence : ℕ → Bytes) (counts : List ℕ) (file : List ℕ) : Type 0 where
   pub nodes : HasNodes l h fence file
   pub counts_are : HasCounts l h counts file

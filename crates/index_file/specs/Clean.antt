@@ -70,7 +70,7 @@ IsShut image = IsIndexed (version_of image) → clean_gate image ≡ 0
 
 -- A run that begins on a clean file leaves a clean one: what each word that opens a file promises.
 pub record KeepsClean (a b : View) : Type 0 where
-  -- the held bytes
+  -- clean bytes that are held stay clean, if the station tells them
   pub held : Told a → IsClean a.held → IsClean b.held
-  -- at every moment whatever a crash leaves, where nothing is pending at first
+  -- whatever a crash leaves at any moment is clean, if the bytes at entry are and nothing is pending then
   pub moments : NothingPending a → (Honest a → IsClean a.held) → LeavesOnly (λ image said. IsClean image) a b

@@ -74,7 +74,7 @@ after_counts l h t = after_part (count_place l 0) (COUNT_SIZE * 2 ^ h) t
 abbrev pub after_area : Layout → ℕ → Travel → Travel
 after_area l h t = after_counts l h (after_nodes l h t)
 
--- a front of so many bytes from a place on was read
+-- of the `size` bytes from `place` on the first were read, some, all or none
 pub record IsFrontRead (place size : ℕ) (before now : Travel) : Type 0 where
   pub bytes : ℕ
   pub most : bytes ≤ size
@@ -84,8 +84,8 @@ pub record IsFrontRead (place size : ℕ) (before now : Travel) : Type 0 where
 abbrev pub IsAreaFront : Layout → ℕ → Travel → Travel → Type 0
 IsAreaFront l h before now = IsFrontRead (node_place l 0) (NODE_SIZE * (2 ^ h - 1)) before now ⊎ IsFrontRead (count_place l 0) (COUNT_SIZE * 2 ^ h) (after_nodes l h before) now
 
--- Of so many things the first were read, piece by piece, and one of these is named: it lies in the piece that was read last, or
--- all were read.
+-- Of `all` things the first were read, piece by piece, and number x of these is named: it lies in the piece that was read last,
+-- or all were read.
 pub record IsAmong (piece all read x : ℕ) : Type 0 where
   pub below : x < read
   pub most : read ≤ all

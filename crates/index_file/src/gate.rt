@@ -17,12 +17,16 @@ use station::{Failed, Station};
 pub fn close_clean<S: Station>(station: &mut S) -> Result<(), Failed>
     requires reach { page_size ≤ (S.view station.old).fixed.reach }
     requires page { HasPage (S.view station.old) }
+    // At every moment, and in the held bytes whatever is answered, no byte differs but the clean gate's.
     ensures steps { Steps (Touched IsCleanPlace) (S.view station.old) (S.view station.new) }
+    // On Ok the clean gate is 0, and nothing is pending.
     ensures settled { OnOk result (NothingPending (S.view station.new)) }
     ensures closed { OnOk result (Told (S.view station.old) → byte (S.view station.new).held 704 ≡ 0) }
+    // Costs: at most one byte written, none read, at most two calls (a write, a sync).
     ensures cost { (S.view station.new).travel.written ≤ (S.view station.old).travel.written + 1 }
     ensures no_reads { (S.view station.new).travel.read ≡ (S.view station.old).travel.read }
     ensures calls { (S.view station.new).calls ≤ (S.view station.old).calls + 2 }
+    // Fails only if the count of disk faults rose.
     ensures cause { OnErr result (Rose (S.view station.old).disk_faults (S.view station.new).disk_faults) }
 {
     set_gate(station, Gate::Clean, false)

@@ -15,9 +15,13 @@ ghost use Rattle.map_model.specs.Image.{height_of};
 ///
 /// So a word that closes the gate before it writes anything else leaves clean images at every moment.
 pub fn clean_images()
+    // An image without an index, or with an even clean gate, is clean.
     ensures shut { (image : List ℕ) → IsShut image → IsClean image }
+    // A clean image with an odd clean gate stays clean if no byte changes but the gate, whatever the gate becomes.
     ensures closing { (old new : List ℕ) → IsClean old → clean_gate old ≡ 1 → Touched IsCleanPlace old new → IsClean new }
+    // An image is clean if the byte of its clean gate is that of an image with an even one, whatever else differs.
     ensures untouched { (old new : List ℕ) → clean_gate old ≡ 0 → byte new 704 ≡ byte old 704 → IsClean new }
+    // The index of a clean image that the header refuses means nothing.
     ensures refused { (image : List ℕ) (r : Reason) → IsClean image → header_reason image ≡ Some r → IsShut image }
 {}
 
@@ -26,7 +30,7 @@ pub fn left_indexes_are_sound()
     ensures { (image : List ℕ) → IsLeft image → area_reason (layout_in image) (height_of image) image ≡ None }
 {}
 
-/// A law: a clean file whose clean gate is odd is opened by its index.
+/// A law: a clean file of version 3 or later whose clean gate is odd is opened by its index.
 pub fn clean_files_are_quick()
     ensures { (image : List ℕ) → IsClean image → IsIndexed (version_of image) → clean_gate image ≡ 1 → IsQuick image }
 {}

@@ -31,39 +31,56 @@ use std::alloc::Global;
 /// comes where the station tells its bytes. `Memory` is want of memory, `Failed` a fault of the disk.
 pub fn open_quick<S: Station>(alloc: Global, station: &mut S) -> Result<Option<Parts>, OpenFault>
     requires clean { Told (S.view station.old) → IsClean (S.view station.old).held }
-    // The parts of the store, which agree with the file.
+    // Parts that are answered agree with the file, every window is within its bounds, the index has room for the layout's
+    // greatest height, and the file is within the station's reach.
     ensures agrees { IfOk result (λ given. IfSome given (λ parts. EachHeld (AgreesWith parts.place parts.tally parts.index) (S.view station.new))) }
     ensures fits { IfOk result (λ given. IfSome given (λ parts. Fits parts.place parts.tally parts.index parts.frames.journal)) }
     ensures room { IfOk result (λ given. IfSome given (λ parts. parts.index.hmax ≡ height_limit parts.place.layout)) }
     ensures reach { IfOk result (λ given. IfSome given (λ parts. file_length parts.place.layout ≤ (S.view station.old).fixed.reach)) }
+    // The file of such parts is of version 3 or later, no window is rested, and no intent waits.
     ensures indexed { IfOk result (λ given. IfSome given (λ parts. INDEXED ≤ parts.place.layout.version)) }
     ensures unrested { IfOk result (λ given. IfSome given (λ parts. parts.tally.marks ≡ no_marks parts.tally.height)) }
     ensures no_intent { IfOk result (λ given. IfSome given (λ parts. parts.intent ≡ None)) }
+    // On Ok nothing is pending, and if parts are answered the station is at rest.
     ensures rests { IfOk result (λ given. IfSome given (λ parts. RestsAt parts.place.layout parts.frames.turn (S.view station.new))) }
     ensures settled { OnOk result (NothingPending (S.view station.new)) }
 
-    // Which files are opened so, and which aren't.
+    // On Ok, if the station tells its bytes, parts are answered exactly if the file may be opened so (`IsQuick`).
     ensures quick { IfOk result (λ given. IfSome given (λ parts. Told (S.view station.old) → IsQuick (S.view station.old).held)) }
     ensures passed { IfOk result (λ given. IsNone given → Told (S.view station.old) → ¬ IsQuick (S.view station.old).held) }
+    // If the station tells its bytes, it fails only for want of memory or faults of the disk.
     ensures complete { Told (S.view station.old) → ¬ Rose (S.view station.old).disk_faults (S.view station.new).disk_faults →
         IsOk result ⊎ IsErrOf result OpenFault.Memory }
 
-    // What becomes of the file, and what is read. The sync comes first, before anything is read.
+    // The first call is a sync, before anything is read: behind it, whatever a crash leaves has the bytes that were held at
+    // entry, unless it failed and was the only call.
     ensures synced { SyncsFirst Same result (S.view station.old) (S.view station.new) }
+    // Reading changes nothing, and writes nothing.
     ensures steps { Steps Same (S.view station.old) (S.view station.new) }
     ensures unwritten { (S.view station.new).travel.written ≡ (S.view station.old).travel.written }
+    // If parts are answered, the header page, the nodes and the counts were read, each once from its start to its end, and no
+    // other byte.
     ensures travel { IfOk result (λ given. IfSome given (λ parts. (S.view station.new).travel ≡ after_quick parts.place.layout parts.tally.height (S.view station.old).travel)) }
+    // At None the header page was read, or nothing.
     ensures page { IfOk result (λ given. IsNone given → IsPageRead (S.view station.old).travel (S.view station.new).travel) }
+    // On a failure the header page was read, or nothing, and behind the page a front of the nodes, or all of them and a front of
+    // the counts.
     ensures front { IfErr result (λ e. IsQuickFront (S.view station.old) (S.view station.new).travel) }
+    // `NotStore` names the place of a node or a count that was read, in the order of the tests: of a node if no count was read,
+    // of a count behind all nodes. It lies in the piece that was read last, or all were read.
     ensures named { IfErr result (λ e. (place : ℕ) → e ≡ OpenFault.NotStore (Reason.Index place) → NamesRead (S.view station.old) place (S.view station.new).travel) }
+    // At most three calls, and one for each 64 nodes and each 1024 counts; at None three. If the station tells its bytes, that
+    // holds by the height of the file, whatever is answered.
     ensures calls { IfOk result (λ given. IfSome given (λ parts. (S.view station.new).calls ≤ (S.view station.old).calls + (3 + area_calls parts.tally.height))) }
     ensures page_calls { IfOk result (λ given. IsNone given → (S.view station.new).calls ≤ (S.view station.old).calls + 3) }
     ensures calls_told { Told (S.view station.old) → (S.view station.new).calls ≤ (S.view station.old).calls + (3 + area_calls (height_of (S.view station.old).held)) }
 
-    // Causes. Want of memory comes behind the sync and a sound header.
+    // `Memory` comes behind the sync and a sound header, and nothing is pending.
     ensures memory { IsErrOf result OpenFault.Memory → NothingPending (S.view station.new) × (Told (S.view station.old) → header_reason (S.view station.old).held ≡ None) }
+    // `NotStore` names a place of the index, and never comes if the station tells its bytes; `Damaged` never comes.
     ensures causes { IfErr result IsQuickFault }
     ensures told { IfErr result (λ e. (r : Reason) → e ≡ OpenFault.NotStore r → ¬ Told (S.view station.old)) }
+    // `Failed` comes only if the count of disk faults rose.
     ensures failed { IsErrOf result OpenFault.Failed → Rose (S.view station.old).disk_faults (S.view station.new).disk_faults }
 {
     let Ok(()) = station.sync() else {

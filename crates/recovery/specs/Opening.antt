@@ -34,25 +34,30 @@ use Rattle.recovery.specs.declared.parts.Parts.{Parts}
 -- What an opening comes to: which files it opens, why it refuses the others, and what becomes of the file. At each moment
 -- `opens` relates it to the file at entry; a file that `rests` says nothing is to be done to is read, and no more than `reads`.
 pub record OpensFile {T : Type 0} (opens : List ℕ → List ℕ → Type 0) (rests : List ℕ → Type 0) (reads : List ℕ → ℕ) (result : Result T OpenFault) (a b : View) : Type 0 where
-  -- the files that are opened mean a map, and those that aren't have this as their first reason
+  -- on Ok there is no reason against the file, and `NotStore` names the first one, if the station tells its bytes
   pub sound : OnOk result (Told a → opening_reason a.held ≡ None)
   pub refused : IfErr result (λ e. (r : Reason) → e ≡ NotStore r → Told a → opening_reason a.held ≡ Some r)
-  -- each file that means a map is opened, but for want of memory and faults of the disk
+  -- each file that means a map is opened, but for want of memory and faults of the disk, if the station tells its bytes
   pub complete : Told a → (m : Map) (height : ℕ) → Means a.held m height → ¬ Rose a.disk_faults b.disk_faults → IsOk result ⊎ IsErrOf result Memory
+  -- at every moment, and in the held bytes whatever is answered, the file comes by `opens` from the one at entry
   pub steps : Steps opens a b
-  -- what becomes of a file that is refused
+  -- a refused file represents what it did at every moment, and recovers to what it recovered to
   pub late : IfErr result (λ e. (r : Reason) → e ≡ NotStore r → Steps Restores a b)
+  -- a refusal for the header or the journal leaves every byte, and so does any refusal if no page is to be laid over the live
+  -- region
   pub early : IfErr result (λ e. (r : Reason) → e ≡ NotStore r → IsEarly r → LeavesFile a b)
   pub bare : IfErr result (λ e. (r : Reason) → e ≡ NotStore r → Told a → IsBare (layout_in a.held) a.held → LeavesFile a b)
+  -- behind a refusal nothing is pending
   pub refused_settled : IfErr result (λ e. (r : Reason) → e ≡ NotStore r → NothingPending b)
-  -- want of memory comes behind the sync and a sound header, and nothing is written then
+  -- want of memory comes behind the sync and a sound header: nothing is pending, and nothing is written
   pub memory : IsErrOf result Memory → LeavesFile a b
   pub memory_last : IsErrOf result Memory → NothingPending b × (Told a → header_reason a.held ≡ None)
-  -- a file to which nothing is to be done, and one that is no store by its header
+  -- a file to which nothing is to be done keeps every byte, nothing is written, and no more is read than `reads` says
   pub kept : Told a → rests a.held → LeavesFile a b
   pub one_pass : Told a → rests a.held → b.travel.read ≤ a.travel.read + reads a.held
+  -- a file with a reason against its header keeps every byte, and nothing is written
   pub unsound : Told a → header_reason a.held ≢ None → LeavesFile a b
-  -- where bytes are told a segment that is read again is as it was
+  -- if the station tells its bytes, a segment that is read again is as it was: `Damaged` never comes
   pub damaged : IfErr result (λ e. Told a → IsNoDamage e)
 
 -- more was done than one call that failed
