@@ -5,7 +5,7 @@ ghost use Rattle.std.specs.List.{list_all};
 ghost use Rattle.station.specs.Bytes.{Same};
 ghost use Rattle.station.specs.View.{Told, Rose};
 ghost use Rattle.station.specs.Steps.{Steps};
-ghost use Rattle.batch_intent.specs.declared.places.TheConstants.{INTENT_SIZE};
+ghost use Rattle.batch_intent.specs.declared.places.TheConstants.{INTENT, INTENT_SIZE};
 ghost use Rattle.header_gate.specs.declared.layout.TheConstants.{INTENT_VERSION};
 ghost use Rattle.header_gate.specs.Places.{IsSlotFormat, page_size};
 ghost use Rattle.map_model.specs.Store as model;
@@ -40,8 +40,9 @@ pub fn read_intent<S: Station>(
     // wrong place.
     ensures sound { OnOk result (Told (S.view station.old) → form_reason layout (S.view station.old).held ≡ None) }
     ensures refused { IfErr result (λ e. Told (S.view station.old) → (r : Reason) → e ≡ HeaderFault.NotStore r → form_reason layout (S.view station.old).held ≡ Some r) }
-    // The reason of `NotStore` is one of the intent, on every station.
+    // The reason of `NotStore` is one of the intent, on every station, and its place one in the intent, or the one behind it.
     ensures reason { IfErr result (λ e. (r : Reason) → e ≡ HeaderFault.NotStore r → (place : ℕ) × (r ≡ Reason.Intent place)) }
+    ensures within { IfErr result (λ e. (place : ℕ) → e ≡ HeaderFault.NotStore (Reason.Intent place) → (INTENT ≤ place) × (place ≤ INTENT + INTENT_SIZE)) }
     // Reading changes nothing, and writes nothing.
     ensures steps { Steps Same (S.view station.old) (S.view station.new) }
     ensures written { (S.view station.new).travel.written ≡ (S.view station.old).travel.written }

@@ -1,6 +1,6 @@
 -- The records of the map that a file means may be printed, where the file is one of bytes: they fit its slot format, and their keys
 -- and values are bytes.
-use Rattle.std.proofs.Common.{◌≡◌, inl, inr, ℕ, suc, ◌+◌, ◌-◌, ◌*◌, ◌^◌, ◌<◌, ◌≤◌, Bool, true, false, cond, ◌&&◌, List, [], ◌∷◌, ◌++◌, T, length, replicate, refl, sym, subst, arith, nat_le}
+use Rattle.std.proofs.Common.{◌≡◌, inl, inr, ℕ, suc, ◌+◌, ◌-◌, ◌*◌, ◌^◌, ◌<◌, ◌≤◌, Bool, true, false, cond, ◌&&◌, List, [], ◌∷◌, ◌++◌, T, length, replicate, refl, sym, ap, ◌∙◌, subst, arith, nat_le}
 use Rattle.std.specs.List.{All, flat_map, list_all, range_with_len}
 use Rattle.std.specs.FinMap.{entries, entries-insert, insert, len, put, remove}
 use Rattle.std.specs.FinMap.Entries.{by_order}
@@ -245,7 +245,7 @@ module _ (image : List ℕ) (m : Map) (height : ℕ) (means : Means image m heig
         height_is = omega (arith, header.height, means.represents.height_is);
         hmax_is = limit;
       } in
-      subst (λ (n : Map). len n ≤ upper_of (height_limit layout)) means.map_is
+      subst (λ (n : Map). len n ≤ upper_of (height_limit layout)) (ap (λ (x : State). x.map) means.begins_is ∙ means.map_is)
       (most_held (height_limit layout) (state_after_items (height_limit layout) before means.items).height (len (state_after_items (height_limit layout) before means.items).map) (items_within (height_limit layout) before means.items within))
 
   pub means_narrow : (layout.format ≤ wide) × (len m < 2 ^ 32)

@@ -31,6 +31,7 @@ batch_for items s a v n on is = record {
     | inr intent ↦ inr (intent_for items s a v is.behind on intent)
   ];
   is = is.is;
+  at_once = λ told one. is.at_once (on told) one;
 }
 
 -- the calls of a command, seen from before calls that tell as much

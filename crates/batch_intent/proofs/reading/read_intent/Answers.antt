@@ -84,3 +84,8 @@ returns-in-Ok-judge_intent-clause-fits g c items e =
 
 pub returns-in-Err-clause-reason : goal.returns-in-Err-clause-reason
 returns-in-Err-clause-reason g c r is = (INTENT + c.in-Err.place, cc)
+
+pub returns-in-Err-clause-within : goal.returns-in-Err-clause-within
+returns-in-Err-clause-within g c place is =
+    let same : INTENT + c.in-Err.place ≡ place = cc in
+    (omega (arith, same), omega (arith, same, c.in-Err.ensures.within))
