@@ -177,7 +177,7 @@ def section(crate: str) -> tuple[str, list[str]]:
     for name in reached:
         reached += [n for n in cited if n in cited[name] and n not in reached]
     rows += [r for n in records if n in reached for r in records[n][0]]
-    return f"## {crate}\n\n{about}\n\n| promise | where |\n|---|---|\n" + table(rows) + "\n", missing
+    return f"### {crate}\n\n{about}\n\n| promise | where |\n|---|---|\n" + table(rows) + "\n", missing
 
 
 def main() -> int:
