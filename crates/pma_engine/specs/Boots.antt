@@ -75,11 +75,14 @@ abbrev pub carried_out : List ℕ → List Boot → List ℕ → List Command
 carried_out start (b ∷ bs) (n ∷ counts) = take n (commands_on start b) ++ carried_out b.image bs counts
 carried_out start _ _ = []
 
--- There are such numbers for the boots. The file that the last of them left has the layout of the first, and means the map to which
--- they lead: that after all commands that were carried out, as one list.
+-- What any number of boots leaves.
 pub record BootsLead (start : List ℕ) (m : Map) (boots : List Boot) : Type 0 where
+  -- For each boot there is a number of commands: as many as it had begun to answer, or one more. They lead from the first map to
+  -- the last one.
   pub counts : List ℕ
   pub last : Map
   pub lead : LeadTo start m boots counts last
+  -- The last map is that after all these commands as one list: those of each boot behind those of the one before it.
   pub as_one : last ≡ map_after_commands (layout_in start) m (carried_out start boots counts)
+  -- The file that the last boot left has the layout of the first one, and means the last map.
   pub means : MeansMap (layout_in start) (left_by start boots) last

@@ -43,25 +43,31 @@ pub record SaidFront (text said_before said : List ℕ) : Type 0 where
 
 -- `dump`: no moment and no status changes the map
 pub record DumpsFile (status : ℕ) (a b : View) : Type 0 where
+  -- If nothing is pending at the entry, a crash at any moment leaves a file that has the layout of the one at the entry and means
+  -- its map. And so do the held bytes at the return, whatever the status.
   pub steps : NothingPending a → Run (λ image said. KeepsMeaning a.held image) (attached_by false a) b
   pub held : Told a → KeepsMeaning a.held b.held
-  -- of a store exactly its lines are said
+  -- With 0 the file is a valid store, and exactly the lines of its records were said, ascending, and the line with their number.
   pub done : status ≡ DONE → Told a → (opening_reason a.held ≡ None) × (SaidTold a → b.said ≡ a.said ++ dump_text (meant_map a.held))
-  -- or a front of them, and of any other file nothing
+  -- With every other status but 3 a front of this was said.
   pub front : (status ≡ REFUSED → ⊥) → Told a → SaidTold a → SaidFront (dump_text (meant_map a.held)) a.said b.said
-  -- refused it is as by a run: one line tells the first reason against the file
+  -- With 3 the file is refused, and left as by a run: one line tells the first reason against it.
   pub refused : status ≡ REFUSED → IsRefused a b
+  -- With 7 it is as `IsOutOfMemory` says.
   pub memory : status ≡ OUT_OF_MEMORY → IsOutOfMemory (attached_by false a) b
+  -- With 0 and 6 nothing is pending, and a file of version 3 or 4 has an even clean gate.
   pub settled : (status ≡ DONE) ⊎ (status ≡ REPLY_FAULT) → NothingPending b
-  -- once the store was open, an index in its file means nothing
   pub shut : (status ≡ DONE) ⊎ (status ≡ REPLY_FAULT) → Told a → IsShut b.held
-  -- of a store: where no call failed, it ends so, or for want of memory
+  -- A valid store ends with 0, or for want of memory with 7, if the counts of disk faults and of failed sayings didn't rise.
   pub complete : Told a → (m : Map) → MeansMap (layout_in a.held) a.held m → (Rose a.disk_faults b.disk_faults → ⊥) → (Rose a.say_faults b.say_faults → ⊥) → (status ≡ DONE) ⊎ (status ≡ OUT_OF_MEMORY)
-  -- nothing is written but by the opening: where it has nothing to do, nothing but the gate of an open index
+  -- Over a file to which nothing is to be done nothing is written but the gate of an open index, and with every status but 4
+  -- every other byte stays.
   pub unwritten : Told a → IsAllAtRest a.held → WritesGate a.held a.travel.written b.travel.written
   pub kept : (status ≡ DISK_FAULT → ⊥) → Told a → IsAllAtRest a.held → IsButClosed a.held a.held b.held
+  -- Over any file no more is written than an opening may.
   pub written : Told a → b.travel.written ≤ a.travel.written + reopening_cost a.held
-  -- the calls, with those of a line of refusal
+  -- It makes no more calls than an opening, one for each segment of the opened store, and one for each byte of the lines of the
+  -- map's records and their number; with 3 those of the opening and 512; besides the calls of the items of an intent.
   pub calls : (status ≡ REFUSED → ⊥) → Told a → CallsOpening (dump_calls a.held) (attached_by false a) b
   pub refused_calls : status ≡ REFUSED → Told a → CallsOpening (reopening_calls a.held + 512) (attached_by false a) b
 

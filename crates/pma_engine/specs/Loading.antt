@@ -121,14 +121,20 @@ abbrev pub IsLoadRefusal : List ℕ → SourceView → SourceView → Reply → 
 IsLoadRefusal old s0 s1 line = ((r : Reason) × (opening_reason old ≡ Some r) × (line ≡ reply.NotStore r))
     ⊎ ((opening_reason old ≡ None) × IsLoadAnswer old s0 s1 line)
 
--- A load was refused, and one line says so. Over a station that tells its bytes it tells the reason or the answer; a file that is
--- no store recovers to what it recovered to, and where no page is to be laid over its live region, it is as before; and where a
--- store has records, and an opening had nothing to do, every byte is as it was, but that the index may be closed.
+-- A load was refused.
 pub record IsLoadRefused (s0 s1 : SourceView) (a b : View) : Type 0 where
+  -- One line is said: whole, or a front of it if a saying failed.
   pub line : SaidTold a → (line : Reply) × IsRefusal line × SaysLine line a.said a b
+  -- Over a station that tells its bytes the line tells the first reason against the file; or of a valid store that it has
+  -- records, and how many; or, if it has none, the first line that no load text can have there, or one more than there are, if
+  -- the text ends before the line with the number of records; or that a record follows as many as the store may hold.
   pub why : Told a → (line : Reply) × IsLoadRefusal a.held s0 s1 line × (SaidTold a → SaysLine line a.said a b)
+  -- A file that is no store recovers to what it recovered to; and if no page is to be laid over its region (below version 4: if
+  -- its gate is even), every byte stays. But an odd clean gate may be closed besides, from version 3 on.
   pub recovers : Told a → (r : Reason) → opening_reason a.held ≡ Some r → IsButClosed a.held (recovered (layout_in a.held) a.held) (recovered (layout_in a.held) b.held)
   pub bare : Told a → (r : Reason) → opening_reason a.held ≡ Some r → IsBare (layout_in a.held) a.held → IsButClosed a.held a.held b.held
+  -- A store with records to which nothing is to be done keeps every byte, and nothing is written, but that an odd clean gate may
+  -- be closed.
   pub kept : Told a → IsAllAtRest a.held → 0 < len (meant_map a.held) → IsButClosed a.held a.held b.held × WritesGate a.held a.travel.written b.travel.written
 
 -- at most so many bytes are written by the reading of a text into a file of this layout that then has this height
@@ -151,33 +157,44 @@ pub record IsCutEarly (l : Layout) (s0 s1 : SourceView) : Type 0 where
 
 -- `load`, of whose text at most so many bytes are taken
 pub record LoadsFile (status most : ℕ) (s0 s1 : SourceView) (a b : View) : Type 0 where
-  -- at every moment and at the return: the map stays, or, where it was empty, it is that of the whole text
+  -- If nothing is pending at the entry, a crash at any moment leaves a file that has the layout of the one at the entry and means
+  -- its map, or, if that has no records, the map of the whole text, at the least height that holds them. And so do the held bytes
+  -- at the return, whatever the status.
   pub steps : NothingPending a → Run (λ image said. MayLoad s0 a.held image) (attached_by false a) b
   pub held : Told a → MayLoad s0 a.held b.held
+  -- It ends with 0 only for a valid store without records, and for a load text of fewer than `most` bytes that was read to its
+  -- end. Then the file is loaded, as `IsFileLoaded` says, and nothing is pending.
   pub done : status ≡ DONE → Told a → (opening_reason a.held ≡ None) × (meant_map a.held ≡ empty_map) × IsFileLoaded (layout_in a.held) s0 b.held
   pub whole : status ≡ DONE → SourceTold s0 → IsReadWhole most s0 s1
   pub settled : status ≡ DONE → NothingPending b
-  -- done, or cut for the source's sake, it leaves an index that means nothing in a file that has one
+  -- With 0, 5 and 8 a file of version 3 or 4 has an even clean gate.
   pub shut : IsRest status → Told a → IsShut b.held
-  -- with any other status but that of a disk call which failed, the map stays, in all that a crash may leave then too
+  -- With 3, 5, 7 and 8 the held bytes, and each image that a crash leaves then, have the layout of the file at the entry and mean
+  -- its map, if nothing is pending at the entry.
   pub kept : (status ≡ DONE → ⊥) → (status ≡ DISK_FAULT → ⊥) → NothingPending a → EachHeld (KeepsMeaning a.held) b
-  -- but for a line of refusal nothing is said
+  -- But for a line of refusal nothing is said.
   pub silent : (status ≡ REFUSED → ⊥) → b.said ≡ a.said
+  -- With 3 it is refused, as `IsLoadRefused` says.
   pub refused : status ≡ REFUSED → IsLoadRefused s0 s1 a b
+  -- With 7 it is as `IsOutOfMemory` says.
   pub memory : status ≡ OUT_OF_MEMORY → IsOutOfMemory (attached_by false a) b
-  -- at every status a front of the text was taken, of at most so many bytes
+  -- At every status what was taken is a front of what was left, of at most `most` bytes; with 8 of exactly as many.
   pub takes : SourceTold s0 → TakesAtMost most s0 s1
   pub too_long : status ≡ TOO_LONG → SourceTold s0 → length s0.left ≡ length s1.left + most
-  -- it ends for the source's sake only where no line that was taken whole is to be refused
+  -- With 5 and 8 the complete lines among the bytes that were taken make no refusal due: some load text begins with them, and
+  -- they have no more records than the store may hold.
   pub early : IsCutText status → SourceTold s0 → Told a → IsCutEarly (layout_in a.held) s0 s1
-  -- of a store: where no disk call failed, it ends so, or for want of memory, or with the one answer that is due, or for the source
+  -- A valid store, if no disk call failed, ends with 0 or 7; or with 3 and the one answer that is due; or, if it has no records,
+  -- with 5 or 8.
   pub complete : Told a → (m : Map) → MeansMap (layout_in a.held) a.held m → (Rose a.disk_faults b.disk_faults → ⊥) →
       (status ≡ DONE) ⊎ ((status ≡ OUT_OF_MEMORY) ⊎ (((status ≡ REFUSED) × ((line : Reply) × IsLoadAnswer a.held s0 s1 line)) ⊎ ((m ≡ empty_map) × IsCutText status)))
-  -- a text that a store without records admits, of fewer bytes than may be taken
+  -- A load text of fewer than `most` bytes that a store without records admits ends with 0 or 7, if the counts of disk faults and
+  -- of failed reads didn't rise.
   pub admitted : SourceTold s0 → Told a → MeansMap (layout_in a.held) a.held empty_map → (rows : List Record) → HasText (layout_in a.held) s0 rows → length s0.left < most →
       (Rose a.disk_faults b.disk_faults → ⊥) → (SourceRose s0 s1 → ⊥) → (status ≡ DONE) ⊎ (status ≡ OUT_OF_MEMORY)
+  -- With 0 no more is written than an opening may, and `8192 * F * 2^h + 9` bytes, at version 4 5 more, with F pages a segment
+  -- and h the height after it; at every status no more than with the greatest height in place of h.
   pub written : status ≡ DONE → Told a → b.travel.written ≤ a.travel.written + (reopening_cost a.held + load_cost (layout_in a.held) (height_of b.held))
-  -- and at every status no more than with the most records that a store of this layout may hold
   pub most_written : Told a → b.travel.written ≤ a.travel.written + (reopening_cost a.held + load_cost (layout_in a.held) (height_limit (layout_in a.held)))
 
 -- what a load into an open store of this layout with so many records came to, on whose station nothing is pending, where so many

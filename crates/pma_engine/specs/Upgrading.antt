@@ -84,27 +84,36 @@ opened_height image = (opened_items_state image).height
 abbrev pub next_height : List ℕ → ℕ
 next_height image = upgraded_height (layout_in image) (opened_height image)
 
--- A store was upgraded: it isn't one that is refused; it has slot format 2, with the layout else as it was; and the array, as
--- an opening makes it, is spread over the segments of the height that it may have then.
+-- A store was upgraded.
 pub record IsUpgraded (old new : List ℕ) : Type 0 where
+  -- The file is a valid store to which none of the three answers is due: it has format 1, a height limit of 1 or more, and no
+  -- more records than it may have then.
   pub sound : opening_reason old ≡ None
   pub due : (copy : ℕ) (line : Reply) → AnswersUpgrade (layout_in old) copy (len (meant_map old)) line → ⊥
+  -- It means the same map, at the height that its opening leaves, or at H - 1 if that is H, the greatest one.
   pub means : (m : Map) (height : ℕ) → Means old m height → Means new m (next_height old)
-  -- so it represents that map: no items of an intent wait for longer slots
+  -- No intent is to be applied.
   pub no_intent : has_pending new ≡ false
+  -- It has slot format 2, and its layout is else as it was.
   pub layout : layout_in new ≡ widened (layout_in old)
+  -- Its array is the opened one, spread over the segments of that height.
   pub array : array_of new ≡ resized (opened_items_state old).array (next_height old)
 
--- An upgrade was refused, and one line says so. Over a station that tells its bytes it tells the reason or the answer; a file that
--- is no store recovers to what it recovered to, and where no page is to be laid over its live region, it is as before; and where
--- an opening had nothing to do, every byte is as it was, but that the index may be closed. The copy that is live is the one that
--- was, where no items are to be applied.
+-- An upgrade was refused.
 pub record IsUpgradeRefused (a b : View) : Type 0 where
+  -- One line is said: whole, or a front of it if a saying failed.
   pub line : SaidTold a → (line : Reply) × IsRefusal line × SaysLine line a.said a b
+  -- Over a station that tells its bytes the line tells the first reason against the file; or of a valid store that it has format
+  -- 2, with the copy that is live at the return; or that its height limit is 0; or that it has more records than it may have
+  -- then, and how many, with the items of an intent.
   pub why : Told a → (line : Reply) × IsUpgradeRefusal a.held b.held line × (SaidTold a → SaysLine line a.said a b)
+  -- A file that is no store recovers to what it recovered to; and if no page is to be laid over its region (below version 4: if
+  -- its gate is even), every byte stays. But an odd clean gate may be closed besides, from version 3 on.
   pub recovers : Told a → (r : Reason) → opening_reason a.held ≡ Some r → IsButClosed a.held (recovered (layout_in a.held) a.held) (recovered (layout_in a.held) b.held)
   pub bare : Told a → (r : Reason) → opening_reason a.held ≡ Some r → IsBare (layout_in a.held) a.held → IsButClosed a.held a.held b.held
+  -- The live copy is the one at the entry, if no intent was to be applied.
   pub copy : Told a → has_pending a.held ≡ false → live_copy b.held ≡ live_copy a.held
+  -- A file to which nothing is to be done keeps every byte, and nothing is written, but that an odd clean gate may be closed.
   pub kept : Told a → IsAllAtRest a.held → IsButClosed a.held a.held b.held × WritesGate a.held a.travel.written b.travel.written
 
 -- at most so many bytes are written by the widening of a store of this layout and height: the other region's segments, and a flip
@@ -117,21 +126,28 @@ upgrade_cost l height = clear_cost l + widen_cost l height
 
 -- `upgrade`: no moment and no status changes the map, and none the layout but for the slot format
 pub record UpgradesFile (status : ℕ) (a b : View) : Type 0 where
+  -- If nothing is pending at the entry, a crash at any moment leaves a file that means the map of the one at the entry, in its
+  -- layout or in the same with slot format 2. And so do the held bytes at the return, whatever the status.
   pub steps : NothingPending a → Run (λ image said. MayUpgrade a.held image) (attached_by false a) b
   pub held : Told a → MayUpgrade a.held b.held
-  -- where it isn't done and no disk call failed, the held bytes keep the layout
+  -- With 3 and 7 the held bytes have the layout of the file at the entry and mean its map.
   pub kept : (status ≡ DONE → ⊥) → (status ≡ DISK_FAULT → ⊥) → Told a → KeepsMeaning a.held b.held
+  -- With 0 the file is upgraded, as `IsUpgraded` says, and nothing is pending.
   pub done : status ≡ DONE → Told a → IsUpgraded a.held b.held
   pub settled : status ≡ DONE → NothingPending b
-  -- an index in an upgraded file means nothing
+  -- With 0 a file of version 3 or 4 has an even clean gate.
   pub shut : status ≡ DONE → Told a → IsShut b.held
-  -- but for a line of refusal nothing is said
+  -- But for a line of refusal nothing is said.
   pub silent : (status ≡ REFUSED → ⊥) → b.said ≡ a.said
+  -- With 3 it is refused, as `IsUpgradeRefused` says.
   pub refused : status ≡ REFUSED → IsUpgradeRefused a b
+  -- With 7 it is as `IsOutOfMemory` says.
   pub memory : status ≡ OUT_OF_MEMORY → IsOutOfMemory (attached_by false a) b
-  -- of a store: where no disk call failed, it ends so, or for want of memory, or with the one answer that is due
+  -- A valid store, if no disk call failed, ends with 0 or 7, or with 3 and the one answer that is due.
   pub complete : Told a → (m : Map) → MeansMap (layout_in a.held) a.held m → (Rose a.disk_faults b.disk_faults → ⊥) →
       (status ≡ DONE) ⊎ ((status ≡ OUT_OF_MEMORY) ⊎ ((status ≡ REFUSED) × ((line : Reply) × IsUpgradeAnswer a.held b.held line)))
+  -- Whatever the status, no more is written than an opening may, and `8192 * 2^h + 9` bytes, at version 4 5 more, with h the
+  -- height after it.
   pub written : Told a → b.travel.written ≤ a.travel.written + (reopening_cost a.held + upgrade_cost (layout_in a.held) (opened_height a.held))
 
 -- what the upgrade of an open store came to, on whose station nothing is pending, where so many bytes may be written before it is
