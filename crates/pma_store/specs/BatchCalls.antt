@@ -15,7 +15,8 @@ use Rattle.pma_store.specs.Damaging.{IsNextTally, change_in, picked}
 use Rattle.pma_store.specs.Once.{AreOneCommit, edited_segments}
 use Rattle.pma_store.specs.Store.{StoreView}
 
--- Segments to which keys of the items belong, in a store of this height: each once, in ascending order.
+-- Segments to which keys of the items belong, in a store of this height: each once, in ascending order, and no more of them than
+-- items.
 pub record AreOwnSegments (items : List Update) (height : ℕ) (a : View) (segments : List ℕ) : Type 0 where
   pub ascends : Ascends segments
   pub few : length segments ≤ length items
@@ -78,7 +79,7 @@ pub record CallsIntent (items : List Update) (s : StoreView) (a b : View) : Type
   pub is_for : IsForIntent items s a calls
   pub most : b.calls ≤ a.calls + calls
 
--- what a batch comes to
+-- A batch makes at most so many calls.
 pub record CallsBatch (items : List Update) (s : StoreView) (a b : View) : Type 0 where
   pub calls : ℕ
   pub is_for : IsForBatch items s a calls

@@ -75,41 +75,51 @@ IsRefusal NoBatch = Unit {0}
 abbrev pub IsBatchPlace : Layout → ℕ → Type 0
 IsBatchPlace l p = IsUpdatePlace l p ⊎ IsIntentPlace p
 
--- A batch was made under no intent: at no moment any byte of the intent or of its gate was touched, and it wrote at most one
--- commit of the segments that its items edit; where they edit none, nothing.
+-- A batch was made under no intent, by at most one commit.
 pub record MakesAtOnce (items : List Update) (s : StoreView) (a b : View) : Type 0 where
+  -- At no moment any byte of the intent or of its gate is touched.
   pub touched : Steps (Touched (IsUpdatePlace s.place.layout)) a b
+  -- At most `8196 * F * k + 6` bytes are written for the k segments that its items edit, with F pages a segment, and nothing if k
+  -- is 0.
   pub written : b.travel.written ≤ a.travel.written + (8196 * s.place.layout.format * length (edited_segments (array_of a.held) items) + 6)
   pub unwritten : edited_segments (array_of a.held) items ≡ [] → b.travel.written ≡ a.travel.written
 
 -- A batch, as a store offers it.
 pub record Batches (items : List Update) (result : Result Batch StoreFault) (s t : StoreView) (a b : View) : Type 0 where
+  -- The answer is that of the ordered map: `NoBatch` in a file of version 1, else `Full` or what the items did, with their
+  -- charge.
   pub answer : IfOk result (λ done. Told a → done ≡ batch_answer (version_of s) (limit_of s) (state_in s a.held) items)
-  -- map, height, array and marks are those after all items, or as they were
+  -- On Ok map, height, array and marks are those after all items in their order, or as they were.
   pub state : OnOk result (Told a → state_in t b.held ≡ array_state_after_batch (version_of s) (limit_of s) (state_in s a.held) items)
-  -- where it is refused, nothing changes; and on a file without batches no call is made
+  -- With `Full` and `NoBatch` every byte and the store stay, and nothing is written; with `NoBatch` no call is made.
   pub refused : IfOk result (λ done. IsRefusal done → LeavesAll s t a b)
   pub unread : IfOk result (λ done. done ≡ NoBatch → (b.travel ≡ a.travel) × (b.calls ≡ a.calls))
-  -- at every moment none of the items or all of them, and no byte touched but an update's, the intent's and its gate's
+  -- A crash at any moment leaves a file that has the layout of the store, and means the map before the batch or the map after all
+  -- of its items, through rebalances, growths and shrinkages amid them; no byte differs but an update's, the intent's and its
+  -- gate's. The held bytes are such, whatever is answered.
   pub meant : Steps (BecomesMeant s.place.layout (map_of a.held) (map_after_batch (version_of s) (limit_of s) (map_of a.held) items)) a b
   pub touched : Steps (Touched (IsBatchPlace s.place.layout)) a b
   pub layout : t.place.layout ≡ s.place.layout
-  -- what it writes by its answer, by the state, and at most whatever is answered
+  -- On Ok, on every station, at most `4101 * F` bytes times its charge are written, with F pages a segment, and 514 more.
   pub images : IfOk result (λ done. b.travel.written ≤ a.travel.written + 4101 * s.place.layout.format * charge_in done + intent_cost_in done)
+  -- If bytes are told, at most 514 bytes are written and what its items cost, each in the state before it; whatever is answered,
+  -- 514 and the cost of those that were begun, so at a fault no more than what the item asks for at which it stopped.
   pub cost : IfOk result (λ done. Told a → b.travel.written ≤ a.travel.written + updates_cost s.place.layout (state_in s a.held) (items_made (version_of s) (limit_of s) (map_of a.held) items) + intent_cost_in done)
   pub most : Told a → WritesSome s.place.layout (state_in s a.held) (items_made (version_of s) (limit_of s) (map_of a.held) items) (a.travel.written + 514) b.travel.written
-  -- and whatever is told
+  -- On every station, whatever is answered, at most 514 bytes and for each item what one update may write at the greatest height.
   pub spent : b.travel.written ≤ a.travel.written + (most_of s.place.layout (length items) + 514)
-  -- the calls of the device: where it is refused, one for each segment to which a key belongs; and at most whatever is answered
+  -- If it is refused, it makes at most one call for each segment to which a key of its items belongs.
   pub looks : IfOk result (λ done. IsRefusal done → LooksOnce items s.tally.height a b)
+  -- On every station, whatever is answered, it makes no more calls than `IsForBatch` says.
   pub calls : CallsBatch items s a b
-  -- where its items are one commit in the state of the file, it is made under no intent
+  -- If bytes are told and its items are one commit in the state of the file, it goes by no intent, whatever is answered.
   pub at_once : Told a → AreOneCommit s.place.layout (state_in s a.held) items → MakesAtOnce items s a b
-  -- its charge and the rise of the potential are together at most 514 for each item
+  -- On Ok its charge and the rise of the potential are together at most 514 for each item that was made, on every station.
   pub paid : IfOk result (λ done. charge_in done + potential_of t.tally ≤ potential_of s.tally + 514 * made_in (length items) done)
-  -- it fails by the disk; by damage that is met while the keys are looked for, with nothing written; or in one of its items
+  -- It fails by the disk; or by damage of a segment that was read last while the keys were looked for, by its kept count, with
+  -- nothing written; or in one of its items, as an update does, by the counts that the items before it left.
   pub met : IfErr result (λ fault. (fault ≡ Failed) ⊎ ((IsMetLooking s.place s.tally fault b × (b.travel.written ≡ a.travel.written)) ⊎ IsMetMid items s t fault b))
-  -- where bytes are told it fails by the disk alone
+  -- If bytes are told and the count of disk faults didn't rise, it answers Ok.
   pub complete : Told a → ¬ Rose a.disk_faults b.disk_faults → IsOk result
 
 -- A batch within a store: besides, the store stands for its file again, and why it fails. Whether the store is closed is left

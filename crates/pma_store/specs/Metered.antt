@@ -30,9 +30,11 @@ IsKept m = IsMetered (view_of m)
 -- What a call notes that makes these updates in the state of the file. `updates_in` and `charge_in` find in what is answered
 -- on Ok how many were made, and what they are charged.
 pub record Notes {T : Type 0} (us : List Update) (result : Result T StoreFault) (updates_in charge_in : T → ℕ) (m n : MeteredView) (a : View) : Type 0 where
+  -- On Ok as many updates are noted as the answer tells, with their charges, on every station.
   pub by_answer : IfOk result (λ done. n.ledger ≡ noted (updates_in done) (charge_in done) m.ledger)
-  -- those that the state tells
+  -- If bytes are told, their number and charges are those that the state of the file determines.
   pub session : OnOk result (Told a → n.ledger ≡ noted (length us) (charge_after_items (limit_of m.store) (state_in m.store a.held) us) m.ledger)
-  -- nothing after a fault
+  -- A fault notes nothing.
   pub unnoted : OnErr result (n.ledger ≡ m.ledger)
+  -- The charges stay within their bound.
   pub metered : IsMetered n

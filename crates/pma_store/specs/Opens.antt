@@ -22,24 +22,30 @@ use Rattle.pma_store.specs.Costing.{WritesSome, most_of}
 use Rattle.pma_store.specs.Items.{IsItemPlace}
 use Rattle.pma_store.specs.Looking.{TellsOther}
 
--- The image has the layout that it had, means what it meant, and recovers to what it recovered to if something is wrong with it or
--- its intent; only the places of updates and the intent's gate may change, and where no items are to be applied, what brings the
--- file back.
+-- What an opening leaves of a file, at every moment and at the return.
 pub record OpensMeant (old new : List ℕ) : Type 0 where
+  -- The image has the layout of the old one, and means the map that it meant.
   pub means : (m : Map) (height : ℕ) → Means old m height → MeansMap (layout_in old) new m
+  -- If something is wrong with the old one or its intent, it recovers to what the old one recovered to.
   pub recovers : (r : Reason) → opening_reason old ≡ Some r → recovered (layout_in old) new ≡ recovered (layout_in old) old
+  -- No byte differs but those of an update's places and of the intent's gate.
   pub touched : Touched (IsItemPlace (layout_in old)) old new
+  -- If no intent is to be applied, it represents what the old one represented, and no byte differs but those of the journal's
+  -- gate, journal and regions.
   pub idle : has_pending old ≡ false → Opens old new
 
--- there is nothing to be done to the file, and no items are to be applied
+-- Nothing is to be done to the file: no page is to be laid over its live region, every window is within its bounds, and no intent
+-- is to be applied.
 pub record IsAllAtRest (image : List ℕ) : Type 0 where
   pub rest : IsAtRest image
   pub no_intent : has_pending image ≡ false
 
--- What an opening writes at most: what brings the file back; and where items are to be applied, besides what they write,
--- however many of them are made, and one byte for the intent's gate.
+-- What an opening writes at most.
 pub record WritesOpening (image : List ℕ) (before after : ℕ) : Type 0 where
+  -- If no intent is to be applied, at most `4096 * J + 1` bytes for a replay with a journal of J pages, and `(4 * 2^H - 2) *
+  -- (16392 * F + 6)` for a repair, by the greatest height H of the layout and slots of format F.
   pub back : has_pending image ≡ false → after ≤ before + opening_cost (layout_in image)
+  -- Whatever is answered, these, one byte for the intent's gate, and the cost of those items that were begun.
   pub items : WritesSome (layout_in image) (opened_state image) (pending image) (before + opening_cost (layout_in image) + 1) after
 
 -- what it writes at most in a file with this layout, whatever is told: as many items as an intent has, and one byte for its gate

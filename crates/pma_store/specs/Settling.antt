@@ -14,18 +14,21 @@ use Rattle.pma_store.specs.Readying.{clear_cost}
 use Rattle.pma_store.specs.Store.{StoreView}
 use Rattle.pma_store.specs.Touching.{IsClearPlace}
 
--- Nothing is pending, and no page is to be laid over the live region. At every moment the file means the same map, and no byte
--- but those of the gate and the journals was touched.
+-- A store was settled, or the disk failed.
 pub record SettlesStore {T : Type 0} (result : Result T StoreFault) (s t : StoreView) (a b : View) : Type 0 where
+  -- On Ok nothing is pending, no page is to be laid over the live region, and map, height, array and marks are as they were.
   pub nothing : OnOk result (NothingPending b)
   pub bare : OnOk result (Told b → IsBare s.place.layout b.held)
   pub state : OnOk result (Told a → state_in t b.held ≡ state_in s a.held)
-  -- the store is as it was, but for what it notes of the gate, and closed by a fault
+  -- The store is as it was, but for what it notes of the gate, and closed by a fault.
   pub store : t ≡ record s { turn = t.turn; closed = is_err result }
+  -- A crash at any moment leaves a file that means the same map in the same layout, and no byte differs but those of the gate and
+  -- the journals. The held bytes are such, whatever is answered.
   pub meant : Steps (MeansNow s.place.layout (map_of a.held)) a b
   pub touched : Steps (Touched (IsClearPlace s.place.layout)) a b
+  -- Costs: at version 4 at most 5 bytes written, none read, at most four calls; below it nothing.
   pub cost : b.travel.written ≤ a.travel.written + clear_cost s.place.layout
   pub unread : b.travel.read ≡ a.travel.read
   pub calls : b.calls ≤ a.calls + clear_calls s.place.layout
-  -- it fails by the disk alone
+  -- It fails by the disk alone.
   pub disk : IfErr result (λ fault. fault ≡ Failed)

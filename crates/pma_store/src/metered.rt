@@ -52,6 +52,7 @@ impl Model for Metered {
 impl Metered {
     /// Begins a session on a store.
     pub fn new(store: Store) -> Metered
+        // A session begins with no update and no charge, at the height of the store.
         ensures store { result.store ≡ store }
         ensures ledger { result.ledger ≡ empty_ledger store.tally.height }
         ensures metered { IsMetered result }
@@ -72,6 +73,8 @@ impl Metered {
 
     /// What was noted since the session began, and what the charges may come to.
     pub fn cost(&self) -> Cost
+        // The number of updates, the sum of their charges, and `514 * U + 32 * (h + 1) * 2^h` for U updates, with h the height at
+        // the start. The sum doesn't pass this bound, also after a fault.
         ensures cost { result ≡ cost_of self.now.ledger }
         ensures within { result.charge ≤ result.bound }
     {
@@ -120,15 +123,26 @@ impl Metered {
         requires open { IsOpenOn self.old.store (S.view station.old) }
         requires fits { IsTrue (is_record self.old.store.place.layout.format (key.now, value.now)) }
         requires few { self.old.ledger.updates < 2 ^ 63 }
+        // What a put comes to is `Puts`. On Ok the store is open on its file.
         ensures put { Puts key.now value.now result self.old.store self.new.store (S.view station.old) (S.view station.new) }
         ensures open { OnOk result (IsOpenOn self.new.store (S.view station.new)) }
+        // The store is closed exactly after a fault.
         ensures closed { self.new.store.closed ≡ is_err result }
+        // `Failed` comes only if the count of disk faults rose.
         ensures failed { IsErrOf result StoreFault.Failed → Rose (S.view station.old).disk_faults (S.view station.new).disk_faults }
+        // If the station tells its bytes, no other fault comes than `Failed`.
         ensures damaged { IfErr result (λ fault. Told (S.view station.old) → fault ≡ StoreFault.Failed) }
+        // A segment that a fault names is below `2^H`, with H the greatest height, a slot below 64, and two counts that it tells
+        // differ.
         ensures counted { IfErr result (TellsOther (2 ^ limit_of self.old.store)) }
+        // Damage is met before anything is written, and isn't that keys are out of order, unless by the kept counts such a change
+        // of some segment asks for a rebalance or a resize first.
         ensures early { IfErr result (IsMetFirst Add self.old.store.tally (S.view station.old) (S.view station.new)) }
+        // On every station the update goes by the kept counts and marks, as `UpdatesAt` says.
         ensures at { UpdatesAt (bind key.now value.now) result (λ done. is_new done.0) (λ done. done.1) self.old.store self.new.store (S.view station.old) (S.view station.new) }
+        // It is one update, which is noted with its charge if it answers Ok.
         ensures notes { Notes (bind key.now value.now ∷ []) result (λ done. 1) (λ done. charge_told self.new.store.tally.height (put_changes done.0) done.1) self.old self.new (S.view station.old) }
+        // On Ok at most `4101 * F` bytes times its charge are written, with F pages a segment, on every station.
         ensures images { IfOk result (λ done. (S.view station.new).travel.written ≤ (S.view station.old).travel.written + 4101 * self.old.store.place.layout.format * charge_told self.new.store.tally.height (put_changes done.0) done.1) }
     {
         match self.store.put(station, key, value) {
@@ -151,15 +165,26 @@ impl Metered {
     ) -> Result<(bool, Report), StoreFault>
         requires open { IsOpenOn self.old.store (S.view station.old) }
         requires few { self.old.ledger.updates < 2 ^ 63 }
+        // What a removal comes to is `Removes`. On Ok the store is open on its file.
         ensures removed { Removes key.now result self.old.store self.new.store (S.view station.old) (S.view station.new) }
         ensures open { OnOk result (IsOpenOn self.new.store (S.view station.new)) }
+        // The store is closed exactly after a fault.
         ensures closed { self.new.store.closed ≡ is_err result }
+        // `Failed` comes only if the count of disk faults rose.
         ensures failed { IsErrOf result StoreFault.Failed → Rose (S.view station.old).disk_faults (S.view station.new).disk_faults }
+        // If the station tells its bytes, no other fault comes than `Failed`.
         ensures damaged { IfErr result (λ fault. Told (S.view station.old) → fault ≡ StoreFault.Failed) }
+        // A segment that a fault names is below `2^H`, with H the greatest height, a slot below 64, and two counts that it tells
+        // differ.
         ensures counted { IfErr result (TellsOther (2 ^ limit_of self.old.store)) }
+        // Damage is met before anything is written, and isn't that keys are out of order, unless by the kept counts such a change
+        // of some segment asks for a rebalance or a resize first.
         ensures early { IfErr result (IsMetFirst Take self.old.store.tally (S.view station.old) (S.view station.new)) }
+        // On every station the update goes by the kept counts and marks, as `UpdatesAt` says.
         ensures at { UpdatesAt (unbind key.now) result (λ done. done.0) (λ done. done.1) self.old.store self.new.store (S.view station.old) (S.view station.new) }
+        // It is one update, which is noted with its charge if it answers Ok.
         ensures notes { Notes (unbind key.now ∷ []) result (λ done. 1) (λ done. charge_told self.new.store.tally.height done.0 done.1) self.old self.new (S.view station.old) }
+        // On Ok at most `4101 * F` bytes times its charge are written, with F pages a segment, on every station.
         ensures images { IfOk result (λ done. (S.view station.new).travel.written ≤ (S.view station.old).travel.written + 4101 * self.old.store.place.layout.format * charge_told self.new.store.tally.height done.0 done.1) }
     {
         match self.store.remove(station, key) {
@@ -184,12 +209,19 @@ impl Metered {
         requires some { 1 ≤ length intent.now }
         requires fit { T (list_all (fits_item self.old.store.place.layout.format) intent.now) }
         requires few { self.old.ledger.updates < 2 ^ 63 }
+        // What a batch comes to is `Batches`. On Ok the store is open on its file.
         ensures batch { Batches intent.now result self.old.store self.new.store (S.view station.old) (S.view station.new) }
         ensures open { OnOk result (IsOpenOn self.new.store (S.view station.new)) }
+        // The store is closed exactly after a fault.
         ensures closed { self.new.store.closed ≡ is_err result }
+        // `Failed` comes only if the count of disk faults rose.
         ensures failed { IsErrOf result StoreFault.Failed → Rose (S.view station.old).disk_faults (S.view station.new).disk_faults }
+        // If the station tells its bytes, no other fault comes than `Failed`.
         ensures damaged { IfErr result (λ fault. Told (S.view station.old) → fault ≡ StoreFault.Failed) }
+        // A segment that a fault names is below `2^H`, with H the greatest height, a slot below 64, and two counts that it tells
+        // differ.
         ensures counted { IfErr result (TellsOther (2 ^ limit_of self.old.store)) }
+        // For an accepted batch as many updates as it has items are noted, with the sum of their charges; for a refused one none.
         ensures notes { Notes (items_made (version_of self.old.store) (limit_of self.old.store) (map_of (S.view station.old).held) intent.now) result (made_in (length intent.now)) charge_in self.old self.new (S.view station.old) }
     {
         match self.store.batch(station, intent) {
@@ -210,10 +242,14 @@ impl Metered {
         key: &Key,
     ) -> Result<Option<Value>, StoreFault>
         requires open { IsOpenOn self.old.store (S.view station.old) }
+        // What a get comes to is `Gets`. On Ok the store is open on its file.
         ensures got { Gets key.now result self.old.store self.new.store (S.view station.old) (S.view station.new) }
         ensures open { OnOk result (IsOpenOn self.new.store (S.view station.new)) }
+        // `Failed` comes only if the count of disk faults rose.
         ensures failed { IsErrOf result StoreFault.Failed → Rose (S.view station.old).disk_faults (S.view station.new).disk_faults }
+        // If the station tells its bytes, no other fault comes than `Failed`.
         ensures damaged { IfErr result (λ fault. Told (S.view station.old) → fault ≡ StoreFault.Failed) }
+        // The ledger stays, with its charges within their bound.
         ensures ledger { self.new.ledger ≡ self.old.ledger }
         ensures metered { IsMetered self.new }
     {
@@ -237,10 +273,14 @@ impl Metered {
     /// Reads all segments in order, as [`Store::check`] does.
     pub fn check<S: Station>(&mut self, station: &mut S) -> Result<Checked, StoreFault>
         requires open { IsOpenOn self.old.store (S.view station.old) }
+        // What a check comes to is `Checks`. On Ok the store is open on its file.
         ensures checked { Checks result self.old.store self.new.store (S.view station.old) (S.view station.new) }
         ensures open { OnOk result (IsOpenOn self.new.store (S.view station.new)) }
+        // `Failed` comes only if the count of disk faults rose.
         ensures failed { IsErrOf result StoreFault.Failed → Rose (S.view station.old).disk_faults (S.view station.new).disk_faults }
+        // If the station tells its bytes, no other fault comes than `Failed`.
         ensures damaged { IfErr result (λ fault. Told (S.view station.old) → fault ≡ StoreFault.Failed) }
+        // The ledger stays, with its charges within their bound.
         ensures ledger { self.new.ledger ≡ self.old.ledger }
         ensures metered { IsMetered self.new }
     {
@@ -251,8 +291,10 @@ impl Metered {
     pub fn probe(&mut self, key: &Key, block: u32) -> Probe
         requires open { self.old.store.closed ≡ false }
         requires block { 1 ≤ block }
+        // What a probe answers is `Probes`. The store stays.
         ensures probed { Probes key.now block result self.old.store }
         ensures kept { self.new.store ≡ self.old.store }
+        // The ledger stays, with its charges within their bound.
         ensures ledger { self.new.ledger ≡ self.old.ledger }
         ensures metered { IsMetered self.new }
     {
