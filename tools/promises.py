@@ -144,10 +144,10 @@ def records_of(path: pathlib.Path) -> dict[str, tuple[list[tuple[str, str]], set
             words = ""
         if name and line and not line.startswith(" ") and not RECORD.match(line):
             close()
-            found[name] = (([(whole, f"`{name}`")] if whole else []) + rows, named)
+            found[name] = (([(whole, f"`{name}`")] if whole and rows else []) + rows, named)
             name = ""
         if name and not line:
-            found[name] = (([(whole, f"`{name}`")] if whole else []) + rows, named)
+            found[name] = (([(whole, f"`{name}`")] if whole and rows else []) + rows, named)
         below = False
         above = []
     return found
