@@ -41,11 +41,17 @@ impl Store {
         requires open { IsOpenOn self.old (S.view station.old) }
         requires some { 1 ≤ length intent.now }
         requires fit { T (list_all (fits_item self.old.place.layout.format) intent.now) }
+        // What a batch comes to is `Batches`. On Ok the store is open on its file.
         ensures batch { Batches intent.now result self.old self.new (S.view station.old) (S.view station.new) }
         ensures open { OnOk result (IsOpenOn self.new (S.view station.new)) }
+        // The store is closed exactly after a fault.
         ensures closed { self.new.closed ≡ is_err result }
+        // `Failed` comes only if the count of disk faults rose.
         ensures failed { IsErrOf result StoreFault.Failed → Rose (S.view station.old).disk_faults (S.view station.new).disk_faults }
+        // If the station tells its bytes, no other fault comes than `Failed`.
         ensures damaged { IfErr result (λ fault. Told (S.view station.old) → fault ≡ StoreFault.Failed) }
+        // A segment that a fault names is below `2^H`, with H the greatest height, a slot below 64, and two counts that it tells
+        // differ.
         ensures counted { IfErr result (TellsOther (2 ^ limit_of self.old)) }
     {
         match self.apply_batch(station, intent) {

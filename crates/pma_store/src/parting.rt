@@ -15,6 +15,7 @@ impl Store {
     pub fn from_parts(parts: Parts) -> Store
         requires none { parts.intent ≡ None }
         requires fits { Fits parts.place parts.tally parts.index parts.frames.journal }
+        // A store that is made of parts has just these, and isn't closed.
         ensures store { result ≡ record { place = parts.place; tally = parts.tally; index = parts.index; journal = parts.frames.journal; turn = parts.frames.turn; closed = false } }
         ensures is_store { IsStore result }
     {
@@ -25,6 +26,8 @@ impl Store {
     ///
     /// The parts are the store's own: where it was open, they agree with its file.
     pub fn into_parts(self) -> Parts
+        // The parts of a store are its own: place, counts and marks, index, room for a batch, and what the gate says; so of an
+        // open one they agree with its file. No items are to be applied.
         ensures place { result.place ≡ self.place }
         ensures tally { result.tally ≡ self.tally }
         ensures index { result.index ≡ self.index }

@@ -18,10 +18,15 @@ impl Store {
     /// becomes an empty one: two syncs.
     pub fn settle<S: Station>(&mut self, station: &mut S) -> Result<(), StoreFault>
         requires open { IsOpenOn self.old (S.view station.old) }
+        // What it comes to is `SettlesStore`.
         ensures settled { SettlesStore result self.old self.new (S.view station.old) (S.view station.new) }
+        // Below version 4 no call is made: nothing is pending there, and no page is to be laid.
         ensures untouched { self.old.place.layout.version ≢ PAIRED → station.new ≡ station.old }
+        // On Ok the store is open on its file.
         ensures open { OnOk result (IsOpenOn self.new (S.view station.new)) }
+        // The store is closed exactly after a fault.
         ensures closed { self.new.closed ≡ is_err result }
+        // `Failed` comes only if the count of disk faults rose.
         ensures failed { IsErrOf result StoreFault.Failed → Rose (S.view station.old).disk_faults (S.view station.new).disk_faults }
     {
         match self.array.clear(station) {
