@@ -1,5 +1,5 @@
 -- How many calls an opening makes behind the closing of an index.
-use Rattle.std.proofs.Common.{◌≡◌, inl, inr, ℕ, ◌+◌, ◌^◌, ◌≤◌, cond, List, length, take, ap, refl, false, sym, subst, ◌∙◌, arith}
+use Rattle.std.proofs.Common.{◌≡◌, inl, inr, ℕ, ◌+◌, ◌*◌, ◌^◌, ◌≤◌, nat_lt, cond, List, length, take, ap, refl, false, sym, subst, ◌∙◌, arith}
 use Rattle.std.specs.FinMap.{len}
 use Rattle.station.specs.Bytes.{Same, Touched}
 use Rattle.station.specs.Steps.{Steps}
@@ -7,7 +7,9 @@ use Rattle.station.specs.View.{View, Told, attached_by}
 use Rattle.station.proofs.Composition.{told_on, weaken}
 use Rattle.density_rule.specs.Repair.{repair_window}
 use Rattle.header_gate.specs.Header.{layout_in}
-use Rattle.header_gate.specs.Places.{height_limit}
+use Rattle.header_gate.specs.Places.{height_limit, page_size, segment_size}
+use Rattle.header_gate.specs.declared.layout.TheConstants.{INTENT_VERSION}
+use Rattle.batch_intent.specs.declared.places.TheConstants.{INTENT_SIZE}
 use Rattle.map_model.specs.Array.{counts_of}
 use Rattle.map_model.specs.Image.{height_of}
 use Rattle.map_model.specs.ArrayState.{opened_state}
@@ -16,7 +18,7 @@ use Rattle.segment_frames.specs.Lists.{most_segments}
 use Rattle.index_file.specs.Clean.{IsCleanPlace}
 use Rattle.batch_intent.specs.Means.{pending}
 use Rattle.recovery.specs.Costs as costs
-use Rattle.recovery.specs.Costs.{back_calls, mending_calls, asked_opening, opening_calls}
+use Rattle.recovery.specs.Costs.{back_calls, mending_calls, asked_opening, opening_calls, opening_reads}
 use Rattle.recovery.specs.Intents.{may_meet}
 use Rattle.pma_store.specs.BatchCalls.{IsForItems}
 use Rattle.pma_store.specs.Opens.{AreForPending, CallsOpening, IsAllAtRest, opened_tally}
@@ -41,6 +43,14 @@ module _ (old new : List ℕ) (touched : Touched IsCleanPlace old new) where
   pub most_same : opening_calls (layout_in new) (height_of new) ≡ opening_calls (layout_in old) (height_of old)
   most_same t = opening_calls (layout_same old new touched t) (height_same old new touched t)
 
+  -- and for the same bytes
+  reads_same : opening_reads new ≡ opening_reads old
+  reads_same t =
+      page_size
+      + (costs.bare_reads (layout_same old new touched t) + segment_size (layout_same old new touched t) * 2 ^ height_same old new touched t
+      + cond (nat_lt (layout_same old new touched t).version INTENT_VERSION) 0 (cond (has_same old new touched t)
+      (1 + INTENT_SIZE + cond (may_meet (height_limit (layout_same old new touched t)) (len (map_same old new touched t)) (pending_same old new touched t)) (segment_size (layout_same old new touched t) * 2 ^ height_same old new touched t) 0) 1))
+
   -- with the same counts
   tally_same : opened_tally new ≡ opened_tally old
   tally_same t = let x = first_same old new touched t in record { hmax = height_limit (layout_same old new touched t); height = x.height; counts = counts_of x.array; marks = x.marks }
@@ -60,6 +70,12 @@ pub region_calls : (closing : ℕ) (a c b : View) → Steps (Touched IsCleanPlac
 region_calls closing a c b steps few opens told rest =
     let touched = steps.held told in
     omega (arith, few, opens (told_on steps.frame told) (rests a.held c.held touched rest), back_same a.held c.held touched)
+
+-- and reads as many bytes, with those of the closing
+pub region_bytes : (a c b : View) → Steps (Touched IsCleanPlace) a c → c.travel.read ≤ a.travel.read + page_size → (Told c → IsAllAtRest c.held → b.travel.read ≤ c.travel.read + opening_reads c.held) → Told a → IsAllAtRest a.held → b.travel.read ≤ a.travel.read + (page_size + opening_reads a.held)
+region_bytes a c b steps few opens told rest =
+    let touched = steps.held told in
+    omega (arith, few, opens (told_on steps.frame told) (rests a.held c.held touched rest), reads_same a.held c.held touched)
 
 -- what is made before it is added
 pub opening_behind : (closing before behind : ℕ) (a c b : View) → Steps (Touched IsCleanPlace) a c → c.calls ≤ a.calls + closing → Told a → behind ≡ before → CallsOpening behind c b → CallsOpening (closing + before) a b

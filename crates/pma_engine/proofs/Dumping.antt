@@ -1,5 +1,5 @@
 -- What comes of a dump, from the map that its file means at the entry.
-use Rattle.std.proofs.Common.{◌≡◌, ◌⊎◌, inl, inr, ℕ, ◌+◌, ◌^◌, ◌≤◌, List, ◌++◌, length, take, false, Some, None, Result, Ok, Err, refl, sym, ◌∙◌, ap, subst, arith, length-append}
+use Rattle.std.proofs.Common.{◌≡◌, ◌⊎◌, inl, inr, ℕ, ◌+◌, ◌-◌, ◌*◌, ◌^◌, ◌≤◌, List, ◌++◌, length, take, false, Some, None, Result, Ok, Err, refl, sym, ◌∙◌, ap, subst, arith, length-append}
 use Rattle.std.specs.List.{flat_map}
 use Rattle.std.specs.FinMap.{entries}
 use Rattle.std.proofs.lemmas.List.{append-nil, take-append-le}
@@ -17,7 +17,10 @@ use Rattle.batch_intent.specs.Means.{MeansMap, meant_map}
 use Rattle.range_scan.specs.SweepView.{SweepView}
 use Rattle.range_scan.specs.Sweeping.{scan_of}
 use Rattle.range_scan.specs.Walk.{after_walk}
-use Rattle.range_scan.proofs.Walks.{walk_written}
+use Rattle.range_scan.proofs.Walks.{walk_read, walk_written}
+use Rattle.recovery.specs.Costs.{opening_reads}
+use Rattle.header_gate.specs.Places.{page_size, segment_size}
+use Rattle.key_slot.proofs.SegmentLaws.{times_up}
 use Rattle.window_tally.specs.View.{TallyView}
 use Rattle.segment.specs.declared.fault.Damage.{Damage}
 use Rattle.recovery.specs.declared.fault.OpenFault.{OpenFault}
@@ -157,7 +160,7 @@ pub record Comes (status : ℕ) (a b : View) : Type 0 where
   pub disk : status ≡ DISK_FAULT → Rose a.disk_faults b.disk_faults
   pub reply : status ≡ REPLY_FAULT → Rose a.say_faults b.say_faults
 
-module _ (a b : View) (law : Lawful a) (ab : Steps Reopens (attached_by false a) b) (asked : Told a → CallsOpening (reopening_calls a.held) (attached_by false a) b) where
+module _ (a b : View) (law : Lawful a) (ab : Steps Reopens (attached_by false a) b) (asked : Told a → CallsOpening (reopening_calls a.held) (attached_by false a) b) (looked : Told a → IsAllAtRest a.held → b.travel.read ≤ a.travel.read + (page_size + opening_reads a.held)) where
   module _ (d : View) where
     -- a file that was not opened isn't refused
     quiet_file : (fault : OpenFault) → IsUnopened fault (attached_by false a) b → (status : ℕ) → (status ≡ DISK_FAULT) ⊎ (status ≡ OUT_OF_MEMORY) → (status ≡ DISK_FAULT → fault ≡ opening.Failed) → (status ≡ OUT_OF_MEMORY → fault ≡ opening.Memory) → Comes status a b
@@ -177,6 +180,7 @@ module _ (a b : View) (law : Lawful a) (ab : Steps Reopens (attached_by false a)
         unwritten = unopened.unwritten;
         kept = λ no_disk told rest. elim is [ inl e ↦ absurd (no_disk e) | inr e ↦ but_of (unopened.memory (memory e)).closes told ];
         written = unopened.cost;
+        read = λ told rest. omega (arith, looked told rest);
         calls = λ other told. opening_more (reopening_calls a.held) (2 ^ opened_height a.held + length (dump_text (meant_map a.held))) (attached_by false a) b b (omega arith) (asked told);
         refused_calls = λ e. absurd (other REFUSED ((λ x. omega (arith, x)), (λ x. omega (arith, x))) e);
       };
@@ -205,6 +209,7 @@ module _ (a b : View) (law : Lawful a) (ab : Steps Reopens (attached_by false a)
         unwritten = λ told rest. subst (WritesGate a.held a.travel.written) (sym (ap (λ (x : Travel). x.written) says.travel)) (unopened.unwritten told rest);
         kept = λ other told rest. subst (IsButClosed a.held a.held) (sym says.held) (kept told rest);
         written = λ told. omega (arith, unopened.cost told, ap (λ (x : Travel). x.written) says.travel);
+        read = λ told rest. omega (arith, looked told rest, ap (λ (x : Travel). x.read) says.travel);
         calls = λ other. absurd (other refl);
         refused_calls = λ e told. opening_more (reopening_calls a.held) 512 (attached_by false a) b d line_calls (asked told);
       };
@@ -300,6 +305,18 @@ module _ (a b : View) (law : Lawful a) (ab : Steps Reopens (attached_by false a)
         unwritten = λ told rest. subst (WritesGate a.held a.travel.written) (sym dumps.looks.unwritten) (opened.unwritten told rest);
         kept = λ other told rest. subst (IsButClosed a.held a.held) (sym (dumps.looks.held (on told))) (opened.kept told rest);
         written = λ told. omega (arith, opened.cost told, dumps.looks.unwritten);
+        read = λ told rest.
+            let to = dumps.walks.0 in
+            let size = segment_size v.place.layout in
+            let same : size * 2 ^ v.tally.height ≡ segment_size (layout_in a.held) * 2 ^ opened_height a.held = (λ i. segment_size (opened.layout told i) * 2 ^ same_height told i) in
+            omega (
+              arith,
+              looked told rest,
+              ap (λ (x : Travel). x.read) dumps.walks.1.travel,
+              walk_read v.place.layout v.place.region 0 to b.travel,
+              times_up size (to - 0) (2 ^ v.tally.height) (omega (arith, dumps.walks.1.within)),
+              same,
+            );
         calls = λ other told.
             opening_more (reopening_calls a.held) (2 ^ opened_height a.held + length (dump_text (meant_map a.held))) (attached_by false a) b d
             (omega (arith, dumps.calls (on told), ap length (same_text told), ap (λ (h : ℕ). 2 ^ h) (same_height told))) (asked told);

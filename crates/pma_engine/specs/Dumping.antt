@@ -1,14 +1,16 @@
 -- What the dump of a file comes to.
-use Rattle.std.specs.Prelude.{◌≡◌, ◌⊎◌, ℕ, ◌+◌, ◌^◌, ◌≤◌, List, ◌++◌, length, take, false, None}
+use Rattle.std.specs.Prelude.{◌≡◌, ◌⊎◌, ℕ, ◌+◌, ◌*◌, ◌^◌, ◌≤◌, List, ◌++◌, length, take, false, None}
 use Rattle.std.specs.List.{flat_map}
 use Rattle.std.specs.FinMap.{entries}
 use Rattle.station.specs.View.{View, Told, SaidTold, NothingPending, Rose, attached_by}
 use Rattle.station.specs.Steps.{Run}
 use Rattle.header_gate.specs.Header.{layout_in}
+use Rattle.header_gate.specs.Places.{page_size, segment_size}
 use Rattle.index_file.specs.Clean.{IsShut}
 use Rattle.map_model.specs.Image.{map_of}
 use Rattle.map_model.specs.Store.{Map}
 use Rattle.batch_intent.specs.Means.{MeansMap, meant_map, opening_reason}
+use Rattle.recovery.specs.Costs.{opening_reads}
 use Rattle.command_text.specs.Answers.{range_lines}
 use Rattle.command_text.specs.Reply.{reply_text}
 use Rattle.pma_store.specs.Opens.{CallsOpening, IsAllAtRest}
@@ -66,6 +68,8 @@ pub record DumpsFile (status : ℕ) (a b : View) : Type 0 where
   pub kept : (status ≡ DISK_FAULT → ⊥) → Told a → IsAllAtRest a.held → IsButClosed a.held a.held b.held
   -- Over any file no more is written than an opening may.
   pub written : Told a → b.travel.written ≤ a.travel.written + reopening_cost a.held
+  -- Over a file to which nothing is to be done no more is read than by the opening, and each segment once more.
+  pub read : Told a → IsAllAtRest a.held → b.travel.read ≤ a.travel.read + (page_size + opening_reads a.held + segment_size (layout_in a.held) * 2 ^ opened_height a.held)
   -- It makes no more calls than an opening, one for each segment of the opened store, and one for each byte of the lines of the
   -- map's records and their number; with 3 those of the opening and 512; besides the calls of the items of an intent.
   pub calls : (status ≡ REFUSED → ⊥) → Told a → CallsOpening (dump_calls a.held) (attached_by false a) b

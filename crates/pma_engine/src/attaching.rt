@@ -4,12 +4,12 @@ ghost use Rattle.std.specs.Prelude.{◌≡◌, ◌+◌, ◌≤◌, None, Some, O
 ghost use Rattle.station.specs.Steps.{Says};
 ghost use Rattle.station.specs.View.{Told, SaidTold, EachHeld, NamedBy, attached_by};
 ghost use Rattle.header_gate.specs.Header.{layout_in};
-ghost use Rattle.header_gate.specs.Places.{file_length};
+ghost use Rattle.header_gate.specs.Places.{file_length, page_size};
 ghost use Rattle.index_file.specs.Clean.{IsClean, IsOpenIndex};
 ghost use Rattle.index_file.specs.Opening.{IsQuick};
 ghost use Rattle.index_file.specs.Reading.{area_calls};
 ghost use Rattle.map_model.specs.Image.{height_of};
-ghost use Rattle.recovery.specs.Costs.{asked_opening, back_calls, opening_calls};
+ghost use Rattle.recovery.specs.Costs.{asked_opening, back_calls, opening_calls, opening_reads};
 ghost use Rattle.pma_store.specs.Opens.{CallsOpening, IsAllAtRest};
 ghost use Rattle.pma_store.specs.Store.{IsOpenOn};
 ghost use Rattle.redo_journal.specs.Rest.{RestsAt};
@@ -40,6 +40,8 @@ pub(crate) fn open_file<S: Station>(
     requires named { NamedBy name.now (S.view station.old).fixed.name }
     requires clean { quick ≡ true → Told (S.view station.old) → IsClean (S.view station.old).held }
     ensures opens { OpensStore quick result (attached_by false (S.view station.old)) (S.view station.new) }
+    ensures reads { quick ≡ false → Told (S.view station.old) → IsAllAtRest (S.view station.old).held →
+        (S.view station.new).travel.read ≤ (S.view station.old).travel.read + (page_size + opening_reads (S.view station.old).held) }
     ensures calls { quick ≡ false → Told (S.view station.old) → CallsOpening (reopening_calls (S.view station.old).held) (attached_by false (S.view station.old)) (S.view station.new) }
 {
     let Ok(()) = station.attach(name, false) else {
@@ -91,6 +93,8 @@ fn open_by_region<S: Station>(alloc: Global, station: &mut S) -> Result<Store, O
     ensures calls_asked { OnOk result (Told (S.view station.old) → CallsOpening (4 + asked_opening (S.view station.old).held + sync_calls (layout_in (S.view station.old).held)) (S.view station.old) (S.view station.new)) }
     ensures calls_at_rest { Told (S.view station.old) → let old = (S.view station.old).held in
         IsAllAtRest old → (S.view station.new).calls ≤ (S.view station.old).calls + (4 + 3 + back_calls old + sync_calls (layout_in old)) }
+    ensures reads_at_rest { Told (S.view station.old) → let old = (S.view station.old).held in
+        IsAllAtRest old → (S.view station.new).travel.read ≤ (S.view station.old).travel.read + (page_size + opening_reads old) }
     ensures calls_shut { Told (S.view station.old) → let old = (S.view station.old).held in
         IsAllAtRest old → ¬ IsOpenIndex old → (S.view station.new).calls ≤ (S.view station.old).calls + (2 + 3 + back_calls old + sync_calls (layout_in old)) }
 {

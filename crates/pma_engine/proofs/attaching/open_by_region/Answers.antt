@@ -7,7 +7,8 @@ use Rattle.map_model.specs.Image.{height_of}
 use Rattle.recovery.specs.Costs.{asked_opening, opening_calls}
 use Rattle.pma_engine.specs.Opening.{sync_calls}
 use Rattle.pma_engine.proofs.Alike.{layout_same}
-use Rattle.pma_engine.proofs.Calling.{asked_same, most_same, opening_behind, opening_more, region_calls}
+use Rattle.station.specs.declared.travel.Travel.{Travel}
+use Rattle.pma_engine.proofs.Calling.{asked_same, most_same, opening_behind, opening_more, region_bytes, region_calls}
 use Rattle.pma_engine.proofs.Opening.{opens_failed, region_failed, region_synced}
 use Rattle.pma_engine.proofs.attaching.open_by_region.Goals as goal
 use Rattle.pma_engine.proofs.attaching.open_by_region.Goals.{After-sync_opened}
@@ -105,3 +106,20 @@ returns-in-Ok-open_on-clause-calls_asked g c =
 
 pub returns-in-Err-clause-calls : goal.returns-in-Err-clause-calls
 returns-in-Err-clause-calls g c told = inl (omega (arith, c.close_index.ensures.calls))
+
+-- The bytes that are read.
+
+pub returns-in-Ok-open_on-clause-reads_at_rest : goal.returns-in-Ok-open_on-clause-reads_at_rest
+returns-in-Ok-open_on-clause-reads_at_rest g c told rest =
+    omega (
+      arith,
+      region_bytes (g.S.Station.view c.args.station.now) (g.S.Station.view c.close_index.new.station) (g.S.Station.view c.open_on.new.station) c.close_index.ensures.steps c.close_index.ensures.reads c.open_on.ensures.opens.one_pass told rest,
+      ap (λ (t : Travel). t.read) c.sync_opened.ensures.travel,
+    )
+
+pub returns-in-Err-open_on-clause-reads_at_rest : goal.returns-in-Err-open_on-clause-reads_at_rest
+returns-in-Err-open_on-clause-reads_at_rest g c told rest =
+    region_bytes (g.S.Station.view c.args.station.now) (g.S.Station.view c.close_index.new.station) (g.S.Station.view c.open_on.new.station) c.close_index.ensures.steps c.close_index.ensures.reads c.open_on.ensures.opens.one_pass told rest
+
+pub returns-in-Err-clause-reads_at_rest : goal.returns-in-Err-clause-reads_at_rest
+returns-in-Err-clause-reads_at_rest g c told rest = omega (arith, c.close_index.ensures.reads)
