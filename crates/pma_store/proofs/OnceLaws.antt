@@ -1,12 +1,10 @@
 -- Which segments items edit, and that a batch which is one commit is made as one.
-use Rattle.std.proofs.Common.{◌≡◌, ◌⊎◌, inl, inr, ℕ, zero, suc, ◌+◌, ◌*◌, ◌^◌, ◌<◌, ◌≤◌, ◌==◌, ◌&&◌, ◌||◌, Bool, true, false, cond, not, nat_lt, List, [], ◌∷◌, ◌++◌, length, take, get_or, Result, Err, Some, None, refl, sym, ap, subst, ◌∙◌, arith}
-use Rattle.std.specs.Prelude.{is_ok}
+use Rattle.std.proofs.Common.{◌≡◌, inl, inr, ℕ, zero, suc, ◌+◌, ◌*◌, ◌^◌, ◌<◌, ◌≤◌, ◌==◌, ◌&&◌, ◌||◌, Bool, true, false, cond, not, nat_lt, List, [], ◌∷◌, ◌++◌, length, take, get_or, Result, Err, refl, sym, ap, subst, ◌∙◌, arith}
 use mathlib.Core.Bool.{true≢false}
 use Rattle.std.specs.Str.{bytes_eq}
-use Rattle.std.proofs.lemmas.Bool.{cases_eq, cases_lt, eq-eqb, ne_eqb}
+use Rattle.std.proofs.lemmas.Bool.{cases_eq, cases_lt, ne_eqb}
 use Rattle.std.proofs.lemmas.List.{get_or-map, get_or-take, length-map, length-take-le, take_all}
 use Rattle.density_rule.specs.Updates.{counts_after}
-use Rattle.density_rule.specs.Windows.{IsBalanced}
 use Rattle.header_gate.specs.declared.layout.Layout.{Layout}
 use Rattle.header_gate.specs.Recovered.{Ascends}
 use Rattle.key_slot.specs.Record.{Bytes, Record, IsAscending}
@@ -29,7 +27,7 @@ use Rattle.window_tally.specs.Choice.{adds}
 use Rattle.window_tally.specs.declared.Change.TheVariants.{Add, Take}
 use Rattle.pma_store.specs.declared.look.Look.{Look}
 use Rattle.pma_store.specs.Looked.{AreLoaded, BelongThere, LacksRoom}
-use Rattle.pma_store.specs.Once.{AreOneCommit, AreUsed, Empties, IsEdited, IsShort, Overfills, edited_segments, stands_in, with_number}
+use Rattle.pma_store.specs.Once.{AreUsed, IsEdited, IsShort, edited_segments, stands_in, with_number}
 use Rattle.pma_store.specs.Own.{edits_by, own_items, FindsIn, HasEdit}
 use Rattle.pma_store.proofs.BatchCalls.{no_more}
 use Rattle.pma_store.proofs.LookLaws.{before_last, found_there, last_there, one_longer}

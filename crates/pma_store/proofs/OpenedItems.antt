@@ -31,7 +31,6 @@ use Rattle.segment.specs.declared.fault.Damage.TheVariants.{NotSegment, OtherCou
 use Rattle.segment.specs.declared.fault.StoreFault.{StoreFault}
 use Rattle.segment.specs.declared.fault.StoreFault.TheVariants as store
 use Rattle.pma_store.specs.Answers.{state_in}
-use Rattle.pma_store.specs.Changing.{most_written}
 use Rattle.pma_store.specs.Costing.{updates_cost}
 use Rattle.pma_store.specs.Items.{IsItemPlace, MakesItems}
 use Rattle.pma_store.specs.Looking.{TellsOther}

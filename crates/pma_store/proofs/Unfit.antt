@@ -1,8 +1,7 @@
 -- A batch that was looked over and doesn't fit isn't one commit in the state of its file.
-use Rattle.std.proofs.Common.{◌≡◌, inl, inr, ℕ, ◌*◌, ◌^◌, ◌<◌, ◌≤◌, true, false, cond, List, length, Option, Some, None, is_some, sym, ap, ◌∙◌, arith}
+use Rattle.std.proofs.Common.{◌≡◌, inl, inr, ℕ, ◌*◌, ◌^◌, true, cond, List, length, Option, Some, None, is_some, sym, ap, ◌∙◌, arith}
 use mathlib.Core.Bool.{true≢false}
 use Rattle.std.proofs.lemmas.Nat.{pow_pos}
-use Rattle.map_model.specs.Array.{counts_of}
 use Rattle.map_model.specs.Image.{array_of, map_of}
 use Rattle.map_model.specs.Items.{are_distinct, count_items, first_full, no_items}
 use Rattle.map_model.specs.Store.{Update}
@@ -15,7 +14,7 @@ use Rattle.pma_store.specs.Answers.{state_in}
 use Rattle.pma_store.specs.AtOnce.{IsUnfit}
 use Rattle.pma_store.specs.Judging.{counts_of as counts_judged, edits_of, judged_of}
 use Rattle.pma_store.specs.Looked.{AreLoaded, BelongThere, HasLooked}
-use Rattle.pma_store.specs.Once.{AreOneCommit, AreUsed, edited_segments}
+use Rattle.pma_store.specs.Once.{AreOneCommit, AreUsed}
 use Rattle.pma_store.specs.Store.{StoreView, Stands, limit_of}
 use Rattle.pma_store.proofs.Effects.{charges_edits, edits_in}
 use Rattle.pma_store.proofs.OnceLaws.{are_all, edited_charge, not_short, used_few}
