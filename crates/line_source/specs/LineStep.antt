@@ -73,7 +73,7 @@ pub record IsSpent (reader : ReaderView) (source : SourceView) : Type 0 where
   pub more : reader.ended ≡ false
   -- what is held and the bytes that may still be taken have no line feed
   pub no_feed : NoFeed (reader.held ++ take reader.room source.left)
-  -- the source has as many bytes left as may still be taken
+  -- the source has at least as many bytes left as may still be taken
   pub room : reader.room ≤ length source.left
 
 -- `Spent` comes exactly there, unless a read fails

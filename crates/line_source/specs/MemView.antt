@@ -12,7 +12,7 @@ pub record MemView : Type 0 where
   pub fail : List ℕ
   -- how many calls there were, up to the last value of a `u64`
   pub calls : ℕ
-  -- how many of them failed
+  -- how many of them failed, likewise
   pub faults : ℕ
 
 -- it tells what it has left

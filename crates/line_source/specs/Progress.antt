@@ -31,7 +31,7 @@ pub record HasGiven (r0 : ReaderView) (s0 : SourceView) (given : List (List ℕ)
   -- each byte taken lowered the room by one, and what was taken is a front of what was left
   pub taken : SourceTold s0 → length s0.left + r.room ≡ length s.left + r0.room
   pub front : SourceTold s0 → TookFront s0 s
-  -- the end was seen only if nothing is left and there was room for more
+  -- the end was seen, if it wasn't at the start, only if nothing is left and there was room for more
   pub met : SourceTold s0 → r0.ended ≡ false → r.ended ≡ true → (s.left ≡ []) × (length s0.left < r0.room)
 
 -- `raw` is the line, as it stands in the script, that an answer speaks of; `line` is what the reader shows then

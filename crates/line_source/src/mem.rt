@@ -95,7 +95,8 @@ impl Source for MemSource {
 
         // Fails exactly if the number of the call is listed.
         ensures fails { IsErr result ↔ Contains self.old.fail self.old.calls }
-        // On Ok it gives as many bytes as are left, but at most a piece, and at most what `buf` has room for; it counts the call.
+        // On Ok it gives as many bytes as are left, but at most a piece, and at most what `buf` has room for; it counts the call,
+        // and nothing else changes.
         ensures size { IfOk result (λ n. n ≡ min (length buf.old) (min self.old.piece (length self.old.left))) }
         ensures gone { IfOk result (λ n. self.new ≡ record self.old {
           left = drop n self.old.left;

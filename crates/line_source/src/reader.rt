@@ -103,26 +103,29 @@ impl LineReader {
     pub fn next_line<I: Source>(&mut self, source: &mut I) -> LineStep
         requires { self.old.done ≡ false }
 
-        // If the source tells what it has left, the lines are those of its script, whatever the pieces: an answer gives the next
-        // line, says that it is too long, or that there is none.
+        // If the source tells what it has left, the lines are those of its script, whatever the pieces: `Line` gives the next
+        // one, without one carriage return at its end, `LongLine` skips it, since it has more than 512 bytes, and at `End` there
+        // is none. At `ReadFailed` and `Spent` a part of a line was taken at most, and all behind it is left.
         ensures gives { SourceTold (I.view source.old)
             → Gives result (rest self.old (I.view source.old)) self.new (I.view source.new) }
         // If the source tells what it has left, `Spent` comes exactly if all bytes that may still be taken neither complete a
         // line nor meet the end, unless a read fails.
         ensures exact { SourceTold (I.view source.old) → IsExact result self.old (I.view source.old) }
-        // If the source tells what it has left, what is taken is a front of it; each byte lowers the room by one.
+        // If the source tells what it has left, what is taken is a front of it, and each byte lowers the room by one; the end is
+        // seen only if nothing is left and the room isn't used up.
         ensures takes { SourceTold (I.view source.old)
             → Takes self.old (I.view source.old) self.new (I.view source.new) }
 
-        // On every source: a given line has at most 512 bytes; else it is empty. `ReadFailed` comes only if the count of failed
-        // reads rose, `End` if the end was seen, and `Spent` if it was not and no byte may be taken any more.
+        // On every source: a given line has at most 512 bytes, and at every other answer it is empty. `End` comes only if the end
+        // was seen; `ReadFailed` only if it was not and the count of failed reads rose; `Spent` only if it was not and no byte
+        // may be taken any more.
         ensures means { Tells result self.new (I.view source.old) (I.view source.new) }
         // `End`, `ReadFailed` and `Spent` are last answers.
         ensures done { self.new.done ≡ is_last result }
         // At most 4096 bytes are held, that is, taken and not given yet.
         ensures ahead { length self.new.held ≤ most_held }
-        // After each answer but a last one fewer bytes are held or may still be taken, so that reading comes to an end; with a
-        // given line fewer by its bytes at least.
+        // After each answer but a last one the bytes held and those that may still be taken are fewer in sum, so that reading
+        // comes to an end; with a given line fewer by its bytes at least.
         ensures falls { is_last result ≡ false
             → self.new.room + length self.new.held < self.old.room + length self.old.held }
         ensures given { self.new.room + length self.new.held + length self.new.line ≤ self.old.room + length self.old.held }
@@ -131,7 +134,7 @@ impl LineReader {
         // The source goes on telling what it has left, or not telling it; its count of failed reads never falls.
         ensures went { Went (I.view source.old) (I.view source.new) }
 
-        // No byte is taken while a complete line is held, nor once the end was seen.
+        // While a complete line is held, and once the end was seen, the source stays as it was; an end that was seen stays seen.
         ensures idle { (at : ℕ) → IsFirstFeed self.old.held at → I.view source.new ≡ I.view source.old }
         ensures ended { self.old.ended ≡ true
             → (self.new.ended ≡ true) × (I.view source.new ≡ I.view source.old) }

@@ -27,14 +27,14 @@ IsIdleAtLast a b = a.calls ≡ last → Unchanged a b
 pub record Torn (R : List ℕ → List ℕ → Type 0) (a b : View) : Type 0 where
   -- a crash after the call may leave it, if it has the length of the held bytes
   pub now : (start image : List ℕ) → a.may_leave start → R start image → length image ≡ length b.held → AreBytes image → b.may_leave image
-  -- a crash within the call may leave it, with what was said before
+  -- a crash within the call may leave it, whatever its length, with what was said before
   pub within : (t : ℕ) (start image : List ℕ) → t ≤ a.calls → a.may_leave start → R start image → AreBytes image → b.may_have_left t image a.said
 
 -- a call that changes bytes as R tells, and was done or failed; where it failed it may have changed nothing
 pub record Tears (R : List ℕ → List ℕ → Type 0) (done : Bool) (a b : View) : Type 0 where
-  -- on Ok all of them may be left
+  -- on Ok all that R makes may be left (`Torn`)
   pub ok : done ≡ true → Torn R a b
-  -- on a failure all of them may be left, or nothing changed
+  -- on a failure all that R makes may be left, or nothing changed
   pub err : done ≡ false → Unchanged a b ⊎ Torn R a b
   -- at the last value of the count of calls nothing changes
   pub idle : IsIdleAtLast a b
@@ -50,7 +50,7 @@ pub record Settles (done : Bool) (a b : View) : Type 0 where
 pub record Sends (bytes : List ℕ) (done : Bool) (a b : View) : Type 0 where
   -- each image of the entry may still be left
   pub images : (image : List ℕ) → a.may_leave image → b.may_leave image
-  -- on Ok a crash within the call may have left any front of the bytes said
+  -- on Ok a crash within the call may have left each image of the entry with any front of the bytes said
   pub ok : done ≡ true → (t n : ℕ) (image : List ℕ) → t ≤ a.calls → a.may_leave image → n ≤ length bytes → b.may_have_left t image (a.said ++ take n bytes)
   -- at the last value of the count of calls nothing changes
   pub idle : IsIdleAtLast a b
