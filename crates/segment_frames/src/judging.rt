@@ -29,7 +29,8 @@ pub fn judge_frame(
     // keeps.
     ensures held { OnOk result (HoldsRows format (rows_at format frames.now.slots f) f (grouped format frames.now.slots)) }
     ensures count { OnOk result (length (rows_at format frames.now.slots f) ≡ kept) }
-    // The fault is the damage that these bytes show: the first bad slot, or the numbers of records found and kept.
+    // The fault names the segment, and the damage that these bytes show: the first bad slot, or else the numbers of records found
+    // and kept.
     ensures fault { IfErr result (IsPageFault format (page_at format frames.now.slots f) segment kept) }
 {
     let size = SEGMENT_SLOTS * format as usize;
