@@ -54,11 +54,11 @@ pub record ReadsNear {A : Type 0} (start : Option Bytes) (k : KeptRegion) (resul
   pub travel : b.travel ≡ after_walk k.layout k.region from to a.travel
   pub some : from < to
   pub two : to ≤ from + 2
-  -- by one call each
+  -- by at most one call each
   pub calls : b.calls ≤ a.calls + (to - from)
   -- they are segments of the store, so that in one of height 0 it is one
   pub within : to ≤ 2 ^ k.height
-  -- the first is that to which the bound belongs
+  -- the first that is read is the one to which the bound belongs
   pub own : Told a → from ≡ first_for start (array_of a.held)
   -- damage is that of the segment that was read last, by the count that is kept for it
   pub causes : IfErr result (IsDamageAt (to - 1) k.counts)
@@ -70,12 +70,12 @@ pub record ReadsBehind {A : Type 0} (end : Option Bytes) (k : KeptRegion) (resul
   pub travel : b.travel ≡ after_walk_back k.layout k.region last count a.travel
   pub some : 0 < count
   pub two : count ≤ 2
-  -- by one call each
+  -- by at most one call each
   pub calls : b.calls ≤ a.calls + count
   -- they are segments of the store, so that in one of height 0 it is one
   pub within : last < 2 ^ k.height
   pub inside : count ≤ last + 1
-  -- the first is that to which the bound belongs
+  -- the first that is read is the one to which the bound belongs
   pub own : Told a → last ≡ last_for end (array_of a.held)
   -- the other one is read only if no record of the first is below the bound
   pub needed : 1 < count → Told a → T (are_behind end (segment_at (array_of a.held) last))
@@ -112,8 +112,8 @@ if_from low (Some r) = if is_from low r.0 then Some r else None
 abbrev pub last_from : Option Bytes → List Record → Option Record
 last_from low records = if_from low (last_or None records)
 
--- A reader amid a look for the next record: it reads in the region from the first segment on, to an end at two segments further at
--- most.
+-- A reader amid a look for the next record: it reads in the region from the first segment on, to an end at two segments further
+-- at most.
 pub record IsNear (layout : Layout) (region height first : ℕ) (r : ReaderView) : Type 0 where
   pub layout_is : r.layout ≡ layout
   pub region_is : r.region ≡ region

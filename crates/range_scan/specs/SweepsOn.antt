@@ -17,7 +17,7 @@ use Rattle.range_scan.specs.Walk.{after_walk}
 
 -- It read none or some of the next segments, and answered a record or none.
 pub record SweepsOn {A : Type 0} (result : Result A StoreFault) (s t : SweepView) (a b : View) : Type 0 where
-  -- it is the same scan, and goes on in the file
+  -- it is the same scan, and on Ok goes on in the file
   pub same : GoesOn s t
   pub is_sweep : IsSweep t
   pub sweeping : OnOk result (Told b → IsSweeping t b.held)
@@ -28,7 +28,8 @@ pub record SweepsOn {A : Type 0} (result : Result A StoreFault) (s t : SweepView
   pub reads : b.travel ≡ after_walk s.reader.layout s.reader.region s.reader.next t.reader.next a.travel
   -- at most one call is made for each segment that is read
   pub calls : b.calls ≤ a.calls + (t.reader.next - s.reader.next)
-  -- it goes on to another segment only if those before it have no record that isn't below the lower bound
+  -- it judges a further segment only if those that it judged before it in the call have no record that isn't below the lower
+  -- bound
   pub needed : Told a → T (are_before s.low (between (judged s) (judged t - 1) (cut s.tally.counts (entries (map_of a.held)))))
   -- it reads only if it judged all that it read before, and then a run
   pub runs : s.reader.next < t.reader.next → ReadsRun s t

@@ -91,8 +91,8 @@ pub fn upgrade<S: Station>(
     // At `Done` the whole live region was read, in one direction, each segment once.
     ensures whole { result ≡ Ok Upgrade.Done → Walks place.old 0 (2 ^ tally.now.height) (S.view station.old).travel (S.view station.new).travel }
 
-    // At most one call for each old segment, one for each n new ones if the frames have room for n of format 2, and four for a
-    // flip.
+    // At most one call for each old segment, one for each n new ones, rounded up, if the frames have room for n of format 2, and
+    // four for a flip.
     ensures calls { (S.view station.new).calls ≤ (S.view station.old).calls + widen_calls place.old tally.now.height }
 
     // If the station tells its bytes, no segment is found damaged.
