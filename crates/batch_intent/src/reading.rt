@@ -30,14 +30,14 @@ pub fn read_intent<S: Station>(
 ) -> Result<Option<Intent>, HeaderFault>
     requires format { IsSlotFormat layout.format }
     requires reach { page_size ≤ (S.view station.old).fixed.reach }
-    // If the station tells its bytes, the answer is None exactly if the version has no intent or the gate is even, and else the
-    // items that the bytes spell.
+    // On Ok, if the station tells its bytes, the answer is None exactly if the version has no intent or the gate is even, and
+    // else the items that the bytes spell.
     ensures even { IfOk result (λ intent. Told (S.view station.old) → (intent ≡ None) ↔ (has_intent layout (S.view station.old).held ≡ false)) }
     ensures items { IfOk result (λ intent. Told (S.view station.old) → (items : List model.Update) → intent ≡ Some items → items ≡ items_in (intent_area (S.view station.old).held)) }
     // On every station an intent that is answered has at least one item, and all fit the layout's slot format.
     ensures fits { IfOk result (λ intent. (items : List model.Update) → intent ≡ Some items → (1 ≤ length items) × T (list_all (fits_item layout.format) items)) }
-    // If the station tells its bytes, `NotStore` comes exactly if the bytes are no intent of the slot format, and names the first
-    // wrong place.
+    // If the station tells its bytes, and no disk call fails, `NotStore` comes exactly if an intent is to be applied, by version
+    // and gate, and its bytes are none of the slot format; it names the first wrong place.
     ensures sound { OnOk result (Told (S.view station.old) → form_reason layout (S.view station.old).held ≡ None) }
     ensures refused { IfErr result (λ e. Told (S.view station.old) → (r : Reason) → e ≡ HeaderFault.NotStore r → form_reason layout (S.view station.old).held ≡ Some r) }
     // The reason of `NotStore` is one of the intent, on every station, and its place one in the intent, or the one behind it.
@@ -47,7 +47,7 @@ pub fn read_intent<S: Station>(
     ensures steps { Steps Same (S.view station.old) (S.view station.new) }
     ensures written { (S.view station.new).travel.written ≡ (S.view station.old).travel.written }
     // Costs: at most 513 bytes read, by at most two calls; nothing and no call if the version has no intent; and if the gate is
-    // told to be even, at most one byte, by one call.
+    // told to be even, at most one byte, by at most one call.
     ensures reads { (S.view station.new).travel.read ≤ (S.view station.old).travel.read + (1 + INTENT_SIZE) }
     ensures unread { layout.version < INTENT_VERSION → (S.view station.new).travel.read ≡ (S.view station.old).travel.read }
     ensures gate_alone { Told (S.view station.old) → has_intent layout (S.view station.old).held ≡ false → (S.view station.new).travel.read ≤ (S.view station.old).travel.read + 1 }

@@ -16,19 +16,20 @@ ghost use Rattle.cursor_set.specs.Ways.{IsDescending, NoneBeyond};
 /// where it comes to its end then, each key within its bounds that was in the map in every state since its opening was given
 /// exactly once.
 pub fn cursors_give_each_record_once()
-    // Whatever commands come between, the keys that a cursor gives strictly rise if it only steps on, and strictly fall if it
-    // only steps back.
+    // Whatever commands come between, the keys that a cursor gives while it stays open strictly rise if it only steps on, and
+    // strictly fall if it only steps back.
     ensures ascending { (name : Bytes) (low high : Option Bytes) (l : Layout) (s : Session) (cs : List Command) → StaysOpen name low high l s cs → StepsOnly onward name cs →
         IsAscending (records_of (given name low high l s cs)) }
     ensures descending { (name : Bytes) (low high : Option Bytes) (l : Layout) (s : Session) (cs : List Command) → StaysOpen name low high l s cs → StepsOnly back name cs →
         IsDescending (records_of (given name low high l s cs)) }
-    // Each record that a cursor gives lies within its bounds, and is in the map at that moment, whatever commands come between.
+    // Each record that a cursor gives while it stays open lies within its bounds, and is in the map at that moment, whatever
+    // commands come between.
     ensures within { (name : Bytes) (low high : Option Bytes) (l : Layout) (s : Session) (cs : List Command) → StaysOpen name low high l s cs →
         Each (λ g. is_within low high g.row.0 ≡ true) (given name low high l s cs) }
     ensures found { (name : Bytes) (low high : Option Bytes) (l : Layout) (s : Session) (cs : List Command) → StaysOpen name low high l s cs →
         Each (λ g. get g.map g.row.0 ≡ Some g.row.1) (given name low high l s cs) }
-    // If a cursor steps in one way alone, up to its end, it gave each key within its bounds exactly once that was in the map in
-    // every state since its opening.
+    // If a cursor stays open and steps in one way alone, up to its end, it gave each key within its bounds exactly once that was
+    // in the map in every state since its opening.
     ensures once { (way : Way) (name : Bytes) (low high : Option Bytes) (l : Layout) (s : Session) (cs : List Command) → StaysOpen name low high l s cs → StepsOnly way name cs → Ends way name low high l s cs →
         (key : Bytes) → is_within low high key ≡ true → InEach (HasKey key) l (opened name low high l s) cs →
         times key (records_of (given name low high l s cs)) ≡ 1 }
@@ -38,11 +39,11 @@ pub fn cursors_give_each_record_once()
 /// each step gives the record whose key is nearest to the last that it gave: the least above it, or the greatest below. A cursor
 /// that gave none steps on from its lower bound, and back from its upper one. It comes to its end where there is no such record.
 pub fn cursors_step_to_the_nearest()
-    // Each step on gives the least key above the last one given, and each step back the greatest below, within the bounds and in
-    // the map of that moment. A cursor that gave none begins at its bounds.
+    // While a cursor stays open each step on gives the least key above the last one given, and each step back the greatest below,
+    // within the bounds and in the map of that moment. A cursor that gave none begins at its bounds.
     ensures nearest { (name : Bytes) (low high : Option Bytes) (l : Layout) (s : Session) (cs : List Command) → StaysOpen name low high l s cs →
         AreNearest low high None (given name low high l s cs) }
-    // A cursor comes to its end only if no key of the map within its bounds lies ahead on that way.
+    // A cursor that stayed open comes to its end only if no key of the map within its bounds lies ahead on that way.
     ensures ends { (way : Way) (name : Bytes) (low high : Option Bytes) (l : Layout) (s : Session) (cs : List Command) → StaysOpen name low high l s cs → Ends way name low high l s cs →
         NoneBeyond way low high (last_given None (given name low high l s cs)) (at_end name low high l s cs).store.map }
 {}

@@ -110,8 +110,8 @@ impl CursorSet {
         requires store { EachHeld (R.stands store.old) (S.view station.old) }
         requires rests { R.rests store.old (S.view station.old) }
         requires reach { file_length (R.kept store.old).layout ≤ (S.view station.old).fixed.reach }
-        // If the station tells its bytes, the record with the least key that is within the bounds and above the last one given,
-        // in the map that they represent; `End` exactly if there is none.
+        // On Ok, if the station tells its bytes, the record with the least key that is within the bounds and above the last one
+        // given, in the map that they represent; `End` exactly if the name has a cursor and there is none.
         ensures answer { IfOk result (λ step. Told (S.view station.old) → told_by step ≡ step_in onward (map_of (S.view station.old).held) self.old name.now) }
         // `NoCursor` comes exactly if the name has no cursor, on every station.
         ensures known { IfOk result (λ step. is_some (told_by step) ≡ contains_key self.old name.now) }
@@ -135,8 +135,8 @@ impl CursorSet {
         ensures rests { OnOk result (R.rests store.new (S.view station.new)) }
         // No byte changes.
         ensures steps { Steps Same (S.view station.old) (S.view station.new) }
-        // On every station one segment is read, or two that stand side by side, once each and by one call each; at height 0 it is
-        // one. Nothing is written, and damage is that of the last one read.
+        // If the name has a cursor, on every station one segment is read, or two that stand side by side, once each and by at
+        // most one call each; at height 0 it is one. Nothing is written, and damage is that of the last one read.
         ensures reads { (k : Cursor) → get self.old name.now ≡ Some k → ReadsNear (later k.low k.past) (R.kept store.old) result (S.view station.old) (S.view station.new) }
         // Without a cursor of this name nothing is read, and no call is made.
         ensures idle { get self.old name.now ≡ None → (S.view station.new).travel ≡ (S.view station.old).travel }
@@ -176,8 +176,8 @@ impl CursorSet {
         requires store { EachHeld (R.stands store.old) (S.view station.old) }
         requires rests { R.rests store.old (S.view station.old) }
         requires reach { file_length (R.kept store.old).layout ≤ (S.view station.old).fixed.reach }
-        // If the station tells its bytes, the record with the greatest key that is within the bounds and below the last one
-        // given, in the map that they represent; `End` exactly if there is none.
+        // On Ok, if the station tells its bytes, the record with the greatest key that is within the bounds and below the last
+        // one given, in the map that they represent; `End` exactly if the name has a cursor and there is none.
         ensures answer { IfOk result (λ step. Told (S.view station.old) → told_by step ≡ step_in back (map_of (S.view station.old).held) self.old name.now) }
         // `NoCursor` comes exactly if the name has no cursor, on every station.
         ensures known { IfOk result (λ step. is_some (told_by step) ≡ contains_key self.old name.now) }
@@ -201,8 +201,8 @@ impl CursorSet {
         ensures rests { OnOk result (R.rests store.new (S.view station.new)) }
         // No byte changes.
         ensures steps { Steps Same (S.view station.old) (S.view station.new) }
-        // On every station one segment is read, and maybe the one before it, once each and by one call each; at height 0 it is
-        // one. Nothing is written, and damage is that of the last one read.
+        // If the name has a cursor, on every station one segment is read, and maybe the one before it, once each and by at most
+        // one call each; at height 0 it is one. Nothing is written, and damage is that of the last one read.
         ensures reads { (k : Cursor) → get self.old name.now ≡ Some k → ReadsBehind (earlier k.past k.high) (R.kept store.old) result (S.view station.old) (S.view station.new) }
         // Without a cursor of this name nothing is read, and no call is made.
         ensures idle { get self.old name.now ≡ None → (S.view station.new).travel ≡ (S.view station.old).travel }
