@@ -197,7 +197,7 @@ impl Tally {
     pub fn add(&mut self, segment: u32)
         requires in_store { segment < 2 ^ self.old.height }
         requires room { slice_index self.old.counts segment < SEGMENT_RECORDS }
-        // The segment has one record more, and each rested window over it has had one update more.
+        // The segment has one record more, and the mark of each rested window over it rises by one, up to `2^64 - 1`.
         ensures after { self.new ≡ record self.old {
           counts = counts_after true self.old.counts segment;
           marks = updated_marks self.old.height segment self.old.marks;
@@ -212,7 +212,7 @@ impl Tally {
     pub fn take(&mut self, segment: u32)
         requires in_store { segment < 2 ^ self.old.height }
         requires some { 1 ≤ slice_index self.old.counts segment }
-        // The segment has one record less, and each rested window over it has had one update more.
+        // The segment has one record less, and the mark of each rested window over it rises by one, up to `2^64 - 1`.
         ensures after { self.new ≡ record self.old {
           counts = counts_after false self.old.counts segment;
           marks = updated_marks self.old.height segment self.old.marks;
