@@ -59,7 +59,7 @@ impl CursorSet {
     pub fn begin(&mut self, name: &Key, low: Option<Key>, high: Option<Key>) -> Opened
         // `Taken` if the name has a cursor, else `NoRoom` if 16 are open, else `Opened`.
         ensures answer { result ≡ opening self.old name.now }
-        // A cursor that is opened has these bounds, and gave nothing. Else the set stays.
+        // A cursor that is opened has these bounds, and gave nothing; the others stay. If none is opened the set stays.
         ensures after { self.new ≡ after_open self.old name.now low high }
     {
         if find_entry(&self.slots, name).is_some() {

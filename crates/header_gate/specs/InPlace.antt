@@ -7,7 +7,7 @@ use Rattle.header_gate.specs.Header.{live_copy}
 use Rattle.header_gate.specs.Places.{page_size, image_place, region_place}
 use Rattle.header_gate.specs.Recovered.{is_journal, recovered_byte, live_shift, live_table, is_laid, IsTableOf}
 
--- the gate's journal is one, and the pages that it names hold its images
+-- the table of the gate's journal is one, and the pages of the live region that it names hold its images
 pub record IsInPlace (l : Layout) (file : List ℕ) : Type 0 where
   -- the live journal's table has at most as many numbers as the journal has pages; they ascend, and each is a page of a region
   pub table : IsTableOf l.journal (2 ^ l.hmax) (live_table l file)

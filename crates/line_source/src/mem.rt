@@ -49,7 +49,8 @@ impl MemSource {
         fail: &[u32],
     ) -> Result<MemSource, AllocError>
         requires { 1 ≤ piece }
-        // No byte is given yet, and no call counted. Call number n, from 0, fails if `fail` lists it.
+        // On Ok all the bytes are left, of which a call gives at most `piece`; no call and no fault is counted, and the numbers
+        // in `fail` are those of the calls that are to fail.
         ensures { IfOk result (λ m. m ≡ record {
           left = bytes.now;
           piece = piece;
