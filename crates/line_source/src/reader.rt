@@ -129,7 +129,7 @@ impl LineReader {
         ensures falls { is_last result ≡ false
             → self.new.room + length self.new.held < self.old.room + length self.old.held }
         ensures given { self.new.room + length self.new.held + length self.new.line ≤ self.old.room + length self.old.held }
-        // Never more bytes are taken than were allowed at the start.
+        // The number of bytes that may still be taken never rises.
         ensures room { self.new.room ≤ self.old.room }
         // The source goes on telling what it has left, or not telling it; its count of failed reads never falls.
         ensures went { Went (I.view source.old) (I.view source.new) }

@@ -54,7 +54,7 @@ pub record ReadsNear {A : Type 0} (start : Option Bytes) (k : KeptRegion) (resul
   pub travel : b.travel ≡ after_walk k.layout k.region from to a.travel
   pub some : from < to
   pub two : to ≤ from + 2
-  -- by at most one call each
+  -- each is read by at most one call
   pub calls : b.calls ≤ a.calls + (to - from)
   -- they are segments of the store, so that in one of height 0 it is one
   pub within : to ≤ 2 ^ k.height
@@ -70,7 +70,7 @@ pub record ReadsBehind {A : Type 0} (end : Option Bytes) (k : KeptRegion) (resul
   pub travel : b.travel ≡ after_walk_back k.layout k.region last count a.travel
   pub some : 0 < count
   pub two : count ≤ 2
-  -- by at most one call each
+  -- each is read by at most one call
   pub calls : b.calls ≤ a.calls + count
   -- they are segments of the store, so that in one of height 0 it is one
   pub within : last < 2 ^ k.height

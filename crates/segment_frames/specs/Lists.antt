@@ -42,7 +42,7 @@ held_lists format b = rows_in format (length (segments_in format b.numbers)) b.s
 abbrev pub most_segments : Layout → ℕ
 most_segments l = l.journal / l.format
 
--- they fill their frames from the front, and the batch has all pages of each
+-- the lists of a batch's segments fill their frames from the front, and the batch has all pages of each segment
 pub record IsHeld (format : ℕ) (b : Batch) : Type 0 where
   -- the slot format is 1 or 2
   pub known : IsSlotFormat format
