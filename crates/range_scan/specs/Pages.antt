@@ -52,6 +52,7 @@ pub record ReadsInto {T E : Type 0} (layout : Layout) (region segment count : �
   pub none : OnErr result (page.rows ≡ [])
   -- the others were read along
   pub others : length page.along + 1 ≡ count
+  -- no byte changes, and they are read once, by at most one call
   pub steps : Steps Same a b
   pub reads : b.travel ≡ after_read (segment_place layout region segment) (segment_size layout * count) a.travel
   pub calls : b.calls ≤ a.calls + 1
@@ -75,6 +76,7 @@ pub record Meets {T E : Type 0} (layout : Layout) (region segment count : ℕ) (
   pub none : OnErr result (new.rows ≡ [])
   -- the others are read along
   pub others : length new.along + 1 ≡ length old.along + read_for old.along count
+  -- no byte changes; segments are read only if none was read along, each once, by at most one call
   pub steps : Steps Same a b
   pub reads : b.travel ≡ after_walk layout region segment (segment + read_for old.along count) a.travel
   pub calls : b.calls ≤ a.calls + read_for old.along 1

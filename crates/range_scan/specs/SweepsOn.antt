@@ -43,5 +43,7 @@ pub record SweepsOn {A : Type 0} (result : Result A StoreFault) (s t : SweepView
 pub record StopsSweep (fault : StoreFault) (s t : SweepView) (a b : View) : Type 0 where
   -- where bytes are told only the disk stops it
   pub damaged : Told a → fault ≡ Failed
+  -- on any station damage is that of the segment that it judged last
   pub causes : IsDamageAt (judged t - 1) s.tally.counts fault
+  -- `Failed` comes only if the count of disk faults rose
   pub failed : fault ≡ Failed → Rose a.disk_faults b.disk_faults

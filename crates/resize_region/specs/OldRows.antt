@@ -47,12 +47,14 @@ IsDamageIn place t a b fault = (fault ≡ Failed) ⊎ ((i : ℕ) × (i < 2 ^ t.h
 pub record ReadsRows {T : Type 0} (place : Place) (t : TallyView) (result : Result T StoreFault) (r s : OldRows) (a b : View) : Type 0 where
   pub steps : Steps Same a b
   pub reads : b.travel ≡ after_walk place.layout place.region r.reader.next s.reader.next a.travel
-  -- each segment by one call
+  -- each segment by at most one call
   pub calls : b.calls ≤ a.calls + (s.reader.next - r.reader.next)
+  -- none is read again, and none behind the last
   pub onward : r.reader.next ≤ s.reader.next
   pub upto : s.reader.next ≤ 2 ^ t.height
   -- where bytes are told only the disk stops it
   pub damaged : IfErr result (λ fault. Told a → fault ≡ Failed)
   -- and on any station the damage of the segment that was read last
   pub cause : IfErr result (λ fault. (i : ℕ) × (s.reader.next ≡ i + 1) × IsDamageAt i t.counts fault)
+  -- `Failed` comes only if the count of disk faults rose
   pub failed : IsErrOf result Failed → Rose a.disk_faults b.disk_faults

@@ -49,5 +49,7 @@ pub record ReadsOn {T : Type 0} (place : Place) (counts : List ℕ) (result : Re
   pub upto : read_upto (most_segments place.layout) t ≤ length counts
   -- where bytes are told only the disk stops it
   pub damaged : IfErr result (λ fault. Told a → fault ≡ Failed)
+  -- and on any station a frame shows the damage
   pub cause : IfErr result (HasCause place.layout.format counts g)
+  -- `Failed` comes only if the count of disk faults rose
   pub failed : IsErrOf result Failed → Rose a.disk_faults b.disk_faults

@@ -48,11 +48,15 @@ pub record ResizesTo {T : Type 0} (height : ℕ) (result : Result T StoreFault) 
   -- all segments have fences, those of their first keys
   pub fences_set : OnOk result ((i : ℕ) → i < 2 ^ height → 0 < i → IsSome (fence i))
   pub fences_agree : OnOk result (Told a → (i : ℕ) → i < 2 ^ height → 0 < i → fence i ≡ key_at (segment_at (array_of b.held) i) 0)
+  -- at most the bytes of the new segments and 9 are written
   pub cost : b.travel.written ≤ a.travel.written + (segment_size place.layout * 2 ^ height + 9)
+  -- the live region is read in one direction, each segment at most once
   pub reads : (n : ℕ) × (n ≤ 2 ^ t.height) × Walks place 0 n a.travel b.travel
   -- the calls of a copying, and those of a flip
   pub calls : b.calls ≤ a.calls + (copy_calls (most_segments place.layout) (2 ^ t.height) (2 ^ height) + 4)
   -- where bytes are told only the disk stops it
   pub damaged : IfErr result (λ fault. Told a → fault ≡ Failed)
+  -- and on any station a frame shows the damage
   pub cause : IfErr result (HasCause place.layout.format t.counts frames)
+  -- `Failed` comes only if the count of disk faults rose
   pub failed : IsErrOf result Failed → Rose a.disk_faults b.disk_faults

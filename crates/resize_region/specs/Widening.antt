@@ -47,7 +47,9 @@ pub record WritesWide {T : Type 0} (result : Result T StoreFault) (place : Place
   pub cost : b.travel.written ≤ a.travel.written + segment_size (widened place.layout) * segments
   -- where bytes are told only the disk stops it
   pub damaged : IfErr result (λ fault. Told a → fault ≡ Failed)
+  -- and on any station damage is that of the segment that was read last
   pub cause : IfErr result (IsDamageIn place t a b)
+  -- `Failed` comes only if the count of disk faults rose
   pub failed : IsErrOf result Failed → Rose a.disk_faults b.disk_faults
 
 -- the calls of an upgrade at a height that isn't refused
@@ -62,14 +64,20 @@ pub record SpreadsWide {T : Type 0} (result : Result T StoreFault) (place after 
   pub array : OnOk result (Told a → array_of b.held ≡ resized (array_of a.held) (upgraded_height place.layout t.height))
   -- the place, and the height and the counts of the new array, stand for the file
   pub stands : OnOk result (EachHeld (StandsWith after.layout after.region (upgraded_height place.layout t.height) (resized_counts t.counts (upgraded_height place.layout t.height))) b)
+  -- on Ok the place is that of the upgraded store, on a failure the old one
   pub place_is : OnOk result (after ≡ upgraded place)
   pub place_kept : OnErr result (after ≡ place)
+  -- at most the bytes of the new segments and 9 are written
   pub cost : b.travel.written ≤ a.travel.written + (segment_size (widened place.layout) * 2 ^ upgraded_height place.layout t.height + 9)
+  -- the live region is read in one direction, each segment at most once
   pub reads : (n : ℕ) × (n ≤ 2 ^ t.height) × Walks place 0 n a.travel b.travel
-  -- one call for each old segment, those that write the new ones, and those of a flip
+  -- at most one call for each old segment, those that write the new ones, and those of a flip
   pub calls : b.calls ≤ a.calls + widen_calls place t.height
+  -- on Ok it was read to its end
   pub whole : OnOk result (Walks place 0 (2 ^ t.height) a.travel b.travel)
   -- where bytes are told only the disk stops it
   pub damaged : IfErr result (λ fault. Told a → fault ≡ Failed)
+  -- and on any station damage is that of the segment that was read last
   pub cause : IfErr result (IsDamageIn place t a b)
+  -- `Failed` comes only if the count of disk faults rose
   pub failed : IsErrOf result Failed → Rose a.disk_faults b.disk_faults
