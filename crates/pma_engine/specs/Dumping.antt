@@ -43,17 +43,17 @@ pub record SaidFront (text said_before said : List ℕ) : Type 0 where
   pub within : count ≤ length text
   pub said_is : said ≡ said_before ++ take count text
 
--- `dump`: no moment and no status changes the map
+-- `dump`
 pub record DumpsFile (status : ℕ) (a b : View) : Type 0 where
-  -- If nothing is pending at the entry, a crash at any moment leaves a file that has the layout of the one at the entry and means
-  -- its map. And so do the held bytes at the return, whatever the status.
+  -- Of a valid store: if nothing is pending at the entry, a crash at any moment leaves a file that has the layout of the one at
+  -- the entry and means its map. And so do the held bytes at the return, whatever the status.
   pub steps : NothingPending a → Run (λ image said. KeepsMeaning a.held image) (attached_by false a) b
   pub held : Told a → KeepsMeaning a.held b.held
   -- With 0 the file is a valid store, and exactly the lines of its records were said, ascending, and the line with their number.
   pub done : status ≡ DONE → Told a → (opening_reason a.held ≡ None) × (SaidTold a → b.said ≡ a.said ++ dump_text (meant_map a.held))
-  -- With every other status but 3 a front of this was said.
+  -- With every status but 3 a front of this was said.
   pub front : (status ≡ REFUSED → ⊥) → Told a → SaidTold a → SaidFront (dump_text (meant_map a.held)) a.said b.said
-  -- With 3 the file is refused, and left as by a run: one line tells the first reason against it.
+  -- With 3 the file is refused, as `IsRefused` says.
   pub refused : status ≡ REFUSED → IsRefused a b
   -- With 7 it is as `IsOutOfMemory` says.
   pub memory : status ≡ OUT_OF_MEMORY → IsOutOfMemory (attached_by false a) b
@@ -68,10 +68,12 @@ pub record DumpsFile (status : ℕ) (a b : View) : Type 0 where
   pub kept : (status ≡ DISK_FAULT → ⊥) → Told a → IsAllAtRest a.held → IsButClosed a.held a.held b.held
   -- Over any file no more is written than an opening may.
   pub written : Told a → b.travel.written ≤ a.travel.written + reopening_cost a.held
-  -- Over a file to which nothing is to be done no more is read than by the opening, and each segment once more.
+  -- Over a file to which nothing is to be done, whatever the status, no more is read than the opening reads, the header page once
+  -- more, and each segment once more.
   pub read : Told a → IsAllAtRest a.held → b.travel.read ≤ a.travel.read + (page_size + opening_reads a.held + segment_size (layout_in a.held) * 2 ^ opened_height a.held)
-  -- It makes no more calls than an opening, one for each segment of the opened store, and one for each byte of the lines of the
-  -- map's records and their number; with 3 those of the opening and 512; besides the calls of the items of an intent.
+  -- With every status but 3 it makes no more calls than an opening may, one for each segment of the opened store, and one for
+  -- each byte of the lines of the map's records and their number; with 3 those of the opening and 512; besides the calls of the
+  -- items of an intent.
   pub calls : (status ≡ REFUSED → ⊥) → Told a → CallsOpening (dump_calls a.held) (attached_by false a) b
   pub refused_calls : status ≡ REFUSED → Told a → CallsOpening (reopening_calls a.held + 512) (attached_by false a) b
 

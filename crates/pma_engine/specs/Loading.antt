@@ -126,8 +126,9 @@ pub record IsLoadRefused (s0 s1 : SourceView) (a b : View) : Type 0 where
   -- One line is said: whole, or a front of it if a saying failed.
   pub line : SaidTold a → (line : Reply) × IsRefusal line × SaysLine line a.said a b
   -- Over a station that tells its bytes the line tells the first reason against the file; or of a valid store that it has
-  -- records, and how many; or, if it has none, the first line that no load text can have there, or one more than there are, if
-  -- the text ends before the line with the number of records; or that a record follows as many as the store may hold.
+  -- records, and how many, with nothing taken of the text; or, if it has none, the first line that no load text can have there,
+  -- or one more than there are, if the text ends before the line with the number of records; or that a record follows as many as
+  -- the store may hold.
   pub why : Told a → (line : Reply) × IsLoadRefusal a.held s0 s1 line × (SaidTold a → SaysLine line a.said a b)
   -- A file that is no store recovers to what it recovered to; and if no page is to be laid over its region (below version 4: if
   -- its gate is even), every byte stays. But an odd clean gate may be closed besides, from version 3 on.
@@ -157,22 +158,24 @@ pub record IsCutEarly (l : Layout) (s0 s1 : SourceView) : Type 0 where
 
 -- `load`, of whose text at most so many bytes are taken
 pub record LoadsFile (status most : ℕ) (s0 s1 : SourceView) (a b : View) : Type 0 where
-  -- If nothing is pending at the entry, a crash at any moment leaves a file that has the layout of the one at the entry and means
-  -- its map, or, if that has no records, the map of the whole text, at the least height that holds them. And so do the held bytes
-  -- at the return, whatever the status.
+  -- Of a valid store: if nothing is pending at the entry, a crash at any moment leaves a file that has the layout of the one at
+  -- the entry and means its map, or, if that has no records, the map of the whole text, at the least height that holds them. And
+  -- so do the held bytes at the return, whatever the status.
   pub steps : NothingPending a → Run (λ image said. MayLoad s0 a.held image) (attached_by false a) b
   pub held : Told a → MayLoad s0 a.held b.held
   -- It ends with 0 only for a valid store without records, and for a load text of fewer than `most` bytes that was read to its
-  -- end. Then the file is loaded, as `IsFileLoaded` says, and nothing is pending.
+  -- end. Then the file has the layout of before and means the map of the text, at the least height that holds its records; these
+  -- are spread over the segments of that height, every window is within its bounds, no intent is to be applied, and nothing is
+  -- pending.
   pub done : status ≡ DONE → Told a → (opening_reason a.held ≡ None) × (meant_map a.held ≡ empty_map) × IsFileLoaded (layout_in a.held) s0 b.held
   pub whole : status ≡ DONE → SourceTold s0 → IsReadWhole most s0 s1
   pub settled : status ≡ DONE → NothingPending b
   -- With 0, 5 and 8 a file of version 3 or 4 has an even clean gate.
   pub shut : IsRest status → Told a → IsShut b.held
-  -- With 3, 5, 7 and 8 the held bytes, and each image that a crash leaves then, have the layout of the file at the entry and mean
-  -- its map, if nothing is pending at the entry.
+  -- With 3, 5, 7 and 8, of a valid store with nothing pending at the entry: the held bytes, and each image that a crash leaves
+  -- then, have the layout of the file at the entry and mean its map.
   pub kept : (status ≡ DONE → ⊥) → (status ≡ DISK_FAULT → ⊥) → NothingPending a → EachHeld (KeepsMeaning a.held) b
-  -- But for a line of refusal nothing is said.
+  -- With every status but 3 nothing is said.
   pub silent : (status ≡ REFUSED → ⊥) → b.said ≡ a.said
   -- With 3 it is refused, as `IsLoadRefused` says.
   pub refused : status ≡ REFUSED → IsLoadRefused s0 s1 a b
@@ -184,8 +187,8 @@ pub record LoadsFile (status most : ℕ) (s0 s1 : SourceView) (a b : View) : Typ
   -- With 5 and 8 the complete lines among the bytes that were taken make no refusal due: some load text begins with them, and
   -- they have no more records than the store may hold.
   pub early : IsCutText status → SourceTold s0 → Told a → IsCutEarly (layout_in a.held) s0 s1
-  -- A valid store, if no disk call failed, ends with 0 or 7; or with 3 and the one answer that is due; or, if it has no records,
-  -- with 5 or 8.
+  -- A valid store, if the count of disk faults didn't rise, ends with 0 or 7; or with 3 and an answer that is due; or, if it has
+  -- no records, with 5 or 8.
   pub complete : Told a → (m : Map) → MeansMap (layout_in a.held) a.held m → (Rose a.disk_faults b.disk_faults → ⊥) →
       (status ≡ DONE) ⊎ ((status ≡ OUT_OF_MEMORY) ⊎ (((status ≡ REFUSED) × ((line : Reply) × IsLoadAnswer a.held s0 s1 line)) ⊎ ((m ≡ empty_map) × IsCutText status)))
   -- A load text of fewer than `most` bytes that a store without records admits ends with 0 or 7, if the counts of disk faults and

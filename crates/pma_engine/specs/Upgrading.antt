@@ -86,7 +86,7 @@ next_height image = upgraded_height (layout_in image) (opened_height image)
 
 -- A store was upgraded.
 pub record IsUpgraded (old new : List ℕ) : Type 0 where
-  -- The file is a valid store to which none of the three answers is due: it has format 1, a height limit of 1 or more, and no
+  -- The old file is a valid store to which none of the three answers is due: it has format 1, a height limit of 1 or more, and no
   -- more records than it may have then.
   pub sound : opening_reason old ≡ None
   pub due : (copy : ℕ) (line : Reply) → AnswersUpgrade (layout_in old) copy (len (meant_map old)) line → ⊥
@@ -124,30 +124,30 @@ widen_cost l height = segment_size (widened l) * 2 ^ upgraded_height l height + 
 abbrev pub upgrade_cost : Layout → ℕ → ℕ
 upgrade_cost l height = clear_cost l + widen_cost l height
 
--- `upgrade`: no moment and no status changes the map, and none the layout but for the slot format
+-- `upgrade`
 pub record UpgradesFile (status : ℕ) (a b : View) : Type 0 where
-  -- If nothing is pending at the entry, a crash at any moment leaves a file that means the map of the one at the entry, in its
-  -- layout or in the same with slot format 2. And so do the held bytes at the return, whatever the status.
+  -- Of a valid store: if nothing is pending at the entry, a crash at any moment leaves a file that means the map of the one at
+  -- the entry, in its layout or in the same with slot format 2. And so do the held bytes at the return, whatever the status.
   pub steps : NothingPending a → Run (λ image said. MayUpgrade a.held image) (attached_by false a) b
   pub held : Told a → MayUpgrade a.held b.held
-  -- With 3 and 7 the held bytes have the layout of the file at the entry and mean its map.
+  -- With 3 and 7, of a valid store: the held bytes have the layout of the file at the entry and mean its map.
   pub kept : (status ≡ DONE → ⊥) → (status ≡ DISK_FAULT → ⊥) → Told a → KeepsMeaning a.held b.held
-  -- With 0 the file is upgraded, as `IsUpgraded` says, and nothing is pending.
+  -- With 0 the file was upgraded, as `IsUpgraded` says, and nothing is pending.
   pub done : status ≡ DONE → Told a → IsUpgraded a.held b.held
   pub settled : status ≡ DONE → NothingPending b
   -- With 0 a file of version 3 or 4 has an even clean gate.
   pub shut : status ≡ DONE → Told a → IsShut b.held
-  -- But for a line of refusal nothing is said.
+  -- With every status but 3 nothing is said.
   pub silent : (status ≡ REFUSED → ⊥) → b.said ≡ a.said
   -- With 3 it is refused, as `IsUpgradeRefused` says.
   pub refused : status ≡ REFUSED → IsUpgradeRefused a b
   -- With 7 it is as `IsOutOfMemory` says.
   pub memory : status ≡ OUT_OF_MEMORY → IsOutOfMemory (attached_by false a) b
-  -- A valid store, if no disk call failed, ends with 0 or 7, or with 3 and the one answer that is due.
+  -- A valid store, if the count of disk faults didn't rise, ends with 0 or 7, or with 3 and an answer that is due.
   pub complete : Told a → (m : Map) → MeansMap (layout_in a.held) a.held m → (Rose a.disk_faults b.disk_faults → ⊥) →
       (status ≡ DONE) ⊎ ((status ≡ OUT_OF_MEMORY) ⊎ ((status ≡ REFUSED) × ((line : Reply) × IsUpgradeAnswer a.held b.held line)))
   -- Whatever the status, no more is written than an opening may, and `8192 * 2^h + 9` bytes, at version 4 5 more, with h the
-  -- height after it.
+  -- height that an upgrade gives the file.
   pub written : Told a → b.travel.written ≤ a.travel.written + (reopening_cost a.held + upgrade_cost (layout_in a.held) (opened_height a.held))
 
 -- what the upgrade of an open store came to, on whose station nothing is pending, where so many bytes may be written before it is
