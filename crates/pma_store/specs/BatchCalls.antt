@@ -70,7 +70,8 @@ pub record IsForBatch (items : List Update) (s : StoreView) (a : View) (calls : 
   pub behind : ℕ
   pub is_for : IsForCommit (length looked) behind ⊎ IsForIntent items s a behind
   pub is : calls ≡ length looked + behind
-  -- where the items are one commit in the state of the file, the commit, with no more runs than segments that they edit
+  -- if bytes are told and the items are one commit in the state of the file, the commit, with no more runs than segments that
+  -- they edit
   pub at_once : Told a → AreOneCommit s.place.layout (state_in s a.held) items → IsForCommit (length (edited_segments (array_of a.held) items)) behind
 
 -- what the intent and the items under it come to

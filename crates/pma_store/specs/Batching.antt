@@ -91,7 +91,8 @@ pub record Batches (items : List Update) (result : Result Batch StoreFault) (s t
   pub answer : IfOk result (λ done. Told a → done ≡ batch_answer (version_of s) (limit_of s) (state_in s a.held) items)
   -- On Ok map, height, array and marks are those after all items in their order, or as they were.
   pub state : OnOk result (Told a → state_in t b.held ≡ array_state_after_batch (version_of s) (limit_of s) (state_in s a.held) items)
-  -- With `Full` and `NoBatch` every byte and the store stay, and nothing is written; with `NoBatch` no call is made.
+  -- With `Full` and `NoBatch` every byte and the store stay, and nothing is written; with `NoBatch` nothing is read and no call
+  -- is made.
   pub refused : IfOk result (λ done. IsRefusal done → LeavesAll s t a b)
   pub unread : IfOk result (λ done. done ≡ NoBatch → (b.travel ≡ a.travel) × (b.calls ≡ a.calls))
   -- A crash at any moment leaves a file that has the layout of the store, and means the map before the batch or the map after all
@@ -100,15 +101,17 @@ pub record Batches (items : List Update) (result : Result Batch StoreFault) (s t
   pub meant : Steps (BecomesMeant s.place.layout (map_of a.held) (map_after_batch (version_of s) (limit_of s) (map_of a.held) items)) a b
   pub touched : Steps (Touched (IsBatchPlace s.place.layout)) a b
   pub layout : t.place.layout ≡ s.place.layout
-  -- On Ok, on every station, at most `4101 * F` bytes times its charge are written, with F pages a segment, and 514 more.
+  -- On Ok, on every station, at most `4101 * F` bytes times its charge are written, with F pages a segment, and 514 more if it is
+  -- made.
   pub images : IfOk result (λ done. b.travel.written ≤ a.travel.written + 4101 * s.place.layout.format * charge_in done + intent_cost_in done)
-  -- If bytes are told, at most 514 bytes are written and what its items cost, each in the state before it; whatever is answered,
-  -- 514 and the cost of those that were begun, so at a fault no more than what the item asks for at which it stopped.
+  -- If bytes are told, on Ok at most 514 bytes are written and what its items cost, each in the state before it, and none if it
+  -- is refused. Whatever is answered, at most 514 bytes and the cost of some first items of those that an accepted batch makes.
   pub cost : IfOk result (λ done. Told a → b.travel.written ≤ a.travel.written + updates_cost s.place.layout (state_in s a.held) (items_made (version_of s) (limit_of s) (map_of a.held) items) + intent_cost_in done)
   pub most : Told a → WritesSome s.place.layout (state_in s a.held) (items_made (version_of s) (limit_of s) (map_of a.held) items) (a.travel.written + 514) b.travel.written
   -- On every station, whatever is answered, at most 514 bytes and for each item what one update may write at the greatest height.
   pub spent : b.travel.written ≤ a.travel.written + (most_of s.place.layout (length items) + 514)
-  -- If it is refused, it makes at most one call for each segment to which a key of its items belongs.
+  -- If it is refused, it makes at most one call for each of some segments of the store, no more than items, and if bytes are told
+  -- only of those to which keys of its items belong.
   pub looks : IfOk result (λ done. IsRefusal done → LooksOnce items s.tally.height a b)
   -- On every station, whatever is answered, it makes no more calls than `IsForBatch` says.
   pub calls : CallsBatch items s a b
@@ -116,8 +119,9 @@ pub record Batches (items : List Update) (result : Result Batch StoreFault) (s t
   pub at_once : Told a → AreOneCommit s.place.layout (state_in s a.held) items → MakesAtOnce items s a b
   -- On Ok its charge and the rise of the potential are together at most 514 for each item that was made, on every station.
   pub paid : IfOk result (λ done. charge_in done + potential_of t.tally ≤ potential_of s.tally + 514 * made_in (length items) done)
-  -- It fails by the disk; or by damage of a segment that was read last while the keys were looked for, by its kept count, with
-  -- nothing written; or in one of its items, as an update does, by the counts that the items before it left.
+  -- It fails by the disk; or by damage of a segment that was read last while the keys were looked for, by its kept count and not
+  -- that keys are out of order, with nothing written; or in one of its items, as an update does, by the counts that the items
+  -- before it left.
   pub met : IfErr result (λ fault. (fault ≡ Failed) ⊎ ((IsMetLooking s.place s.tally fault b × (b.travel.written ≡ a.travel.written)) ⊎ IsMetMid items s t fault b))
   -- If bytes are told and the count of disk faults didn't rise, it answers Ok.
   pub complete : Told a → ¬ Rose a.disk_faults b.disk_faults → IsOk result

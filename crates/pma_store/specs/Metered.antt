@@ -36,5 +36,5 @@ pub record Notes {T : Type 0} (us : List Update) (result : Result T StoreFault) 
   pub session : OnOk result (Told a → n.ledger ≡ noted (length us) (charge_after_items (limit_of m.store) (state_in m.store a.held) us) m.ledger)
   -- A fault notes nothing.
   pub unnoted : OnErr result (n.ledger ≡ m.ledger)
-  -- The charges stay within their bound.
+  -- Whatever is answered, the charges stay within their bound.
   pub metered : IsMetered n

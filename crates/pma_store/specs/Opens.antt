@@ -24,7 +24,7 @@ use Rattle.pma_store.specs.Looking.{TellsOther}
 
 -- What an opening leaves of a file, at every moment and at the return.
 pub record OpensMeant (old new : List ℕ) : Type 0 where
-  -- The image has the layout of the old one, and means the map that it meant.
+  -- Of a file that means a map: the image has its layout and means the same map.
   pub means : (m : Map) (height : ℕ) → Means old m height → MeansMap (layout_in old) new m
   -- If something is wrong with the old one or its intent, it recovers to what the old one recovered to.
   pub recovers : (r : Reason) → opening_reason old ≡ Some r → recovered (layout_in old) new ≡ recovered (layout_in old) old
@@ -43,9 +43,10 @@ pub record IsAllAtRest (image : List ℕ) : Type 0 where
 -- What an opening writes at most.
 pub record WritesOpening (image : List ℕ) (before after : ℕ) : Type 0 where
   -- If no intent is to be applied, at most `4096 * J + 1` bytes for a replay with a journal of J pages, and `(4 * 2^H - 2) *
-  -- (16392 * F + 6)` for a repair, by the greatest height H of the layout and slots of format F.
+  -- (16392 * F + 6)` for a repair, by the greatest height H of the layout and slots of format F, whatever is answered.
   pub back : has_pending image ≡ false → after ≤ before + opening_cost (layout_in image)
-  -- Whatever is answered, these, one byte for the intent's gate, and the cost of those items that were begun.
+  -- Over any file, whatever is answered, these, one byte for the intent's gate, and the cost of some first items, each in the
+  -- state before it.
   pub items : WritesSome (layout_in image) (opened_state image) (pending image) (before + opening_cost (layout_in image) + 1) after
 
 -- what it writes at most in a file with this layout, whatever is told: as many items as an intent has, and one byte for its gate

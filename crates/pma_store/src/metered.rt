@@ -52,7 +52,8 @@ impl Model for Metered {
 impl Metered {
     /// Begins a session on a store.
     pub fn new(store: Store) -> Metered
-        // A session begins with no update and no charge, at the height of the store.
+        // A session begins with no update and no charge, at the height of the store. Its bound has room for the store's
+        // potential, unless the store is closed.
         ensures store { result.store ≡ store }
         ensures ledger { result.ledger ≡ empty_ledger store.tally.height }
         ensures metered { IsMetered result }
@@ -91,6 +92,8 @@ impl Metered {
     /// The slot format of the file.
     pub fn format(&self) -> u32
         ensures format { result ≡ self.now.store.place.layout.format }
+        // What is true of every store, on every station: its layout is one that a file may have, its region is 0 or 1, and every
+        // window is within its bounds by the kept counts.
         ensures store { IsStore self.now.store }
     {
         self.store.format()
@@ -99,6 +102,8 @@ impl Metered {
     /// The height of the array.
     pub fn height(&self) -> u32
         ensures height { result ≡ self.now.store.tally.height }
+        // What is true of every store, on every station: its layout is one that a file may have, its region is 0 or 1, and every
+        // window is within its bounds by the kept counts.
         ensures store { IsStore self.now.store }
     {
         self.store.height()
@@ -140,7 +145,7 @@ impl Metered {
         ensures early { IfErr result (IsMetFirst Add self.old.store.tally (S.view station.old) (S.view station.new)) }
         // On every station the update goes by the kept counts and marks, as `UpdatesAt` says.
         ensures at { UpdatesAt (bind key.now value.now) result (λ done. is_new done.0) (λ done. done.1) self.old.store self.new.store (S.view station.old) (S.view station.new) }
-        // It is one update, which is noted with its charge if it answers Ok.
+        // It is one update, which is noted with its charge if it answers Ok, as `Notes` says.
         ensures notes { Notes (bind key.now value.now ∷ []) result (λ done. 1) (λ done. charge_told self.new.store.tally.height (put_changes done.0) done.1) self.old self.new (S.view station.old) }
         // On Ok at most `4101 * F` bytes times its charge are written, with F pages a segment, on every station.
         ensures images { IfOk result (λ done. (S.view station.new).travel.written ≤ (S.view station.old).travel.written + 4101 * self.old.store.place.layout.format * charge_told self.new.store.tally.height (put_changes done.0) done.1) }
@@ -182,7 +187,7 @@ impl Metered {
         ensures early { IfErr result (IsMetFirst Take self.old.store.tally (S.view station.old) (S.view station.new)) }
         // On every station the update goes by the kept counts and marks, as `UpdatesAt` says.
         ensures at { UpdatesAt (unbind key.now) result (λ done. done.0) (λ done. done.1) self.old.store self.new.store (S.view station.old) (S.view station.new) }
-        // It is one update, which is noted with its charge if it answers Ok.
+        // It is one update, which is noted with its charge if it answers Ok, as `Notes` says.
         ensures notes { Notes (unbind key.now ∷ []) result (λ done. 1) (λ done. charge_told self.new.store.tally.height done.0 done.1) self.old self.new (S.view station.old) }
         // On Ok at most `4101 * F` bytes times its charge are written, with F pages a segment, on every station.
         ensures images { IfOk result (λ done. (S.view station.new).travel.written ≤ (S.view station.old).travel.written + 4101 * self.old.store.place.layout.format * charge_told self.new.store.tally.height done.0 done.1) }
@@ -221,7 +226,8 @@ impl Metered {
         // A segment that a fault names is below `2^H`, with H the greatest height, a slot below 64, and two counts that it tells
         // differ.
         ensures counted { IfErr result (TellsOther (2 ^ limit_of self.old.store)) }
-        // For an accepted batch as many updates as it has items are noted, with the sum of their charges; for a refused one none.
+        // If it answers Ok, as many updates as it has items are noted of an accepted batch, with the sum of their charges, and
+        // none of a refused one, as `Notes` says.
         ensures notes { Notes (items_made (version_of self.old.store) (limit_of self.old.store) (map_of (S.view station.old).held) intent.now) result (made_in (length intent.now)) charge_in self.old self.new (S.view station.old) }
     {
         match self.store.batch(station, intent) {
@@ -291,7 +297,10 @@ impl Metered {
     pub fn probe(&mut self, key: &Key, block: u32) -> Probe
         requires open { self.old.store.closed ≡ false }
         requires block { 1 ≤ block }
-        // What a probe answers is `Probes`. The store stays.
+        // It answers the segment to which the key belongs in every file for which the store stands, which is one of the store's
+        // on every station; the height, as the number of nodes that its search visits; how many blocks of `block` nodes these
+        // touch, where position 0 begins a block; and the bound on that, which isn't passed. At height 0 all four are 0. The
+        // store stays.
         ensures probed { Probes key.now block result self.old.store }
         ensures kept { self.new.store ≡ self.old.store }
         // The ledger stays, with its charges within their bound.

@@ -17,6 +17,8 @@ impl Store {
         requires fits { Fits parts.place parts.tally parts.index parts.frames.journal }
         // A store that is made of parts has just these, and isn't closed.
         ensures store { result ≡ record { place = parts.place; tally = parts.tally; index = parts.index; journal = parts.frames.journal; turn = parts.frames.turn; closed = false } }
+        // What is true of every store, on every station: its layout is one that a file may have, its region is 0 or 1, and every
+        // window is within its bounds by the kept counts.
         ensures is_store { IsStore result }
     {
         store_of(parts)
@@ -34,6 +36,8 @@ impl Store {
         ensures journal { result.frames.journal ≡ self.journal }
         ensures turn { result.frames.turn ≡ self.turn }
         ensures intent { result.intent ≡ None }
+        // What is true of every store, on every station: its layout is one that a file may have, its region is 0 or 1, and every
+        // window is within its bounds by the kept counts.
         ensures store { IsStore self }
     {
         Parts {

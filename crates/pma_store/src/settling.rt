@@ -20,7 +20,7 @@ impl Store {
         requires open { IsOpenOn self.old (S.view station.old) }
         // What it comes to is `SettlesStore`.
         ensures settled { SettlesStore result self.old self.new (S.view station.old) (S.view station.new) }
-        // Below version 4 no call is made: nothing is pending there, and no page is to be laid.
+        // Below version 4 the station is left as it was, without a call.
         ensures untouched { self.old.place.layout.version ≢ PAIRED → station.new ≡ station.old }
         // On Ok the store is open on its file.
         ensures open { OnOk result (IsOpenOn self.new (S.view station.new)) }
