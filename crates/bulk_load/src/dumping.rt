@@ -19,7 +19,8 @@ pub fn sweep_all<'a>(place: &Place, tally: &'a Tally, page: &'a mut HeldPage) ->
     requires layout { IsLayout place.now.layout }
     requires region { place.now.region < 2 }
     requires height { tally.now.height ≤ height_limit place.now.layout }
-    // The sweep begins in the first segment of the place's region, by the counts of the tally. It gave nothing, and met no fault.
+    // The sweep begins to read with the first segment of the place's region, by the counts of the tally. It gave nothing, holds
+    // nothing that was read, and met no fault.
     ensures layout { result.reader.layout ≡ place.now.layout }
     ensures region { result.reader.region ≡ place.now.region }
     ensures first { result.reader.next ≡ 0 }
@@ -28,8 +29,8 @@ pub fn sweep_all<'a>(place: &Place, tally: &'a Tally, page: &'a mut HeldPage) ->
     ensures kept { result.kept ≡ [] }
     ensures unfaulted { result.faulted ≡ false }
     ensures is_sweep { IsSweep result }
-    // If the image is a valid file at this place, with this height and these counts and every window within its bounds, the scan
-    // of the sweep is all records of its map, in order.
+    // If the image is a valid file at this place, with this height and these counts and every window within its bounds, the sweep
+    // sweeps over its records, from the segment on in which the scan begins, and the scan is all records of its map, in order.
     ensures sweeping { (image : List ℕ) → StandsBalanced place.now.layout place.now.region tally.now.height tally.now.counts image → IsSweeping result image }
     ensures begins { (image : List ℕ) → StandsBalanced place.now.layout place.now.region tally.now.height tally.now.counts image → BeginsThere result (entries (map_of image)) }
     ensures all { (image : List ℕ) → StandsBalanced place.now.layout place.now.region tally.now.height tally.now.counts image → scan_of result image ≡ entries (map_of image) }

@@ -57,13 +57,13 @@ pub fn load_rows<I: Source, S: Station>(
     requires rests { RestsAt place.old.layout frames.old.turn (S.view station.old) }
     requires unread { IsUnread reader.old }
 
-    // On Ok the store had no records, and the file has those of the text, spread evenly over the segments of the least
-    // height that holds them, with every window within its bounds.
+    // On Ok the store had no records. The file has those of the text, which it admits, spread evenly over the segments of the
+    // least height that holds them, with every window within its bounds; how many they are, and this height, are answered.
     ensures loaded { IfOk result (λ loaded. (rows : List Record) × IsLoaded place.old rows loaded.records loaded.height (TextFor place.old.layout reader.old (I.view source.old)) (S.view station.new)) }
     ensures empty { OnOk result (sum tally.now.counts ≡ 0) }
     // On Ok the source is at its end, and gave fewer bytes than might be taken.
     ensures whole { OnOk result (SourceTold (I.view source.old) → ((I.view source.new).left ≡ []) × (length (I.view source.old).left < reader.old.room)) }
-    // On Ok nothing is pending, the station is at rest, and the place is that of the other region. A fault leaves the place.
+    // On Ok the station is at rest with nothing pending, and the place is that of the other region. A fault leaves the place.
     ensures settled { OnOk result (NothingPending (S.view station.new)) }
     ensures rests { OnOk result (RestsAt place.new.layout frames.new.turn (S.view station.new)) }
     ensures place { OnOk result (place.new ≡ record place.old { region = 1 - place.old.region }) }
@@ -72,30 +72,35 @@ pub fn load_rows<I: Source, S: Station>(
     ensures journal { frames.new.journal ≡ frames.old.journal }
     ensures turn { frames.new.turn ≡ frames.old.turn }
 
-    // At every moment the file represents the map that it did, at its height, or that of the whole text at the least height.
-    // Gate and layout stay, and so does each byte but those of the selector, the other copy and the other region.
+    // At every moment, and in the held bytes whatever is answered, the file represents the map that it did, at its height, or
+    // that of the whole text at the least height. Gate and layout stay, and so does each byte but those of the selector, the
+    // other copy and the other region.
     ensures steps { Steps (Loads place.old (TextFor place.old.layout reader.old (I.view source.old))) (S.view station.old) (S.view station.new) }
-    // A store that has records is left alone: no call of the station or of the source is made.
+    // If the store has records, station and source are left as they were, without a call of the station and with nothing taken.
     ensures untouched { 0 < sum tally.now.counts → (station.new ≡ station.old) × (source.new ≡ source.old) }
     // Costs: on Ok at most `8192 * F * 2^h + 9` bytes written in slots of format F, h the height.
     ensures cost { IfOk result (λ loaded. (S.view station.new).travel.written ≤ (S.view station.old).travel.written + (2 * segment_size place.old.layout * 2 ^ loaded.height + 9)) }
-    // Costs: with frames for n segments, on Ok one call for each n packed segments written, one for each `n / 2` of them
-    // read again, one for each `n - n / 2` segments of the new array, each number rounded up, and four for the flip.
+    // Costs: with room for n segments in the frames, of which at most 256 pages are used, on Ok at most one call for each n
+    // packed segments written, one for each `n / 2` of them read again, one for each `n - n / 2` segments of the new array, each
+    // number rounded up, and four for the flip.
     ensures calls { IfOk result (λ loaded. (S.view station.new).calls ≤ (S.view station.old).calls + load_calls place.old.layout loaded.records (2 ^ loaded.height)) }
 
-    // Whatever is answered, it costs no more than the load of the most records that the store may hold.
+    // Whatever is answered, no more is written, and no more calls are made, than the load of the most records that the store may
+    // hold may write and make.
     ensures most_cost { (S.view station.new).travel.written ≤ (S.view station.old).travel.written + (2 * segment_size place.old.layout * 2 ^ height_limit place.old.layout + 9) }
     ensures most_calls { (S.view station.new).calls ≤ (S.view station.old).calls + load_calls place.old.layout (most_records place.old.layout) (2 ^ height_limit place.old.layout) }
 
     // Whatever is answered, what was taken is a front of what the source had left, and no more than might be taken.
     ensures takes { SourceTold (I.view source.old) → TakesAtMost reader.old.room (I.view source.old) (I.view source.new) }
 
-    // `NotEmpty` comes exactly if there are records. Else `Line` is the first line that can't stand there, or the one behind an
-    // unfinished text; `Full` a record too many; `Script` a failed read; `Spent` a text of all bytes that may be taken, or more.
+    // `NotEmpty` comes exactly if there are records, and tells how many; nothing is taken of the source then. Else `Line` is the
+    // first line that can't stand there, with no record too many before it, or the one behind an unfinished text; `Full` a record
+    // too many, with the most that there may be; `Script` comes only if the source's count of failed reads rose, and `Spent` only
+    // if all bytes were taken that may be, both only if the complete lines among the bytes taken make no refusal due.
     ensures fault { IfErr result (IsLoadFault place.old.layout.format (most_records place.old.layout) (sum tally.now.counts) reader.old (I.view source.old) (I.view source.new)) }
-    // After every fault but the disk's the file stands for the counts of before.
+    // After every fault but the disk's the file stands for the place and the counts of before, whatever a crash leaves then.
     ensures kept { IfErr result (λ fault. IsNoDisk fault → EachHeld (StandsFor place.old tally.now) (S.view station.new)) }
-    // If the station tells its bytes, no segment is found damaged. Else a frame shows the damage.
+    // If the station tells its bytes, no segment is found damaged. Else a frame shows the damage that is named.
     ensures damaged { IfErr result (λ fault. Told (S.view station.old) → IsNoDamage fault) }
     ensures shown { IfErr result (IsShownBy place.old.layout.format frames.new) }
     // `Disk` comes only if the count of disk faults rose.
