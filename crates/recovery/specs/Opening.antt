@@ -37,27 +37,31 @@ pub record OpensFile {T : Type 0} (opens : List ℕ → List ℕ → Type 0) (re
   -- on Ok there is no reason against the file, and `NotStore` names the first one, if the station tells its bytes
   pub sound : OnOk result (Told a → opening_reason a.held ≡ None)
   pub refused : IfErr result (λ e. (r : Reason) → e ≡ NotStore r → Told a → opening_reason a.held ≡ Some r)
-  -- each file that means a map is opened, but for want of memory and faults of the disk, if the station tells its bytes
+  -- if the station tells its bytes and the count of disk faults didn't rise, each file that means a map is opened, but for want
+  -- of memory
   pub complete : Told a → (m : Map) (height : ℕ) → Means a.held m height → ¬ Rose a.disk_faults b.disk_faults → IsOk result ⊎ IsErrOf result Memory
   -- at every moment, and in the held bytes whatever is answered, the file comes by `opens` from the one at entry
   pub steps : Steps opens a b
-  -- a refused file represents what it did at every moment, and recovers to what it recovered to
+  -- a refused file represents at every moment what it did and recovers to what it recovered to, and no byte of it differs but
+  -- those of the journal's gate and the regions
   pub late : IfErr result (λ e. (r : Reason) → e ≡ NotStore r → Steps Restores a b)
   -- a refusal for the header or the journal leaves every byte, and so does any refusal if no page is to be laid over the live
-  -- region
+  -- region; nothing is written then
   pub early : IfErr result (λ e. (r : Reason) → e ≡ NotStore r → IsEarly r → LeavesFile a b)
   pub bare : IfErr result (λ e. (r : Reason) → e ≡ NotStore r → Told a → IsBare (layout_in a.held) a.held → LeavesFile a b)
   -- behind a refusal nothing is pending
   pub refused_settled : IfErr result (λ e. (r : Reason) → e ≡ NotStore r → NothingPending b)
-  -- want of memory comes behind the sync and a sound header: nothing is pending, and nothing is written
+  -- behind want of memory nothing is pending, nothing is wrong with the header, every byte is left at every moment, and nothing
+  -- is written
   pub memory : IsErrOf result Memory → LeavesFile a b
   pub memory_last : IsErrOf result Memory → NothingPending b × (Told a → header_reason a.held ≡ None)
-  -- a file to which nothing is to be done keeps every byte, nothing is written, and no more is read than `reads` says
+  -- whatever is answered, a file to which nothing is to be done keeps every byte, nothing is written, and no more is read than
+  -- `reads` says
   pub kept : Told a → rests a.held → LeavesFile a b
   pub one_pass : Told a → rests a.held → b.travel.read ≤ a.travel.read + reads a.held
-  -- a file with a reason against its header keeps every byte, and nothing is written
+  -- whatever is answered, a file with a reason against its header keeps every byte, and nothing is written
   pub unsound : Told a → header_reason a.held ≢ None → LeavesFile a b
-  -- if the station tells its bytes, a segment that is read again is as it was: `Damaged` never comes
+  -- if the station tells its bytes, `Damaged` never comes
   pub damaged : IfErr result (λ e. Told a → IsNoDamage e)
 
 -- more was done than one call that failed

@@ -21,12 +21,12 @@ pub fn make_parts(alloc: Global, header: &Header) -> Result<Parts, AllocError>
     requires layout { IsLayout header.now.layout }
     requires live { header.now.live < 2 }
     requires height { header.now.height ≤ height_limit header.now.layout }
-    // On Ok the parts are for the header's layout, live region and height, and the index has room for the layout's greatest
+    // On Ok the parts are for a store of the header's layout and live region, and the index has room for the layout's greatest
     // height.
     ensures parts { IfOk result (λ parts. AreParts parts.place parts.tally parts.index parts.frames.journal) }
     ensures room { IfOk result (λ parts. parts.index.hmax ≡ height_limit header.now.layout) }
     ensures place { IfOk result (λ parts. parts.place ≡ record { layout = header.now.layout; region = header.now.live }) }
-    // On Ok they note an even gate, have no intent, and count no record.
+    // On Ok they note an even gate, have no intent, and count no record, at the header's height.
     ensures turn { IfOk result (λ parts. parts.frames.turn ≡ 0) }
     ensures intent { IfOk result (λ parts. parts.intent ≡ None) }
     ensures tally { IfOk result (λ parts. parts.tally ≡ empty_tally (height_limit header.now.layout) header.now.height) }
