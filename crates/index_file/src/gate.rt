@@ -19,10 +19,10 @@ pub fn close_clean<S: Station>(station: &mut S) -> Result<(), Failed>
     requires page { HasPage (S.view station.old) }
     // At every moment, and in the held bytes whatever is answered, no byte differs but the clean gate's.
     ensures steps { Steps (Touched IsCleanPlace) (S.view station.old) (S.view station.new) }
-    // On Ok the clean gate is 0, and nothing is pending.
+    // On Ok the byte of the clean gate is 0, and nothing is pending.
     ensures settled { OnOk result (NothingPending (S.view station.new)) }
     ensures closed { OnOk result (Told (S.view station.old) → byte (S.view station.new).held 704 ≡ 0) }
-    // Costs: at most one byte written, none read, at most two calls (a write, a sync).
+    // Costs: at most one byte written, none read, at most two calls.
     ensures cost { (S.view station.new).travel.written ≤ (S.view station.old).travel.written + 1 }
     ensures no_reads { (S.view station.new).travel.read ≡ (S.view station.old).travel.read }
     ensures calls { (S.view station.new).calls ≤ (S.view station.old).calls + 2 }

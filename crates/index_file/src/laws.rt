@@ -21,16 +21,16 @@ pub fn clean_images()
     ensures closing { (old new : List ℕ) → IsClean old → clean_gate old ≡ 1 → Touched IsCleanPlace old new → IsClean new }
     // An image is clean if the byte of its clean gate is that of an image with an even one, whatever else differs.
     ensures untouched { (old new : List ℕ) → clean_gate old ≡ 0 → byte new 704 ≡ byte old 704 → IsClean new }
-    // The index of a clean image that the header refuses means nothing.
+    // A clean image with a reason against its header has no index, or an even clean gate.
     ensures refused { (image : List ℕ) (r : Reason) → IsClean image → header_reason image ≡ Some r → IsShut image }
 {}
 
-/// A law: nothing is wrong with the index of an image that was left, so a store is always opened by it.
+/// A law: nothing is wrong with the index of an image that was left.
 pub fn left_indexes_are_sound()
     ensures { (image : List ℕ) → IsLeft image → area_reason (layout_in image) (height_of image) image ≡ None }
 {}
 
-/// A law: a clean file of version 3 or later whose clean gate is odd is opened by its index.
+/// A law: a clean file of version 3 or 4 whose clean gate is odd may be opened by its index, as `IsQuick` asks.
 pub fn clean_files_are_quick()
     ensures { (image : List ℕ) → IsClean image → IsIndexed (version_of image) → clean_gate image ≡ 1 → IsQuick image }
 {}

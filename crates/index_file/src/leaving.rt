@@ -31,14 +31,14 @@ pub fn leave_index<S: Station>(station: &mut S, parts: &mut Parts) -> Result<(),
     // At every moment, and in the held bytes whatever is answered, the image is clean, and no byte differs but those of the index
     // and the clean gate.
     ensures steps { Steps (Leaves parts.old.place.layout) (S.view station.old) (S.view station.new) }
-    // On Ok the clean gate is 1, the index is that of the array, and nothing is pending.
+    // On Ok the byte of the clean gate is 1, the index is that of the array (`IsLeft`), and nothing is pending.
     ensures left { OnOk result (Told (S.view station.old) → IsLeft (S.view station.new).held) }
     ensures opened { OnOk result (Told (S.view station.old) → byte (S.view station.new).held 704 ≡ 1) }
     ensures settled { OnOk result (NothingPending (S.view station.new)) }
     // The parts stay.
     ensures kept { parts.new ≡ parts.old }
-    // Costs at height h: at most `68 * 2^h + 1` bytes written, none read; one call for each 64 nodes and each 1024 counts, and
-    // three.
+    // Costs at height h: at most `68 * 2^h + 1` bytes written, none read; at most one call for each 64 nodes and each 1024
+    // counts, each number rounded up, and three.
     ensures cost { (S.view station.new).travel.written ≤ (S.view station.old).travel.written + (68 * 2 ^ parts.old.tally.height + 1) }
     ensures no_reads { (S.view station.new).travel.read ≡ (S.view station.old).travel.read }
     ensures calls { (S.view station.new).calls ≤ (S.view station.old).calls + (area_calls parts.old.tally.height + 3) }

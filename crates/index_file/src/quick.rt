@@ -45,17 +45,18 @@ pub fn open_quick<S: Station>(alloc: Global, station: &mut S) -> Result<Option<P
     ensures rests { IfOk result (λ given. IfSome given (λ parts. RestsAt parts.place.layout parts.frames.turn (S.view station.new))) }
     ensures settled { OnOk result (NothingPending (S.view station.new)) }
 
-    // On Ok, if the station tells its bytes, parts are answered exactly if the file may be opened so (`IsQuick`).
+    // On Ok, if the station tells its bytes, parts are answered exactly if nothing is wrong with the header, the version is 3 or
+    // 4, the clean gate is odd and the intent's even, and so is the journal's, at version 4 either (`IsQuick`).
     ensures quick { IfOk result (λ given. IfSome given (λ parts. Told (S.view station.old) → IsQuick (S.view station.old).held)) }
     ensures passed { IfOk result (λ given. IsNone given → Told (S.view station.old) → ¬ IsQuick (S.view station.old).held) }
-    // If the station tells its bytes, it fails only for want of memory or faults of the disk.
+    // If the station tells its bytes and the count of disk faults didn't rise, it answers Ok or `Memory`.
     ensures complete { Told (S.view station.old) → ¬ Rose (S.view station.old).disk_faults (S.view station.new).disk_faults →
         IsOk result ⊎ IsErrOf result OpenFault.Memory }
 
-    // The first call is a sync, before anything is read: behind it, whatever a crash leaves has the bytes that were held at
-    // entry, unless it failed and was the only call.
+    // The first call settles what was pending, as a sync does: behind it, whatever a crash leaves is what was held at entry,
+    // unless it failed and was the only call.
     ensures synced { SyncsFirst Same result (S.view station.old) (S.view station.new) }
-    // Reading changes nothing, and writes nothing.
+    // Whatever is answered, no byte changes at any moment, and nothing is written.
     ensures steps { Steps Same (S.view station.old) (S.view station.new) }
     ensures unwritten { (S.view station.new).travel.written ≡ (S.view station.old).travel.written }
     // If parts are answered, the header page, the nodes and the counts were read, each once from its start to its end, and no
@@ -69,13 +70,13 @@ pub fn open_quick<S: Station>(alloc: Global, station: &mut S) -> Result<Option<P
     // `NotStore` names the place of a node or a count that was read, in the order of the tests: of a node if no count was read,
     // of a count behind all nodes. It lies in the piece that was read last, or all were read.
     ensures named { IfErr result (λ e. (place : ℕ) → e ≡ OpenFault.NotStore (Reason.Index place) → NamesRead (S.view station.old) place (S.view station.new).travel) }
-    // At most three calls, and one for each 64 nodes and each 1024 counts; at None three. If the station tells its bytes, that
-    // holds by the height of the file, whatever is answered.
+    // On Ok at most three calls, and one for each 64 nodes and each 1024 counts, each number rounded up; at None three. If the
+    // station tells its bytes, that holds by the height of the file, whatever is answered.
     ensures calls { IfOk result (λ given. IfSome given (λ parts. (S.view station.new).calls ≤ (S.view station.old).calls + (3 + area_calls parts.tally.height))) }
     ensures page_calls { IfOk result (λ given. IsNone given → (S.view station.new).calls ≤ (S.view station.old).calls + 3) }
     ensures calls_told { Told (S.view station.old) → (S.view station.new).calls ≤ (S.view station.old).calls + (3 + area_calls (height_of (S.view station.old).held)) }
 
-    // `Memory` comes behind the sync and a sound header, and nothing is pending.
+    // Behind `Memory` nothing is pending, and nothing is wrong with the header.
     ensures memory { IsErrOf result OpenFault.Memory → NothingPending (S.view station.new) × (Told (S.view station.old) → header_reason (S.view station.old).held ≡ None) }
     // `NotStore` names a place of the index, and never comes if the station tells its bytes; `Damaged` never comes.
     ensures causes { IfErr result IsQuickFault }
