@@ -22,10 +22,10 @@ use Rattle.segment_frames.specs.Lists.{held_lists, segments_in}
 use Rattle.station.specs.declared.station.Failed.{Failed}
 use Rattle.veb_index.specs.View.{IndexView, fence_of}
 use Rattle.window_tally.specs.View.{TallyView, IsTally}
-use Rattle.pma_store.specs.declared.at_once.Tried.{Tried}
-use Rattle.pma_store.specs.declared.at_once.Tried.TheVariants.{Full, Judged, Done}
-use Rattle.pma_store.specs.declared.judging.Judged.{Judged as JudgedItems}
-use Rattle.pma_store.specs.declared.look.Look.{Look}
+use Rattle.pma_store.specs.declared.batch.Tried.{Tried}
+use Rattle.pma_store.specs.declared.batch.Tried.TheVariants.{Full, Judged, Done}
+use Rattle.pma_store.specs.declared.judgement.Judged.{Judged as JudgedItems}
+use Rattle.pma_store.specs.declared.batch_scan.Look.{Look}
 use Rattle.pma_store.specs.Answers.{state_in}
 use Rattle.pma_store.specs.Batching.{AppliesBatch, done_by}
 use Rattle.pma_store.specs.Judging.{JudgesItems, counts_of, edits_of}

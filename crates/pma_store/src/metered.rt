@@ -1,6 +1,8 @@
 //! A store whose updates are noted in a ledger.
+//!
+//! Each call is the store's own. What an update answers says what it is charged, and the file is not asked again.
 
-ghost use Rattle.std.specs.Prelude.{◌≡◌, ◌+◌, ◌*◌, ◌≤◌, ◌<◌, ◌^◌, [], ◌∷◌, false, IsTrue, OnOk, IfOk, IfErr, IsErrOf, is_err, length, sum, T};
+ghost use Rattle.std.specs.Prelude.{◌≡◌, ◌+◌, ◌*◌, ◌^◌, ◌<◌, ◌≤◌, [], ◌∷◌, false, IsTrue, OnOk, IfOk, IfErr, IsErrOf, is_err, length, sum, T};
 ghost use Rattle.std.specs.List.{list_all};
 ghost use Rattle.station.specs.View.{Told, Rose};
 ghost use Rattle.batch_intent.specs.Spelling.{fits_item};
@@ -17,8 +19,7 @@ ghost use Rattle.pma_store.specs.Makes.{Puts, Removes};
 ghost use Rattle.pma_store.specs.Metered.{IsMetered, Notes};
 ghost use Rattle.pma_store.specs.Store.{IsStore, IsOpenOn, limit_of};
 
-use crate::answers::{Batch, Checked, Put, Report};
-use crate::charging::work_of;
+use crate::answers::{Batch, Checked, Put, Report, work_of};
 use crate::store::Store;
 use batch_intent::Intent;
 use block_touch::Probe;
