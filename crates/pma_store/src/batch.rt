@@ -268,7 +268,9 @@ impl OpenArray {
     ) -> Result<u64, StoreFault>
         requires on { StandsOn self.old (S.view station.old) }
         requires fits { FitsFormat self.old.place.layout.format (update_of update.now) }
-        requires found { Told (S.view station.old) → IsAsFound found (is_some (value_of (key_of (update_of update.now)) (segment_at (array_of (S.view station.old).held) (segment_for (array_of (S.view station.old).held) (key_of (update_of update.now)))))) }
+        requires found { Told (S.view station.old) →
+            IsAsFound found (is_some (value_of (key_of (update_of update.now))
+            (segment_at (array_of (S.view station.old).held) (segment_for (array_of (S.view station.old).held) (key_of (update_of update.now)))))) }
         ensures made { MakesItem (update_of update.now) result self.old self.new (S.view station.old) (S.view station.new) }
         ensures as_found { OnOk result (CountsAsFound found (update_of update.now) self.old.tally self.new.tally) }
     {
@@ -299,7 +301,9 @@ impl OpenArray {
         rows: &mut Segment,
     ) -> Result<Spot, StoreFault>
         requires on { StandsOn self.old (S.view station.old) }
-        requires found { Told (S.view station.old) → IsAsFound found (is_some (value_of (key_of (update_of update.now)) (segment_at (array_of (S.view station.old).held) (segment_for (array_of (S.view station.old).held) (key_of (update_of update.now)))))) }
+        requires found { Told (S.view station.old) →
+            IsAsFound found (is_some (value_of (key_of (update_of update.now))
+            (segment_at (array_of (S.view station.old).held) (segment_for (array_of (S.view station.old).held) (key_of (update_of update.now)))))) }
         ensures spot { FindsSpot (update_of update.now) result self.old self.new rows.new (S.view station.old) (S.view station.new) }
         ensures store { IsStore self.new }
         ensures as_found { IfOk result (λ spot. IsAsFound found (is_ok spot.found)) }

@@ -180,8 +180,12 @@ fn take_in(
     requires may { MayLoad layout.now intent.now segments.now segment frames.old look.old rows.old }
     ensures loaded { AreLoaded layout.now.format frames.new look.new (segment + 1) }
     ensures count { look.new.count ≤ look.old.count + 1 }
-    ensures looked { (array : Array) → 0 < length array → IsAscending (rows_of array) → BelongThere array segments.now intent.now → rows.old ≡ segment_at array segment → HasLooked layout.now.format array segments.now intent.now frames.old look.old segment → HasLooked layout.now.format array segments.now intent.now frames.new look.new (segment + 1) }
-    ensures used { (array : Array) → segment < length array → IsAscending (rows_of array) → BelongThere array segments.now intent.now → rows.old ≡ segment_at array segment → AreUsed layout.now array intent.now frames.old look.old.whole → AreUsed layout.now array intent.now frames.new look.new.whole }
+    ensures looked { (array : Array) → 0 < length array → IsAscending (rows_of array) → BelongThere array segments.now intent.now →
+        rows.old ≡ segment_at array segment → HasLooked layout.now.format array segments.now intent.now frames.old look.old segment →
+        HasLooked layout.now.format array segments.now intent.now frames.new look.new (segment + 1) }
+    ensures used { (array : Array) → segment < length array → IsAscending (rows_of array) → BelongThere array segments.now intent.now →
+        rows.old ≡ segment_at array segment → AreUsed layout.now array intent.now frames.old look.old.whole →
+        AreUsed layout.now array intent.now frames.new look.new.whole }
     ensures journal { frames.new.journal ≡ frames.old.journal }
     ensures turn { frames.new.turn ≡ frames.old.turn }
 {

@@ -167,7 +167,9 @@ pub(crate) fn list_changes(
     requires found { length found.now ≡ 16 }
     ensures few { result ≤ length intent.now }
     ensures in_store { (n : ℕ) → ((k : ℕ) → k < length segments.now → slice_index_or segments.now k 0 < n) → All (λ c. c.segment < n) (take result changes.new) }
-    ensures listed { (array : Array) (n : ℕ) → 0 < length array → IsAscending (rows array) → BelongThere array segments.now intent.now → ((k : ℕ) → k < length segments.now → slice_index_or segments.now k 0 < n) → HasFound array segments.now intent.now found.now n → take result changes.new ≡ changes_in array intent.now }
+    ensures listed { (array : Array) (n : ℕ) → 0 < length array → IsAscending (rows array) →
+        BelongThere array segments.now intent.now → ((k : ℕ) → k < length segments.now → slice_index_or segments.now k 0 < n) →
+        HasFound array segments.now intent.now found.now n → take result changes.new ≡ changes_in array intent.now }
 {
     let mut count = 0;
     for i in 0..intent.len() {

@@ -95,7 +95,9 @@ impl OpenArray {
         requires pick { pick ≡ pick_of self.old.tally.hmax self.old.tally.height spot.segment change (broken_in change spot.segment self.old.tally) }
         requires possible { IsPossible self.old.tally pick }
         requires room { pick ≢ Pick.AtLimit }
-        ensures kept { KeepsStore result (ready_cost self.old.place.layout self.old.tally.height pick) (ready_calls self.old.place.layout self.old.tally.height pick + again_calls pick) self.old self.new (S.view station.old) (S.view station.new) }
+        ensures kept { KeepsStore result (ready_cost self.old.place.layout self.old.tally.height pick)
+            (ready_calls self.old.place.layout self.old.tally.height pick + again_calls pick)
+            self.old self.new (S.view station.old) (S.view station.new) }
         ensures place { OnOk result (IsPlaceAfter (resizes pick) self.old self.new (S.view station.old) (S.view station.new)) }
         ensures ready { IfOk result (λ next. IsReady (update_of update.now) change spot.segment self.old self.new next rows.new) }
         ensures own { IfOk result (λ next. Told (S.view station.old) → HasReady (update_of update.now) change spot.segment self.old next rows.new (S.view station.old).held (S.view station.new).held) }

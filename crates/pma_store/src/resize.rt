@@ -47,7 +47,9 @@ impl OpenArray {
         requires on { StandsOn self.old (S.view station.old) }
         requires limit { self.old.tally.height < self.old.tally.hmax }
         requires bounds { IsInBounds (self.old.tally.height + 1) (self.old.tally.height + 1) (sum self.old.tally.counts) }
-        ensures kept { KeepsStore result (resize_cost self.old.place.layout (self.old.tally.height + 1)) (resize_calls self.old.place.layout self.old.tally.height (self.old.tally.height + 1)) self.old self.new (S.view station.old) (S.view station.new) }
+        ensures kept { KeepsStore result (resize_cost self.old.place.layout (self.old.tally.height + 1))
+            (resize_calls self.old.place.layout self.old.tally.height (self.old.tally.height + 1))
+            self.old self.new (S.view station.old) (S.view station.new) }
         ensures among { IfErr result (λ fault. (fault ≡ StoreFault.Failed) ⊎ IsMetAmong self.old.tally fault) }
         ensures place { OnOk result (IsPlaceAfter true self.old self.new (S.view station.old) (S.view station.new)) }
         ensures array { OnOk result (Told (S.view station.old) → array_of (S.view station.new).held ≡ resized (array_of (S.view station.old).held) (self.old.tally.height + 1)) }
@@ -70,7 +72,9 @@ impl OpenArray {
         requires bare { Told (S.view station.old) → IsBare self.old.place.layout (S.view station.old).held }
         requires limit { self.old.tally.height < self.old.tally.hmax }
         requires bounds { IsInBounds (self.old.tally.height + 1) (self.old.tally.height + 1) (sum self.old.tally.counts) }
-        ensures kept { KeepsStore result (copying_cost self.old.place.layout (self.old.tally.height + 1)) (copying_calls self.old.place.layout self.old.tally.height (self.old.tally.height + 1)) self.old self.new (S.view station.old) (S.view station.new) }
+        ensures kept { KeepsStore result (copying_cost self.old.place.layout (self.old.tally.height + 1))
+            (copying_calls self.old.place.layout self.old.tally.height (self.old.tally.height + 1))
+            self.old self.new (S.view station.old) (S.view station.new) }
         ensures among { IfErr result (λ fault. (fault ≡ StoreFault.Failed) ⊎ IsMetAmong self.old.tally fault) }
         ensures place { OnOk result (IsPlaceAfter true self.old self.new (S.view station.old) (S.view station.new)) }
         ensures array { OnOk result (Told (S.view station.old) → array_of (S.view station.new).held ≡ resized (array_of (S.view station.old).held) (self.old.tally.height + 1)) }
@@ -102,7 +106,9 @@ impl OpenArray {
         requires on { StandsOn self.old (S.view station.old) }
         requires some { 1 ≤ self.old.tally.height }
         requires bounds { IsInBounds (self.old.tally.height - 1) (self.old.tally.height - 1) (sum self.old.tally.counts) }
-        ensures kept { KeepsStore result (resize_cost self.old.place.layout (self.old.tally.height - 1)) (resize_calls self.old.place.layout self.old.tally.height (self.old.tally.height - 1)) self.old self.new (S.view station.old) (S.view station.new) }
+        ensures kept { KeepsStore result (resize_cost self.old.place.layout (self.old.tally.height - 1))
+            (resize_calls self.old.place.layout self.old.tally.height (self.old.tally.height - 1))
+            self.old self.new (S.view station.old) (S.view station.new) }
         ensures among { IfErr result (λ fault. (fault ≡ StoreFault.Failed) ⊎ IsMetAmong self.old.tally fault) }
         ensures place { OnOk result (IsPlaceAfter true self.old self.new (S.view station.old) (S.view station.new)) }
         ensures array { OnOk result (Told (S.view station.old) → array_of (S.view station.new).held ≡ resized (array_of (S.view station.old).held) (self.old.tally.height - 1)) }
@@ -125,7 +131,9 @@ impl OpenArray {
         requires bare { Told (S.view station.old) → IsBare self.old.place.layout (S.view station.old).held }
         requires some { 1 ≤ self.old.tally.height }
         requires bounds { IsInBounds (self.old.tally.height - 1) (self.old.tally.height - 1) (sum self.old.tally.counts) }
-        ensures kept { KeepsStore result (copying_cost self.old.place.layout (self.old.tally.height - 1)) (copying_calls self.old.place.layout self.old.tally.height (self.old.tally.height - 1)) self.old self.new (S.view station.old) (S.view station.new) }
+        ensures kept { KeepsStore result (copying_cost self.old.place.layout (self.old.tally.height - 1))
+            (copying_calls self.old.place.layout self.old.tally.height (self.old.tally.height - 1))
+            self.old self.new (S.view station.old) (S.view station.new) }
         ensures among { IfErr result (λ fault. (fault ≡ StoreFault.Failed) ⊎ IsMetAmong self.old.tally fault) }
         ensures place { OnOk result (IsPlaceAfter true self.old self.new (S.view station.old) (S.view station.new)) }
         ensures array { OnOk result (Told (S.view station.old) → array_of (S.view station.new).held ≡ resized (array_of (S.view station.old).held) (self.old.tally.height - 1)) }
