@@ -17,4 +17,9 @@ pub mod TextLaws
 pub mod TextFaults
 pub mod DueLaws
 pub mod Admitted
+pub mod MergeLaws
+pub mod MergeReading
+pub mod MergeLines
+pub mod MergeFaults
 mod Vectors
+mod MergeVectors

@@ -17,12 +17,14 @@ pub use laws::{
     texts_are_read_by_lines,
 };
 pub use loading::load_rows;
+pub use merge_laws::{merge_texts_are_read_by_lines, updates_are_merged};
 
 mod aside;
 mod dumping;
 mod fault;
 mod laws;
 mod loading;
+mod merge_laws;
 mod packed;
 mod packing;
 mod reading;
