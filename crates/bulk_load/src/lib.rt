@@ -19,6 +19,7 @@ pub use laws::{
 pub use loading::load_rows;
 pub use merge_laws::{merge_texts_are_read_by_lines, updates_are_merged};
 
+mod ahead;
 mod aside;
 mod dumping;
 mod fault;
@@ -28,5 +29,6 @@ mod merge_laws;
 mod packed;
 mod packing;
 mod reading;
+mod resulting;
 mod room;
 mod spreading;
