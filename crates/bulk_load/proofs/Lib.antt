@@ -21,5 +21,6 @@ pub mod MergeLaws
 pub mod MergeReading
 pub mod MergeLines
 pub mod MergeFaults
+pub mod MergedLoads
 mod Vectors
 mod MergeVectors

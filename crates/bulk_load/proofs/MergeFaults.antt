@@ -1,20 +1,20 @@
 -- Where merge lines are at fault.
-use Rattle.std.proofs.Common.{◌≡◌, inl, inr, ℕ, zero, suc, ◌+◌, ◌-◌, ◌^◌, ◌<◌, ◌≤◌, nat_lt, ◌==◌, max, not, Bool, true, false, cond, List, [], ◌∷◌, ◌++◌, length, take, drop, Some, refl, sym, ap, subst, ◌∙◌, arith, append_assoc}
+use Rattle.std.proofs.Common.{◌≡◌, inl, inr, ℕ, suc, ◌+◌, ◌-◌, ◌<◌, ◌≤◌, nat_lt, ◌==◌, max, not, Bool, true, false, cond, List, [], ◌∷◌, ◌++◌, length, take, drop, Some, refl, sym, ap, subst, ◌∙◌, arith, append_assoc}
 use Rattle.std.specs.Prelude.{codes, decimal}
 use Rattle.std.specs.FinMap.{entries, len, len-entries}
 use Rattle.std.proofs.lemmas.Bool.{lt-ltb, le-ltb, cases_lt}
 use Rattle.std.proofs.lemmas.Bool.Decides.{nat_tests}
 use Rattle.std.proofs.lemmas.List.{append-nil, length-append, take_at, take-append-drop}
-use Rattle.key_slot.specs.Record.{Record, IsAscending}
+use Rattle.key_slot.specs.Record.{Record}
 use Rattle.map_model.specs.Store.{Map, Update, bind, unbind}
 use Rattle.command_text.specs.Merge.{merge_line_raw}
 use Rattle.command_text.specs.declared.merge.MergeLine.{MergeLine}
 use Rattle.command_text.specs.declared.merge.MergeLine.TheVariants.{Nothing, Bind, Remove, End, Bad}
-use Rattle.bulk_load.specs.MergeText.{edit_of_line, edits_in, IsEdit, AreAscending, IsMergeText, BeginsMerge, IsFirstUnmerged, IsMergeUnfinished, IsMergedFull, front_rows, rest_rows, merged_rows, map_after_edits}
-use Rattle.bulk_load.specs.Merging.{Merging, reads, wrong, full, may_follow, after_edit, after_merge_line, merge_step, merge_from, merging, IsOverfull}
+use Rattle.bulk_load.specs.MergeText.{edit_of_line, IsEdit, AreAscending, IsMergeText, BeginsMerge, IsFirstUnmerged, IsMergeUnfinished, IsMergedFull, front_rows, rest_rows, map_after_edits}
+use Rattle.bulk_load.specs.Merging.{Merging, reads, wrong, full, may_follow, after_merge_line, merge_step, merge_from, merging, IsOverfull}
 use Rattle.bulk_load.proofs.MergeLaws.{merged_are}
 use Rattle.bulk_load.proofs.MergeLines.{end_read}
-use Rattle.bulk_load.proofs.MergeReading.{no_wrong, no_full, full_no_wrong, same_edits, same_end, number_of, stays_wrong, stays_full, merging_append, AreEdits, Reads, reads_all, start, taken, ended_by, begun_of, text_of, text_read}
+use Rattle.bulk_load.proofs.MergeReading.{no_wrong, no_full, full_no_wrong, same_edits, same_end, number_of, stays_wrong, stays_full, merging_append, AreEdits, Reads, reads_all, start, taken, ended_by, begun_of, text_read}
 
 true_false : true ≡ false → ⊥
 true_false e = cc

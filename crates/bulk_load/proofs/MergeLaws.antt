@@ -1,21 +1,21 @@
 -- What results of ascending updates beside ascending records is what the map is after them.
-use Rattle.std.proofs.Common.{◌≡◌, ℕ, ◌≤◌, true, false, cond, not, List, [], ◌∷◌, ◌++◌, map, length, T, refl, sym, ap, subst, ◌∙◌, arith, append_assoc}
+use Rattle.std.proofs.Common.{◌≡◌, ◌≤◌, true, false, cond, not, List, [], ◌∷◌, ◌++◌, map, length, T, refl, sym, ap, subst, ◌∙◌, arith, append_assoc}
 use Rattle.std.specs.declared.cmp.Ordering.{Ordering}
 use Rattle.std.specs.declared.cmp.Ordering.TheVariants.{Less, Equal, Greater}
 use Rattle.std.specs.Ordering.{is_lt, is_eq}
 use Rattle.std.specs.FinMap.{entries, entries_sorted, from_sorted, same_entries_map, entries-from_sorted, is_sorted, put, slice_cmp-IsAntisymmetric, nat_cmp-IsAntisymmetric}
-use Rattle.std.specs.FinMap.Entries.{where_key, below_all, by_order, is_sorted-where_key}
+use Rattle.std.specs.FinMap.Entries.{below_all, by_order, is_sorted-where_key}
 use Rattle.std.specs.Cmp.{IsTotalOrder}
 use Rattle.std.specs.Cmp.Lexicographic.{nat_list_cmp_total}
 use Rattle.std.proofs.lemmas.List.{append-nil, length-append}
 use Rattle.key_slot.specs.Ordered.{without}
 use Rattle.key_slot.specs.Record.{Bytes, Record, key_cmp, IsAscending}
-use Rattle.key_slot.proofs.Truth.{both, first, second, less, is_less, passed, passes}
+use Rattle.key_slot.proofs.Truth.{both, first, second, less, is_less}
 use Rattle.key_slot.proofs.Ordered.{greater_back, less_back, is_sorted-append, below_all_less, without_none}
 use Rattle.map_model.specs.ArrayUpdates.{edited}
 use Rattle.map_model.specs.Reasons.{last_key, begins_above}
 use Rattle.map_model.specs.Store.{Map, Update, bind, unbind, key_of}
-use Rattle.map_model.proofs.Ends.{joined, parted}
+use Rattle.map_model.proofs.Ends.{joined}
 use Rattle.map_model.proofs.Entries.{put-rows, without-rows}
 use Rattle.bulk_load.specs.MergeText.{mark_of, AreAscending, below, above, bound_by, front_rows, rest_rows, merged_rows, map_after_edit, map_after_edits}
 

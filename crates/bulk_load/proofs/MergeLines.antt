@@ -1,5 +1,5 @@
 -- The lines of a load text are lines of a merge text.
-use Rattle.std.proofs.Common.{◌≡◌, ◌≢◌, ℕ, ◌+◌, ◌^◌, ◌<◌, Bool, true, false, cond, List, [], ◌∷◌, ◌++◌, refl, sym, ap, subst, ◌∙◌, arith}
+use Rattle.std.proofs.Common.{◌≡◌, ◌≢◌, ℕ, ◌^◌, ◌<◌, Bool, true, false, cond, List, [], ◌∷◌, ◌++◌, refl, sym, ap, ◌∙◌}
 use Rattle.std.specs.Prelude.{codes, decimal}
 use Rattle.std.specs.Str.{bytes_eq}
 use Rattle.std.specs.Str.Lines.{strip_carriage_return}
@@ -8,9 +8,7 @@ use Rattle.line_source.specs.Lines.{is_long}
 use Rattle.command_text.specs.Words.{words}
 use Rattle.command_text.specs.Load.{load_named, load_words, load_line_raw}
 use Rattle.command_text.specs.Merge.{merge_line_of, removal_line, merge_named, merge_words, merge_line_raw}
-use Rattle.command_text.specs.declared.load.LoadLine.{LoadLine}
 use Rattle.command_text.specs.declared.load.LoadLine.TheVariants as load
-use Rattle.command_text.specs.declared.merge.MergeLine.{MergeLine}
 use Rattle.command_text.specs.declared.merge.MergeLine.TheVariants.{End, Bad}
 use Rattle.command_text.proofs.LoadLaws.{dump_reads_back}
 

@@ -1,5 +1,5 @@
 -- What comes of merge lines that are read one at a time is what they are as a merge text.
-use Rattle.std.proofs.Common.{rules, ◌≡◌, ℕ, zero, suc, ◌+◌, ◌^◌, ◌<◌, ◌≤◌, nat_lt, ◌&&◌, ◌==◌, not, Bool, true, false, cond, List, [], ◌∷◌, ◌++◌, length, map, All, Option, Some, None, refl, sym, ap, subst, ◌∙◌, arith, append_assoc, ne_eqb}
+use Rattle.std.proofs.Common.{rules, ◌≡◌, ℕ, zero, suc, ◌+◌, ◌^◌, ◌<◌, ◌≤◌, nat_lt, ◌&&◌, ◌==◌, not, Bool, true, false, cond, List, [], ◌∷◌, ◌++◌, length, map, All, Option, Some, None, refl, sym, ap, subst, ◌∙◌, arith, append_assoc}
 use Rattle.std.specs.List.{cons_option}
 use Rattle.std.proofs.lemmas.Bool.{lt-ltb, le-ltb}
 use Rattle.std.proofs.lemmas.Bool.Decides.{nat_tests}
@@ -7,7 +7,7 @@ use Rattle.std.proofs.lemmas.List.{append-nil, length-append, map-append}
 use Rattle.std.proofs.lemmas.List.Elements.{All-append, filter_map-append}
 use Rattle.key_slot.specs.Record.{Bytes, Record, IsAscending}
 use Rattle.map_model.specs.Reasons.{last_key, begins_above}
-use Rattle.map_model.specs.Store.{Update, bind, unbind, key_of}
+use Rattle.map_model.specs.Store.{Update, bind, unbind}
 use Rattle.map_model.proofs.Ends.{joined, parted}
 use Rattle.command_text.specs.Merge.{merge_line_raw}
 use Rattle.command_text.specs.declared.merge.MergeLine.{MergeLine}

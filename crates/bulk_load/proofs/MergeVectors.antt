@@ -1,9 +1,8 @@
 -- Merge texts beside records, and what comes of them, as they are known from outside.
-use Rattle.std.proofs.Common.{◌≡◌, inr, [], ◌∷◌, true, false, refl}
+use Rattle.std.proofs.Common.{◌≡◌, inr, [], ◌∷◌, true, refl}
 use Rattle.std.specs.Prelude.{codes}
 use Rattle.std.specs.Fmt.{digits}
 use Rattle.percent_encoding.specs.Percent.{percent_decode}
-use Rattle.key_slot.specs.Record.{Record}
 use Rattle.line_source.specs.Lines.{raw_lines}
 use Rattle.map_model.specs.Store.{bind, unbind}
 use Rattle.command_text.specs.Number.{number_of}

@@ -1,6 +1,6 @@
 -- Merge texts: updates in ascending order of their keys, a line each, and a last line with their number. And what a map is
 -- after them.
-use Rattle.std.specs.Prelude.{◌≡◌, ℕ, ◌+◌, ◌-◌, ◌^◌, ◌<◌, ◌≤◌, List, [], ◌∷◌, ◌++◌, length, map, take, All, Option, Some, None}
+use Rattle.std.specs.Prelude.{◌≡◌, ℕ, ◌-◌, ◌^◌, ◌<◌, ◌≤◌, List, [], ◌∷◌, ◌++◌, length, map, take, All, Option, Some, None}
 use Rattle.std.specs.List.{filter_map}
 use Rattle.std.specs.Ordering.{is_lt}
 use Rattle.std.specs.FinMap.{insert, remove, len}
@@ -124,3 +124,7 @@ pub record IsMergedFull (format most : ℕ) (m : Map) (lines : List (List ℕ)) 
   pub there : n ≤ length lines
   pub begins : BeginsMerge format (take n lines)
   pub full : (behind : List (List ℕ)) (edits : List Update) → IsMergeText format (take n lines ++ behind) edits → most < len (map_after_edits m edits)
+
+-- the update that binds a record
+abbrev pub bind_of : Record → Update
+bind_of r = bind r.0 r.1

@@ -17,7 +17,9 @@ pub use laws::{
     texts_are_read_by_lines,
 };
 pub use loading::load_rows;
-pub use merge_laws::{merge_texts_are_read_by_lines, updates_are_merged};
+pub use merge_laws::{
+    load_texts_are_merge_texts, merge_texts_are_read_by_lines, updates_are_merged,
+};
 
 mod ahead;
 mod aside;

@@ -1,10 +1,11 @@
 //! What holds of merge texts: laws over the definitions, each the contract of a function that does nothing.
 
-ghost use Rattle.std.specs.Prelude.{◌≡◌, ℕ, ◌<◌, ◌≤◌, true, false, List, length};
-ghost use Rattle.std.specs.FinMap.{entries, from_sorted, len};
+ghost use Rattle.std.specs.Prelude.{◌≡◌, ℕ, ◌<◌, ◌≤◌, ◌^◌, true, false, List, length, map};
+ghost use Rattle.std.specs.FinMap.{empty, entries, from_sorted, len};
 ghost use Rattle.key_slot.specs.Record.{Record, IsAscending};
 ghost use Rattle.map_model.specs.Store.{Map, Update};
-ghost use Rattle.bulk_load.specs.MergeText.{AreAscending, merged_rows, map_after_edits, IsMergeText, IsFirstUnmerged, IsMergeUnfinished, IsMergedFull};
+ghost use Rattle.bulk_load.specs.LoadText.{IsLoadText};
+ghost use Rattle.bulk_load.specs.MergeText.{bind_of, AreAscending, merged_rows, map_after_edits, IsMergeText, IsFirstUnmerged, IsMergeUnfinished, IsMergedFull};
 ghost use Rattle.bulk_load.specs.Merging.{merging, reads, wrong, full, IsOverfull};
 
 /// A law: the records of a map, merged with updates in ascending order of their keys, are ascending, and those of the map after
@@ -27,4 +28,11 @@ pub fn merge_texts_are_read_by_lines()
     ensures unfinished { (format most : ℕ) (rows : List Record) (lines : List (List ℕ)) (edits : List Update) → merging format most rows lines ≡ reads edits false → IsMergeUnfinished format lines }
     ensures full { (format most : ℕ) (m : Map) (lines : List (List ℕ)) → merging format most (entries m) lines ≡ full → IsMergedFull format most m lines }
     ensures overfull { (format most : ℕ) (m : Map) (lines : List (List ℕ)) (edits : List Update) → IsMergeText format lines edits → most < len (map_after_edits m edits) → IsOverfull format most m lines }
+{}
+
+/// A law: a load text is a merge text that binds its records, and what it makes of the map without records is what a load makes
+/// of a store without any.
+pub fn load_texts_are_merge_texts()
+    ensures text { (format : ℕ) (lines : List (List ℕ)) (rows : List Record) → IsLoadText format lines rows → length rows < 2 ^ 32 → IsMergeText format lines (map bind_of rows) }
+    ensures map { (rows : List Record) → IsAscending rows → map_after_edits empty (map bind_of rows) ≡ from_sorted rows }
 {}
