@@ -33,7 +33,8 @@ map_read format most m lines edits text few = text_read format most (entries m) 
 
 module _ (format most more : ℕ) (le : most ≤ more) (rows : List Record) where
   -- an update that is taken is taken there too
-  edit_on : (k : ℕ) (edits now : List Update) (is_ended : Bool) (u : Update) (goes fills : Bool) → nat_lt most (length (front_rows (edits ++ u ∷ []) rows)) ≡ fills → cond (not goes) (wrong k) (cond fills full (reads (edits ++ u ∷ []) false)) ≡ reads now is_ended
+  edit_on : (k : ℕ) (edits now : List Update) (is_ended : Bool) (u : Update) (goes fills : Bool) → nat_lt most (length (front_rows (edits ++ u ∷ []) rows)) ≡ fills
+      → cond (not goes) (wrong k) (cond fills full (reads (edits ++ u ∷ []) false)) ≡ reads now is_ended
       → cond (not goes) (wrong k) (cond (nat_lt more (length (front_rows (edits ++ u ∷ []) rows))) full (reads (edits ++ u ∷ []) false)) ≡ reads now is_ended
   edit_on k edits now is_ended u false fills is e = absurd (no_wrong e)
   edit_on k edits now is_ended u true true is e = absurd (no_full e)
@@ -77,7 +78,8 @@ module _ (format most more : ℕ) (le : most ≤ more) (rows : List Record) wher
   wrong_on k n edits false Bad e = e
   wrong_on k n edits true Bad e = e
 
-  goes_on : (k : ℕ) (edits now : List Update) (ended is_ended : Bool) (lines : List (List ℕ)) → merge_from format most rows k (reads edits ended) lines ≡ reads now is_ended → merge_from format more rows k (reads edits ended) lines ≡ reads now is_ended
+  goes_on : (k : ℕ) (edits now : List Update) (ended is_ended : Bool) (lines : List (List ℕ)) → merge_from format most rows k (reads edits ended) lines ≡ reads now is_ended
+      → merge_from format more rows k (reads edits ended) lines ≡ reads now is_ended
   goes_on k edits now ended is_ended [] e = e
   goes_on k edits now ended is_ended (raw ∷ lines) e = by (λ mid mid_ended f. goes_on (k + 1) mid now mid_ended is_ended lines f) (merge_step format most rows k (reads edits ended) raw) refl
     where
@@ -101,7 +103,8 @@ record StopsAt (format most : ℕ) (rows : List Record) (k : ℕ) (edits : List 
   reading : merge_from format most rows k (reads edits ended) done ≡ reads now now_ended
   stops : after_merge_line most rows (k + length done) now now_ended (merge_line_raw format raw) ≡ last
 
-module _ (format most : ℕ) (rows : List Record) (last : Merging) (stop : (edits : List Update) (ended : Bool) → last ≡ reads edits ended → ⊥) (stays : (k : ℕ) (s : Merging) (lines : List (List ℕ)) → ((edits : List Update) (ended : Bool) → s ≡ reads edits ended → ⊥) → merge_from format most rows k s lines ≡ s) where
+module _ (format most : ℕ) (rows : List Record) (last : Merging) (stop : (edits : List Update) (ended : Bool) → last ≡ reads edits ended → ⊥)
+    (stays : (k : ℕ) (s : Merging) (lines : List (List ℕ)) → ((edits : List Update) (ended : Bool) → s ≡ reads edits ended → ⊥) → merge_from format most rows k s lines ≡ s) where
   stops_at : (k : ℕ) (edits : List Update) (ended : Bool) (lines : List (List ℕ)) → merge_from format most rows k (reads edits ended) lines ≡ last → StopsAt format most rows k edits ended lines last
   stops_at k edits ended [] e = absurd (stop edits ended (sym e))
   stops_at k edits ended (raw ∷ lines) e = by (λ mid mid_ended f. stops_at (k + 1) mid mid_ended lines f) (merge_step format most rows k (reads edits ended) raw) refl
@@ -121,7 +124,8 @@ module _ (format most : ℕ) (rows : List Record) (last : Merging) (stop : (edit
           plus : (n : ℕ) → n + 0 ≡ n
           plus n = omega arith
 
-      by : ((mid : List Update) (mid_ended : Bool) → merge_from format most rows (k + 1) (reads mid mid_ended) lines ≡ last → StopsAt format most rows (k + 1) mid mid_ended lines last) → (s : Merging) → merge_step format most rows k (reads edits ended) raw ≡ s → StopsAt format most rows k edits ended (raw ∷ lines) last
+      by : ((mid : List Update) (mid_ended : Bool) → merge_from format most rows (k + 1) (reads mid mid_ended) lines ≡ last → StopsAt format most rows (k + 1) mid mid_ended lines last)
+          → (s : Merging) → merge_step format most rows k (reads edits ended) raw ≡ s → StopsAt format most rows k edits ended (raw ∷ lines) last
       by again (reads mid mid_ended) is =
           let there = again mid mid_ended (ap (λ (s : Merging). merge_from format most rows (k + 1) s lines) (sym is) ∙ e) in
           record {

@@ -134,7 +134,8 @@ module _ (format : ℕ) (lines : List (List ℕ)) (raw : List ℕ) (edits : List
     few = so.few;
   }
 
-  pub taken : (u : Update) (line : MergeLine) → merge_line_raw format raw ≡ line → edit_of_line line ≡ Some u → IsEdit line → may_follow edits u ≡ true → AreEdits format lines edits → AreEdits format (lines ++ raw ∷ []) (edits ++ u ∷ [])
+  pub taken : (u : Update) (line : MergeLine) → merge_line_raw format raw ≡ line → edit_of_line line ≡ Some u → IsEdit line → may_follow edits u ≡ true → AreEdits format lines edits
+      → AreEdits format (lines ++ raw ∷ []) (edits ++ u ∷ [])
   taken u line is u_is entry goes so = record {
     entries = All-append (λ r. IsEdit (merge_line_raw format r)) lines (raw ∷ []) so.entries (one (λ r. IsEdit (merge_line_raw format r)) raw (subst IsEdit (sym is) entry));
     edits_are = edits_more line is ∙ ap (λ (o : Option Update). edits_in format lines ++ cons_option o []) u_is ∙ ap (λ (l : List Update). l ++ u ∷ []) so.edits_are;
@@ -166,7 +167,8 @@ module _ (format most : ℕ) (rows : List Record) (k : ℕ) (lines : List (List 
   by_edit u line is u_is entry so true false goes_is e =
       subst (Reads format (lines ++ raw ∷ []) now) (same_end e) (subst (AreEdits format (lines ++ raw ∷ [])) (same_edits e) (taken format lines raw edits u line is u_is entry goes_is so))
 
-  by_end : (n : ℕ) → merge_line_raw format raw ≡ End n → AreEdits format lines edits → (same : Bool) → (n == length edits) ≡ same → cond same (reads edits true) (wrong k) ≡ reads now is_ended → Reads format (lines ++ raw ∷ []) now is_ended
+  by_end : (n : ℕ) → merge_line_raw format raw ≡ End n → AreEdits format lines edits → (same : Bool) → (n == length edits) ≡ same → cond same (reads edits true) (wrong k) ≡ reads now is_ended
+      → Reads format (lines ++ raw ∷ []) now is_ended
   by_end n is so false same e = absurd (no_wrong e)
   by_end n is so true same e =
       let n_is : n ≡ length edits = eq_of n (length edits) same in
@@ -248,7 +250,8 @@ module _ (format most : ℕ) (rows : List Record) where
       by (λ next above small fits. read_front (k + 1) next front (λ i d lt. all (suc i) d (omega (arith, lt))) above small fits) (merge_line_raw format raw) refl (all 0 [] (omega arith))
     where
       one_more : ((next : List Update) → AreAscending (next ++ edits_in format front) → length (next ++ edits_in format front) < 2 ^ 32 → length (front_rows (next ++ edits_in format front) rows) ≤ most → merge_from format most rows (k + 1) (reads next false) front ≡ reads (next ++ edits_in format front) false)
-          → (line : MergeLine) (u : Update) → merge_line_raw format raw ≡ line → edit_of_line line ≡ Some u → IsEdit line → merge_from format most rows k (reads edits false) (raw ∷ front) ≡ reads (edits ++ edits_in format (raw ∷ front)) false
+          → (line : MergeLine) (u : Update) → merge_line_raw format raw ≡ line → edit_of_line line ≡ Some u → IsEdit line
+          → merge_from format most rows k (reads edits false) (raw ∷ front) ≡ reads (edits ++ edits_in format (raw ∷ front)) false
       one_more again line u is u_is entry =
           let rest = edits_in format front in
           let same : edits_in format (raw ∷ front) ≡ u ∷ rest = ap (λ (l : MergeLine). cons_option (edit_of_line l) rest) is ∙ ap (λ (o : Option Update). cons_option o rest) u_is in

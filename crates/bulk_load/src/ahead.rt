@@ -42,7 +42,8 @@ pub(crate) fn next_segment<S: Station>(
     ensures after { IfOk result (λ more. reader.new ≡ after_reading (Ok more) page.new.rows reader.old) }
     ensures is_reader { IsReader reader.new }
     ensures causes { IfErr result (IsDamageAt reader.old.next tally.now.counts) }
-    ensures damaged { IfErr result (λ fault. Told (S.view station.old) → next_fault reader.old (S.view station.old).held ≡ None → length (segment_of reader.old.layout.format (next_page reader.old (S.view station.old).held)) ≡ count_in tally.now.counts 0 reader.old.next → fault ≡ StoreFault.Failed) }
+    ensures damaged { IfErr result (λ fault. Told (S.view station.old) → next_fault reader.old (S.view station.old).held ≡ None →
+        length (segment_of reader.old.layout.format (next_page reader.old (S.view station.old).held)) ≡ count_in tally.now.counts 0 reader.old.next → fault ≡ StoreFault.Failed) }
     ensures failed { IsErrOf result StoreFault.Failed → Rose (S.view station.old).disk_faults (S.view station.new).disk_faults }
     ensures steps { Steps Same (S.view station.old) (S.view station.new) }
     ensures reads { (S.view station.new).travel ≡ after_walk reader.old.layout reader.old.region reader.old.next reader.new.next (S.view station.old).travel }
