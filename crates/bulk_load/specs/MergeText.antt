@@ -1,13 +1,13 @@
 -- Merge texts: updates in ascending order of their keys, a line each, and a last line with their number. And what a map is
 -- after them.
-use Rattle.std.specs.Prelude.{◌≡◌, ℕ, ◌-◌, ◌^◌, ◌<◌, ◌≤◌, List, [], ◌∷◌, ◌++◌, length, map, take, All, Option, Some, None}
+use Rattle.std.specs.Prelude.{◌≡◌, ℕ, ◌-◌, ◌^◌, ◌<◌, ◌≤◌, true, List, [], ◌∷◌, ◌++◌, length, map, take, All, Option, Some, None}
 use Rattle.std.specs.List.{filter_map}
 use Rattle.std.specs.Ordering.{is_lt}
-use Rattle.std.specs.FinMap.{insert, remove, len}
+use Rattle.std.specs.FinMap.{insert, remove, contains_key, len}
 use Rattle.std.specs.FinMap.Entries.{where_key}
 use Rattle.key_slot.specs.Record.{Bytes, Record, key_cmp, IsAscending}
-use Rattle.map_model.specs.Items.{ItemCounts, count_item, no_items}
-use Rattle.map_model.specs.Store.{Map, Update, bind, unbind, key_of}
+use Rattle.map_model.specs.Items.{ItemCounts, effect_count, no_items}
+use Rattle.map_model.specs.Store.{Map, Update, bind, unbind, key_of, effect_by}
 use Rattle.command_text.specs.Merge.{merge_line_raw}
 use Rattle.command_text.specs.declared.merge.MergeLine.{MergeLine}
 use Rattle.command_text.specs.declared.merge.MergeLine.TheVariants.{Nothing, Bind, Remove, End, Bad}
@@ -87,7 +87,7 @@ map_after_edits m (u ∷ edits) = map_after_edits (map_after_edit m u) edits
 -- doesn't have: since no two have one key, the map before them all decides
 abbrev pub count_from : Map → List Update → ItemCounts → ItemCounts
 count_from m [] c = c
-count_from m (u ∷ edits) c = count_from m edits (count_item m u c)
+count_from m (u ∷ edits) c = count_from m edits (effect_count (effect_by (contains_key m (key_of u)) true u) c)
 
 abbrev pub count_edits : Map → List Update → ItemCounts
 count_edits m edits = count_from m edits no_items
