@@ -15,10 +15,86 @@ ghost use Rattle.range_scan.specs.Walk.{after_walk};
 ghost use Rattle.window_tally.specs.View.{IsTally};
 
 use density_rule::Window;
+use key_slot::{Key, Row};
 use range_scan::{HeldPage, RegionFault, RegionReader};
 use segment::{Damage, StoreFault, judge_count};
+use redo_journal::Place;
 use station::Station;
 use window_tally::Tally;
+
+/// The records of a region that were not passed, in order.
+#[derive(Drop)]
+pub(crate) struct Ahead<'a> {
+    reader: RegionReader,
+    tally: &'a Tally,
+    // The segment that was read last; its records from `place` on weren't passed.
+    page: HeldPage,
+    place: u32,
+    // The number of the next segment.
+    segment: u32,
+}
+
+impl<'a> Ahead<'a> {
+    /// All records of the live region, none of which was read.
+    pub(crate) fn of(place: &Place, tally: &'a Tally) -> Ahead<'a> {
+        Ahead {
+            reader: RegionReader::new(place.layout, place.region, 0, 1 << tally.height()),
+            tally,
+            page: HeldPage::new(),
+            place: 0,
+            segment: 0,
+        }
+    }
+
+    /// Reads on until a record is at hand, and answers whether there is one.
+    pub(crate) fn reach<S: Station>(&mut self, station: &mut S) -> Result<bool, StoreFault> {
+        while self.place == self.page.rows().len() {
+            if !next_segment(
+                station,
+                &mut self.reader,
+                self.tally,
+                &mut self.page,
+                self.segment,
+            )? {
+                return Ok(false);
+            }
+            self.segment += 1;
+            self.place = 0;
+        }
+        Ok(true)
+    }
+
+    /// The next record, where it is below a key, or at all where there is no key. It stays the next.
+    pub(crate) fn next_below<S: Station>(
+        &mut self,
+        station: &mut S,
+        key: &Option<Key>,
+    ) -> Result<Option<Row>, StoreFault> {
+        if !self.reach(station)? {
+            return Ok(None);
+        }
+        let rows = self.page.rows();
+        match key {
+            Some(key) if !rows.compare(self.place, key).is_lt() => Ok(None),
+            _ => Ok(Some(rows.row(self.place))),
+        }
+    }
+
+    /// Passes the record at hand, where it has this key, and answers whether it has.
+    pub(crate) fn pass_key(&mut self, key: &Key) -> bool {
+        let rows = self.page.rows();
+        if self.place == rows.len() || rows.key(self.place) != *key {
+            return false;
+        }
+        self.place += 1;
+        true
+    }
+
+    /// Passes the record at hand.
+    pub(crate) fn pass(&mut self) {
+        self.place += 1;
+    }
+}
 
 /// Reads the next segment of a reader, which has this number, into a page, and answers whether there was one. It sees that it has as many records as
 /// the tally keeps for it, and that they begin above the last key before them, also where the station tells no bytes.

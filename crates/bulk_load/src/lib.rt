@@ -20,6 +20,7 @@ pub use loading::load_rows;
 pub use merge_laws::{
     load_texts_are_merge_texts, merge_texts_are_read_by_lines, updates_are_merged,
 };
+pub use merged::{Merged, merge_rows};
 
 mod ahead;
 mod aside;
@@ -28,6 +29,8 @@ mod fault;
 mod laws;
 mod loading;
 mod merge_laws;
+mod merged;
+mod merging;
 mod packed;
 mod packing;
 mod reading;

@@ -162,7 +162,7 @@ fn write_text<I: Source, S: Station>(
 }
 
 // The least height of a store that holds so many records.
-fn least_height(records: u32, limit: u32) -> u32
+pub(crate) fn least_height(records: u32, limit: u32) -> u32
     requires limit { limit ≤ 16 }
     requires room { records ≤ upper_of limit }
     ensures least { IsLeastHeight records result }
@@ -177,7 +177,7 @@ fn least_height(records: u32, limit: u32) -> u32
 }
 
 // How many segments a store of this height has.
-fn segments_at(height: u32) -> u32
+pub(crate) fn segments_at(height: u32) -> u32
     requires { height ≤ 16 }
     ensures { result ≡ 2 ^ height }
 {
