@@ -25,7 +25,8 @@ pub fn batches_begin_at_once()
     // From version 2 on, what the writing of one item or more, all of which fit the slot format, leaves of a file that represents
     // a map and has no intent that is to be applied, has the layout of before and means the map of before, or is at the beginning
     // of the batch.
-    ensures { (old new : List ℕ) (base : Map) (height : ℕ) (items : List Update) → Represents old base height → intent_gate old ≡ 0 → INTENT_VERSION ≤ (layout_in old).version →
+    ensures { (old new : List ℕ) (base : Map) (height : ℕ) (items : List Update) → Represents old base height →
+        intent_gate old ≡ 0 → INTENT_VERSION ≤ (layout_in old).version →
         1 ≤ length items → IsIntent items → T (list_all (fits_item (slot_format old)) items) → Intends items old new →
         ((layout_in new ≡ layout_in old) × Means new base height) ⊎ InBatch (layout_in old) base items 0 new }
 {}
@@ -36,17 +37,21 @@ pub fn batches_begin_at_once()
 pub fn batches_go_on()
     // In the middle of a batch whose items meet no full store, a file has the layout of before, and means the map after all of
     // them, however many were made.
-    ensures means { (layout : Layout) (base : Map) (items : List Update) → AreAdmitted (height_limit layout) base items → (k : ℕ) (image : List ℕ) → InBatch layout base items k image → MeansMap layout image (map_after_all layout base items) }
+    ensures means { (layout : Layout) (base : Map) (items : List Update) → AreAdmitted (height_limit layout) base items →
+        (k : ℕ) (image : List ℕ) → InBatch layout base items k image → MeansMap layout image (map_after_all layout base items) }
     // A file stays in the middle of a batch if its intent is kept and it represents the map after some of the items, from the
     // first on.
     ensures next { (layout : Layout) (base : Map) (items : List Update) (start image : List ℕ) (k j : ℕ) → InBatch layout base items k start → KeepsIntent start image →
         RepresentsMap image (map_after_items (height_limit layout) base (take j items)) → InBatch layout base items j image }
     // Once its map is that behind the last item of a batch whose items meet no full store, a file goes on to mean that map while
     // the gate is closed.
-    ensures closed { (layout : Layout) (base : Map) (items : List Update) → AreAdmitted (height_limit layout) base items → (start image : List ℕ) (k : ℕ) → InBatch layout base items k start →
-        map_after_items (height_limit layout) base (take k items) ≡ map_after_all layout base items → Touched IsIntentGatePlace start image → MeansMap layout image (map_after_all layout base items) }
+    ensures closed { (layout : Layout) (base : Map) (items : List Update) → AreAdmitted (height_limit layout) base items →
+        (start image : List ℕ) (k : ℕ) → InBatch layout base items k start →
+        map_after_items (height_limit layout) base (take k items) ≡ map_after_all layout base items →
+        Touched IsIntentGatePlace start image → MeansMap layout image (map_after_all layout base items) }
     // A file that means a map and has an intent that is to be applied is at the beginning of its batch.
-    ensures begun { (image : List ℕ) (m : Map) (height : ℕ) (means : Means image m height) → has_pending image ≡ true → InBatch (layout_in image) means.base (pending image) 0 image }
+    ensures begun { (image : List ℕ) (m : Map) (height : ℕ) (means : Means image m height) → has_pending image ≡ true →
+        InBatch (layout_in image) means.base (pending image) 0 image }
 {}
 
 /// A law: an image that differs at no byte of identity, intent and its gate, and has the same slot format, has the same

@@ -33,7 +33,8 @@ pub fn read_intent<S: Station>(
     // On Ok, if the station tells its bytes, the answer is None exactly if the version has no intent or the gate is even, and
     // else the items that the bytes spell.
     ensures even { IfOk result (λ intent. Told (S.view station.old) → (intent ≡ None) ↔ (has_intent layout (S.view station.old).held ≡ false)) }
-    ensures items { IfOk result (λ intent. Told (S.view station.old) → (items : List model.Update) → intent ≡ Some items → items ≡ items_in (intent_area (S.view station.old).held)) }
+    ensures items { IfOk result (λ intent. Told (S.view station.old) → (items : List model.Update) → intent ≡ Some items →
+        items ≡ items_in (intent_area (S.view station.old).held)) }
     // On every station an intent that is answered has at least one item, and all fit the layout's slot format.
     ensures fits { IfOk result (λ intent. (items : List model.Update) → intent ≡ Some items → (1 ≤ length items) × T (list_all (fits_item layout.format) items)) }
     // If the station tells its bytes, and no disk call fails, `NotStore` comes exactly if an intent is to be applied, by version
@@ -50,7 +51,8 @@ pub fn read_intent<S: Station>(
     // told to be even, at most one byte, by at most one call.
     ensures reads { (S.view station.new).travel.read ≤ (S.view station.old).travel.read + (1 + INTENT_SIZE) }
     ensures unread { layout.version < INTENT_VERSION → (S.view station.new).travel.read ≡ (S.view station.old).travel.read }
-    ensures gate_alone { Told (S.view station.old) → has_intent layout (S.view station.old).held ≡ false → (S.view station.new).travel.read ≤ (S.view station.old).travel.read + 1 }
+    ensures gate_alone { Told (S.view station.old) → has_intent layout (S.view station.old).held ≡ false →
+        (S.view station.new).travel.read ≤ (S.view station.old).travel.read + 1 }
     ensures calls { (S.view station.new).calls ≤ (S.view station.old).calls + 2 }
     ensures no_calls { layout.version < INTENT_VERSION → (S.view station.new).calls ≡ (S.view station.old).calls }
     ensures one_call { Told (S.view station.old) → has_intent layout (S.view station.old).held ≡ false → (S.view station.new).calls ≤ (S.view station.old).calls + 1 }

@@ -62,7 +62,8 @@ HasPacked place rows written file = (i : ℕ) → i < written → IsSegment plac
 -- Some segments of the records in the frames were written, whatever was answered.
 pub record WritesPacked {X : Type 0} (place : Place) (result : Result X StoreFault) (old new : Taken) (f g : Batch) (a b : View) : Type 0 where
   pub taken : OnOk result ((rows : List Record) → IsTaken place.layout old f rows → IsTaken place.layout new g rows)
-  pub packed : OnOk result (Told a → (rows : List Record) → IsTaken place.layout old f rows → HasPacked place rows old.written a.held → HasPacked place rows new.written b.held)
+  pub packed : OnOk result (Told a → (rows : List Record) → IsTaken place.layout old f rows →
+      HasPacked place rows old.written a.held → HasPacked place rows new.written b.held)
   pub same : new ≡ record old { written = new.written }
   pub journal : g.journal ≡ f.journal
   pub turn : g.turn ≡ f.turn

@@ -26,12 +26,14 @@ pub fn texts_are_read_by_lines()
     // Lines that are read whole are a load text with these records. A load text is read whole if the store may hold as many
     // records as it has.
     ensures text { (format most : ℕ) (lines : List (List ℕ)) (rows : List Record) → loading format most lines ≡ reads rows true → IsLoadText format lines rows }
-    ensures read { (format most : ℕ) (lines : List (List ℕ)) (rows : List Record) → IsLoadText format lines rows → length rows ≤ most → loading format most lines ≡ reads rows true }
+    ensures read { (format most : ℕ) (lines : List (List ℕ)) (rows : List Record) → IsLoadText format lines rows →
+        length rows ≤ most → loading format most lines ≡ reads rows true }
     // If the store may hold fewer than `2^32` records: a wrong line is the first that no load text can have there.
     ensures wrong { (format most n : ℕ) (lines : List (List ℕ)) → most < 2 ^ 32 → loading format most lines ≡ wrong n → IsFirstWrong format lines n }
     // If the store may hold fewer than `2^32` records, and the lines end before the one with the number of records: some load
     // text begins with them, and they are none.
-    ensures unfinished { (format most : ℕ) (lines : List (List ℕ)) (rows : List Record) → most < 2 ^ 32 → loading format most lines ≡ reads rows false → IsUnfinished format lines }
+    ensures unfinished { (format most : ℕ) (lines : List (List ℕ)) (rows : List Record) → most < 2 ^ 32 →
+        loading format most lines ≡ reads rows false → IsUnfinished format lines }
     // If the store may hold fewer than `2^32 - 1` records, and the records are too many: some load text begins with lines that
     // have one record more than it may hold.
     ensures full { (format most : ℕ) (lines : List (List ℕ)) → most + 1 < 2 ^ 32 → loading format most lines ≡ full → IsOneTooMany format most lines }
@@ -43,7 +45,8 @@ pub fn texts_are_read_by_lines()
     ensures refused { (format most n : ℕ) (lines : List (List ℕ)) → most < 2 ^ 32 → IsWrongLine format most lines n → IsRefusedAt format most lines n }
     // If the store may hold fewer than `2^32` records: lines with which reading goes on make no refusal due, that is, some load
     // text begins with them, and they have no more records than it may hold.
-    ensures going { (format most : ℕ) (lines : List (List ℕ)) (rows : List Record) (ended : Bool) → most < 2 ^ 32 → loading format most lines ≡ reads rows ended → MayGoOn format most lines }
+    ensures going { (format most : ℕ) (lines : List (List ℕ)) (rows : List Record) (ended : Bool) → most < 2 ^ 32 →
+        loading format most lines ≡ reads rows ended → MayGoOn format most lines }
 {}
 
 /// A law: a text has one refusal. Where a line of it is refused, no record too many comes before that; and where there is one
@@ -69,6 +72,7 @@ pub fn dumps_are_load_texts()
 pub fn admitted_texts_are_loaded()
     // A text that a store without records admits, in a source that tells it and has fewer bytes than may be taken, meets no fault
     // but a disk's, a damaged segment, or a read that failed, with which the source's count rose.
-    ensures { (format most : ℕ) (reader : ReaderView) (before after : SourceView) (rows : List Record) (fault : LoadFault) → IsLoadText format (raw_lines (rest reader before)) rows → length rows ≤ most →
+    ensures { (format most : ℕ) (reader : ReaderView) (before after : SourceView) (rows : List Record) (fault : LoadFault) →
+        IsLoadText format (raw_lines (rest reader before)) rows → length rows ≤ most →
         SourceTold before → length before.left < reader.room → IsLoadFault format most 0 reader before after fault → IsOutsideFault before after fault }
 {}

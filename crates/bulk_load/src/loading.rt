@@ -59,7 +59,8 @@ pub fn load_rows<I: Source, S: Station>(
 
     // On Ok the store had no records. The file has those of the text, which it admits, spread evenly over the segments of the
     // least height that holds them, with every window within its bounds; how many they are, and this height, are answered.
-    ensures loaded { IfOk result (λ loaded. (rows : List Record) × IsLoaded place.old rows loaded.records loaded.height (TextFor place.old.layout reader.old (I.view source.old)) (S.view station.new)) }
+    ensures loaded { IfOk result (λ loaded. (rows : List Record)
+        × IsLoaded place.old rows loaded.records loaded.height (TextFor place.old.layout reader.old (I.view source.old)) (S.view station.new)) }
     ensures empty { OnOk result (sum tally.now.counts ≡ 0) }
     // On Ok the source is at its end, and gave fewer bytes than might be taken.
     ensures whole { OnOk result (SourceTold (I.view source.old) → ((I.view source.new).left ≡ []) × (length (I.view source.old).left < reader.old.room)) }
@@ -79,7 +80,8 @@ pub fn load_rows<I: Source, S: Station>(
     // If the store has records, station and source are left as they were, without a call of the station and with nothing taken.
     ensures untouched { 0 < sum tally.now.counts → (station.new ≡ station.old) × (source.new ≡ source.old) }
     // Costs: on Ok at most `8192 * F * 2^h + 9` bytes written in slots of format F, h the height.
-    ensures cost { IfOk result (λ loaded. (S.view station.new).travel.written ≤ (S.view station.old).travel.written + (2 * segment_size place.old.layout * 2 ^ loaded.height + 9)) }
+    ensures cost { IfOk result (λ loaded. (S.view station.new).travel.written ≤
+        (S.view station.old).travel.written + (2 * segment_size place.old.layout * 2 ^ loaded.height + 9)) }
     // Costs: with room for n segments in the frames, of which at most 256 pages are used, on Ok at most one call for each n
     // packed segments written, one for each `n / 2` of them read again, one for each `n - n / 2` segments of the new array, each
     // number rounded up, and four for the flip.
@@ -88,7 +90,8 @@ pub fn load_rows<I: Source, S: Station>(
     // Whatever is answered, no more is written, and no more calls are made, than the load of the most records that the store may
     // hold may write and make.
     ensures most_cost { (S.view station.new).travel.written ≤ (S.view station.old).travel.written + (2 * segment_size place.old.layout * 2 ^ height_limit place.old.layout + 9) }
-    ensures most_calls { (S.view station.new).calls ≤ (S.view station.old).calls + load_calls place.old.layout (most_records place.old.layout) (2 ^ height_limit place.old.layout) }
+    ensures most_calls { (S.view station.new).calls ≤ (S.view station.old).calls
+        + load_calls place.old.layout (most_records place.old.layout) (2 ^ height_limit place.old.layout) }
 
     // Whatever is answered, what was taken is a front of what the source had left, and no more than might be taken.
     ensures takes { SourceTold (I.view source.old) → TakesAtMost reader.old.room (I.view source.old) (I.view source.new) }

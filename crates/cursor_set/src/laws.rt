@@ -30,7 +30,8 @@ pub fn cursors_give_each_record_once()
         Each (λ g. get g.map g.row.0 ≡ Some g.row.1) (given name low high l s cs) }
     // If a cursor stays open and steps in one way alone, up to its end, it gave each key within its bounds exactly once that was
     // in the map in every state since its opening.
-    ensures once { (way : Way) (name : Bytes) (low high : Option Bytes) (l : Layout) (s : Session) (cs : List Command) → StaysOpen name low high l s cs → StepsOnly way name cs → Ends way name low high l s cs →
+    ensures once { (way : Way) (name : Bytes) (low high : Option Bytes) (l : Layout) (s : Session) (cs : List Command) →
+        StaysOpen name low high l s cs → StepsOnly way name cs → Ends way name low high l s cs →
         (key : Bytes) → is_within low high key ≡ true → InEach (HasKey key) l (opened name low high l s) cs →
         times key (records_of (given name low high l s cs)) ≡ 1 }
 {}
@@ -44,6 +45,7 @@ pub fn cursors_step_to_the_nearest()
     ensures nearest { (name : Bytes) (low high : Option Bytes) (l : Layout) (s : Session) (cs : List Command) → StaysOpen name low high l s cs →
         AreNearest low high None (given name low high l s cs) }
     // A cursor that stayed open comes to its end only if no key of the map within its bounds lies ahead on that way.
-    ensures ends { (way : Way) (name : Bytes) (low high : Option Bytes) (l : Layout) (s : Session) (cs : List Command) → StaysOpen name low high l s cs → Ends way name low high l s cs →
+    ensures ends { (way : Way) (name : Bytes) (low high : Option Bytes) (l : Layout) (s : Session) (cs : List Command) →
+        StaysOpen name low high l s cs → Ends way name low high l s cs →
         NoneBeyond way low high (last_given None (given name low high l s cs)) (at_end name low high l s cs).store.map }
 {}

@@ -203,7 +203,8 @@ impl CursorSet {
         ensures steps { Steps Same (S.view station.old) (S.view station.new) }
         // If the name has a cursor, on every station one segment is read, and maybe the one before it, once each and by at most
         // one call each; at height 0 it is one. Nothing is written, and damage is that of the last one read.
-        ensures reads { (k : Cursor) → get self.old name.now ≡ Some k → ReadsBehind (earlier k.past k.high) (R.kept store.old) result (S.view station.old) (S.view station.new) }
+        ensures reads { (k : Cursor) → get self.old name.now ≡ Some k →
+            ReadsBehind (earlier k.past k.high) (R.kept store.old) result (S.view station.old) (S.view station.new) }
         // Without a cursor of this name nothing is read, and no call is made.
         ensures idle { get self.old name.now ≡ None → (S.view station.new).travel ≡ (S.view station.old).travel }
         ensures uncalled { get self.old name.now ≡ None → (S.view station.new).calls ≡ (S.view station.old).calls }

@@ -61,7 +61,8 @@ pub fn open_quick<S: Station>(alloc: Global, station: &mut S) -> Result<Option<P
     ensures unwritten { (S.view station.new).travel.written ≡ (S.view station.old).travel.written }
     // If parts are answered, the header page, the nodes and the counts were read, each once from its start to its end, and no
     // other byte.
-    ensures travel { IfOk result (λ given. IfSome given (λ parts. (S.view station.new).travel ≡ after_quick parts.place.layout parts.tally.height (S.view station.old).travel)) }
+    ensures travel { IfOk result (λ given. IfSome given (λ parts. (S.view station.new).travel ≡
+        after_quick parts.place.layout parts.tally.height (S.view station.old).travel)) }
     // At None the header page was read, or nothing.
     ensures page { IfOk result (λ given. IsNone given → IsPageRead (S.view station.old).travel (S.view station.new).travel) }
     // On a failure the header page was read, or nothing, and behind the page a front of the nodes, or all of them and a front of

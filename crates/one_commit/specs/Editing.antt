@@ -74,6 +74,7 @@ pub record LaysEdits (f : ℕ) (segments : Array) (items : List Update) (numbers
   -- each number is that of a segment
   pub inside : (k : ℕ) → k < length numbers → get_or numbers k 0 < length segments
   -- its image is that of the segment, edited by its items
-  pub named : (k : ℕ) → k < length numbers → let i = get_or numbers k 0 in IsSegmentImage f (edited_by (items_for segments i items) (segment_at segments i)) (segment_image f image k)
+  pub named : (k : ℕ) → k < length numbers → let i = get_or numbers k 0 in
+      IsSegmentImage f (edited_by (items_for segments i items) (segment_at segments i)) (segment_image f image k)
   -- no item edits a segment that is not named
   pub unnamed : (i : ℕ) → i < length segments → IsNone numbers i → items_for segments i items ≡ []

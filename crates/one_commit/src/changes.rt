@@ -28,7 +28,10 @@ pub fn change_of(puts: bool, segment: u32, found: Result<u32, u32>) -> Option<It
     // It is the item's, if its key belongs to the segment, whose keys ascend, and stands at the place found, where that is Ok:
     // none for a put of a key that was found or the removal of one that was not, else a record more, or one less and whether that
     // is the first.
-    ensures change { (segments : Array) (u : Update) (more : List OneChange) → is_put u ≡ puts → segment_for segments (key_of u) ≡ segment → IsAscending (segment_at segments segment) → IfOk found (λ place. key_at (segment_at segments segment) place ≡ Some (key_of u)) → change_before (is_ok found) segments u more ≡ with_change result more }
+    ensures change { (segments : Array) (u : Update) (more : List OneChange) → is_put u ≡ puts →
+        segment_for segments (key_of u) ≡ segment → IsAscending (segment_at segments segment) →
+        IfOk found (λ place. key_at (segment_at segments segment) place ≡ Some (key_of u)) →
+        change_before (is_ok found) segments u more ≡ with_change result more }
 {
     match (puts, found) {
         (true, Err(_)) => Some(ItemChange {

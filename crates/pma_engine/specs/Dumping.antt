@@ -61,7 +61,8 @@ pub record DumpsFile (status : ℕ) (a b : View) : Type 0 where
   pub settled : (status ≡ DONE) ⊎ (status ≡ REPLY_FAULT) → NothingPending b
   pub shut : (status ≡ DONE) ⊎ (status ≡ REPLY_FAULT) → Told a → IsShut b.held
   -- A valid store ends with 0, or for want of memory with 7, if the counts of disk faults and of failed sayings didn't rise.
-  pub complete : Told a → (m : Map) → MeansMap (layout_in a.held) a.held m → (Rose a.disk_faults b.disk_faults → ⊥) → (Rose a.say_faults b.say_faults → ⊥) → (status ≡ DONE) ⊎ (status ≡ OUT_OF_MEMORY)
+  pub complete : Told a → (m : Map) → MeansMap (layout_in a.held) a.held m → (Rose a.disk_faults b.disk_faults → ⊥) →
+      (Rose a.say_faults b.say_faults → ⊥) → (status ≡ DONE) ⊎ (status ≡ OUT_OF_MEMORY)
   -- Over a file to which nothing is to be done nothing is written but the gate of an open index, and with every status but 4
   -- every other byte stays.
   pub unwritten : Told a → IsAllAtRest a.held → WritesGate a.held a.travel.written b.travel.written

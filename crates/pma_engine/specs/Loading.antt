@@ -190,10 +190,12 @@ pub record LoadsFile (status most : ℕ) (s0 s1 : SourceView) (a b : View) : Typ
   -- A valid store, if the count of disk faults didn't rise, ends with 0 or 7; or with 3 and an answer that is due; or, if it has
   -- no records, with 5 or 8.
   pub complete : Told a → (m : Map) → MeansMap (layout_in a.held) a.held m → (Rose a.disk_faults b.disk_faults → ⊥) →
-      (status ≡ DONE) ⊎ ((status ≡ OUT_OF_MEMORY) ⊎ (((status ≡ REFUSED) × ((line : Reply) × IsLoadAnswer a.held s0 s1 line)) ⊎ ((m ≡ empty_map) × IsCutText status)))
+      (status ≡ DONE) ⊎ ((status ≡ OUT_OF_MEMORY)
+      ⊎ (((status ≡ REFUSED) × ((line : Reply) × IsLoadAnswer a.held s0 s1 line)) ⊎ ((m ≡ empty_map) × IsCutText status)))
   -- A load text of fewer than `most` bytes that a store without records admits ends with 0 or 7, if the counts of disk faults and
   -- of failed reads didn't rise.
-  pub admitted : SourceTold s0 → Told a → MeansMap (layout_in a.held) a.held empty_map → (rows : List Record) → HasText (layout_in a.held) s0 rows → length s0.left < most →
+  pub admitted : SourceTold s0 → Told a → MeansMap (layout_in a.held) a.held empty_map →
+      (rows : List Record) → HasText (layout_in a.held) s0 rows → length s0.left < most →
       (Rose a.disk_faults b.disk_faults → ⊥) → (SourceRose s0 s1 → ⊥) → (status ≡ DONE) ⊎ (status ≡ OUT_OF_MEMORY)
   -- With 0 no more is written than an opening may, and `8192 * F * 2^h + 9` bytes, at version 4 5 more, with F pages a segment
   -- and h the height after it; at every status no more than with the greatest height in place of h.

@@ -164,7 +164,9 @@ pub record UpgradesOpened (status : ℕ) (l : Layout) (height before : ℕ) (a b
   pub settled : status ≡ DONE → NothingPending b
   pub silent : (status ≡ REFUSED → ⊥) → b.said ≡ a.said
   pub line : status ≡ REFUSED → SaidTold a → (line : Reply) × IsRefusal line × SaysLine line a.said a b
-  pub why : status ≡ REFUSED → Told a → (line : Reply) × AnswersUpgrade (layout_in a.held) (live_copy b.held) (len (map_of a.held)) line × (SaidTold a → SaysLine line a.said a b)
+  pub why : status ≡ REFUSED → Told a →
+      (line : Reply) × AnswersUpgrade (layout_in a.held) (live_copy b.held) (len (map_of a.held)) line
+      × (SaidTold a → SaysLine line a.said a b)
   pub kept : status ≡ REFUSED → Told a → (b.held ≡ a.held) × (b.travel.written ≡ a.travel.written)
   pub written : b.travel.written ≤ a.travel.written + (before + widen_cost l height)
   pub disk : status ≡ DISK_FAULT → Rose a.disk_faults b.disk_faults

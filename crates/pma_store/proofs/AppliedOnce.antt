@@ -32,8 +32,8 @@ use Rattle.veb_index.specs.Arrays.{IsIndexOf}
 use Rattle.veb_index.specs.View.{IndexView, fence_of}
 use Rattle.window_tally.specs.View.{TallyView}
 use Rattle.pma_store.specs.declared.answers.Batch.TheVariants.{Full, NoBatch}
-use Rattle.pma_store.specs.declared.judging.Judged.{Judged}
-use Rattle.pma_store.specs.declared.look.Look.{Look}
+use Rattle.pma_store.specs.declared.judgement.Judged.{Judged}
+use Rattle.pma_store.specs.declared.batch_scan.Look.{Look}
 use Rattle.pma_store.specs.Answers.{state_in}
 use Rattle.pma_store.specs.AtOnce.{CommitsEdits, CommitsFrames, CommitsPages}
 use Rattle.pma_store.specs.Batching.{AppliesBatch, MakesAtOnce, done_by, items_made, map_after_batch, version_of}

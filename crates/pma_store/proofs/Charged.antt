@@ -26,8 +26,8 @@ use Rattle.pma_store.specs.Costing.{has_effect, report_cost, update_cost_in}
 use Rattle.pma_store.specs.Store.{StoreView, Stands, limit_of}
 use Rattle.pma_store.specs.declared.answers.Put.{Put}
 use Rattle.pma_store.specs.declared.answers.Report.{Report}
-use Rattle.pma_store.specs.declared.updating.Outcome.{Outcome}
-use Rattle.pma_store.specs.declared.updating.Outcome.TheVariants.{Unchanged, Replaced, Changed}
+use Rattle.pma_store.specs.declared.answers.Outcome.{Outcome}
+use Rattle.pma_store.specs.declared.answers.Outcome.TheVariants.{Unchanged, Replaced, Changed}
 use Rattle.pma_store.proofs.ClearCosts.{clear_most}
 use Rattle.pma_store.proofs.Outcomes.{quiet, holds, balanced_array, has_is, put_answered, replaced_report}
 use Rattle.pma_store.proofs.Paying.{work_is, put_changed}

@@ -53,8 +53,8 @@ use Rattle.redo_journal.proofs.Live.{rest_live, rest_recovers}
 use Rattle.station.specs.View.{View, Told, MayHold, EachHeld, Lawful}
 use Rattle.station.specs.Steps.{Steps}
 use Rattle.station.proofs.Composition.{told_of, weaken, each_on}
-use Rattle.pma_store.specs.declared.judging.Judged.{Judged}
-use Rattle.pma_store.specs.declared.look.Look.{Look}
+use Rattle.pma_store.specs.declared.judgement.Judged.{Judged}
+use Rattle.pma_store.specs.declared.batch_scan.Look.{Look}
 use Rattle.pma_store.specs.AtOnce.{CommitsPages, FitsCommit}
 use Rattle.pma_store.specs.Answers.{state_in}
 use Rattle.pma_store.specs.Batching.{IsBatchPlace}

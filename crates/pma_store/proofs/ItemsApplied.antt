@@ -14,8 +14,8 @@ use Rattle.map_model.specs.Image.{array_of, map_of}
 use Rattle.map_model.specs.Store.{Update, bind, unbind, key_of}
 use Rattle.segment.specs.declared.fault.StoreFault.{StoreFault}
 use Rattle.pma_store.specs.declared.answers.Report.{Report}
-use Rattle.pma_store.specs.declared.spots.Spot.{Spot}
-use Rattle.pma_store.specs.declared.updating.Outcome.{Outcome}
+use Rattle.pma_store.specs.declared.update.Spot.{Spot}
+use Rattle.pma_store.specs.declared.answers.Outcome.{Outcome}
 use Rattle.pma_store.specs.Changing.{update_cost}
 use Rattle.pma_store.specs.Charging.{changes, charge_told}
 use Rattle.pma_store.specs.Items.{MakesItem}

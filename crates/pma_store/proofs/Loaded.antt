@@ -22,7 +22,7 @@ use Rattle.segment_frames.proofs.Grouped.{frames_at, grouped_same, length-frames
 use Rattle.segment_frames.proofs.PageNumbers.{pages_back, whole_pages}
 use Rattle.segment_frames.proofs.Slots.{splice_before, splice_inside}
 use Rattle.raw_slots.proofs.Runs.{length-splice}
-use Rattle.pma_store.specs.declared.look.Look.{Look}
+use Rattle.pma_store.specs.declared.batch_scan.Look.{Look}
 use Rattle.pma_store.specs.Looked.{AreLoaded}
 
 -- The pages of the batch so far lie below those of a segment above its segments.

@@ -27,7 +27,7 @@ use Rattle.segment_frames.proofs.PageNumbers.{pages_back, whole_pages}
 use Rattle.segment_frames.proofs.ReadLaws.{all_held}
 use Rattle.segment_frames.specs.Lists.{held_lists, segments_in, IsHeld}
 use Rattle.segment_frames.proofs.FrameLaws.{length-rows_in}
-use Rattle.pma_store.specs.declared.look.Look.{Look}
+use Rattle.pma_store.specs.declared.batch_scan.Look.{Look}
 use Rattle.pma_store.specs.Looked.{AreLoaded, BelongThere, HasFound, HasLooked, LoadsEdits, LoadsMore, ReadsOnce, after_reads}
 use Rattle.pma_store.specs.Own.{own_items, FindsIn, edits_by}
 use Rattle.pma_store.proofs.Editing.{edited_fits}

@@ -14,10 +14,10 @@ use Rattle.header_gate.specs.Places.{segment_place, segment_size}
 use Rattle.redo_journal.specs.declared.place.Place.{Place}
 use Rattle.range_scan.specs.Faults.{IsDamageAt}
 use Rattle.pma_store.specs.declared.answers.Report.{Report}
-use Rattle.pma_store.specs.declared.spots.Spot.{Spot}
+use Rattle.pma_store.specs.declared.update.Spot.{Spot}
 use Rattle.pma_store.specs.declared.update.Need.TheVariants as need
-use Rattle.pma_store.specs.declared.updating.Outcome.{Outcome}
-use Rattle.pma_store.specs.declared.updating.Outcome.TheVariants.{Unchanged, Replaced, Changed}
+use Rattle.pma_store.specs.declared.answers.Outcome.{Outcome}
+use Rattle.pma_store.specs.declared.answers.Outcome.TheVariants.{Unchanged, Replaced, Changed}
 use Rattle.pma_store.specs.Updating.{need_of}
 use Rattle.pma_store.proofs.Making.{quiet_report}
 use Rattle.pma_store.specs.Answers.{reported}

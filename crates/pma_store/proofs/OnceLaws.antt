@@ -25,7 +25,7 @@ use Rattle.segment_frames.specs.Lists.{most_segments, segments_in, IsHeld}
 use Rattle.segment_frames.proofs.PageNumbers.{segments_ascend}
 use Rattle.window_tally.specs.Choice.{adds}
 use Rattle.window_tally.specs.declared.Change.TheVariants.{Add, Take}
-use Rattle.pma_store.specs.declared.look.Look.{Look}
+use Rattle.pma_store.specs.declared.batch_scan.Look.{Look}
 use Rattle.pma_store.specs.Looked.{AreLoaded, BelongThere, LacksRoom}
 use Rattle.pma_store.specs.Once.{AreUsed, IsEdited, IsShort, edited_segments, stands_in, with_number}
 use Rattle.pma_store.specs.Own.{edits_by, own_items, FindsIn, HasEdit}

@@ -23,8 +23,8 @@ use Rattle.pma_store.specs.Charging.{work_by, spread_work, IsPaid, changes, put_
 use Rattle.pma_store.specs.Counting.{counted}
 use Rattle.pma_store.specs.Readying.{broken_in, readied}
 use Rattle.pma_store.specs.declared.answers.Report.{Report}
-use Rattle.pma_store.specs.declared.updating.Outcome.{Outcome}
-use Rattle.pma_store.specs.declared.updating.Outcome.TheVariants.{Unchanged, Replaced, Changed}
+use Rattle.pma_store.specs.declared.answers.Outcome.{Outcome}
+use Rattle.pma_store.specs.declared.answers.Outcome.TheVariants.{Unchanged, Replaced, Changed}
 use Rattle.pma_store.proofs.Picks.{broken_is}
 
 -- what is reported where the root is broken, or a window below it

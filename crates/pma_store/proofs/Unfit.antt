@@ -8,8 +8,8 @@ use Rattle.map_model.specs.Store.{Update}
 use Rattle.one_commit.specs.Editing.{charge_by}
 use Rattle.one_commit.specs.Fitting.{changes_in, fit_one_commit}
 use Rattle.redo_journal.specs.Frames.{Batch}
-use Rattle.pma_store.specs.declared.judging.Judged.{Judged}
-use Rattle.pma_store.specs.declared.look.Look.{Look}
+use Rattle.pma_store.specs.declared.judgement.Judged.{Judged}
+use Rattle.pma_store.specs.declared.batch_scan.Look.{Look}
 use Rattle.pma_store.specs.Answers.{state_in}
 use Rattle.pma_store.specs.AtOnce.{IsUnfit}
 use Rattle.pma_store.specs.Judging.{counts_of as counts_judged, edits_of, judged_of}

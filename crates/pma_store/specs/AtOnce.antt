@@ -22,10 +22,10 @@ use Rattle.segment_frames.specs.Lists.{held_lists, segments_in}
 use Rattle.station.specs.declared.station.Failed.{Failed}
 use Rattle.veb_index.specs.View.{IndexView, fence_of}
 use Rattle.window_tally.specs.View.{TallyView, IsTally}
-use Rattle.pma_store.specs.declared.at_once.Tried.{Tried}
-use Rattle.pma_store.specs.declared.at_once.Tried.TheVariants.{Full, Judged, Done}
-use Rattle.pma_store.specs.declared.judging.Judged.{Judged as JudgedItems}
-use Rattle.pma_store.specs.declared.look.Look.{Look}
+use Rattle.pma_store.specs.declared.batch.Tried.{Tried}
+use Rattle.pma_store.specs.declared.batch.Tried.TheVariants.{Full, Judged, Done}
+use Rattle.pma_store.specs.declared.judgement.Judged.{Judged as JudgedItems}
+use Rattle.pma_store.specs.declared.batch_scan.Look.{Look}
 use Rattle.pma_store.specs.Answers.{state_in}
 use Rattle.pma_store.specs.Batching.{AppliesBatch, done_by}
 use Rattle.pma_store.specs.Judging.{JudgesItems, counts_of, edits_of}
@@ -51,7 +51,8 @@ pub record FitsCommit (numbers : List ℕ) (items : List Update) (look : Look) (
   pub few : look.count ≤ edits_of judged
   pub listed : length changes ≤ length items
   pub in_store : All (λ c. c.segment < 2 ^ tally.height) changes
-  pub changes_are : (array : Array) → 0 < length array → IsAscending (rows array) → BelongThere array numbers items → HasFound array numbers items look.found (2 ^ tally.height) → changes ≡ changes_in array items
+  pub changes_are : (array : Array) → 0 < length array → IsAscending (rows array) → BelongThere array numbers items →
+      HasFound array numbers items look.found (2 ^ tally.height) → changes ≡ changes_in array items
   pub fit : fit_one_commit tally.height tally.counts changes ≡ true
 
 -- Why they don't: not each segment that they edit is in frames, more are there than items edit one, or the changes don't fit.
@@ -59,7 +60,9 @@ abbrev pub IsUnfit : List ℕ → List Update → Look → JudgedItems → Tally
 IsUnfit numbers items look judged tally =
     (look.whole ≡ false)
     ⊎ ((edits_of judged < look.count)
-    ⊎ ((array : Array) → 0 < length array → IsAscending (rows array) → BelongThere array numbers items → HasFound array numbers items look.found (2 ^ tally.height) → fit_one_commit tally.height tally.counts (changes_in array items) ≡ false))
+    ⊎ ((array : Array) → 0 < length array → IsAscending (rows array) → BelongThere array numbers items →
+        HasFound array numbers items look.found (2 ^ tally.height) →
+        fit_one_commit tally.height tally.counts (changes_in array items) ≡ false))
 
 -- A commit of the pages of so many segments. Where there are none, nothing changes.
 pub record CommitsPages (place : Place) (count : ℕ) (b : Batch) (old new : List ℕ) : Type 0 where
@@ -79,7 +82,8 @@ pub record CommitsFrames (place : Place) (count : ℕ) (result : Result (Unit {0
   pub cause : OnErr result (Rose a.disk_faults c.disk_faults)
 
 -- Besides, the fences of the edited segments were set, and the changes counted, but not where it failed.
-pub record CommitsEdits (place : Place) (look : Look) (changes : List ItemChange) (result : Result (Unit {0}) Failed) (b : Batch) (turn : ℕ) (index next_index : IndexView) (tally next_tally : TallyView) (a c : View) : Type 0 where
+pub record CommitsEdits (place : Place) (look : Look) (changes : List ItemChange) (result : Result (Unit {0}) Failed) (b : Batch)
+    (turn : ℕ) (index next_index : IndexView) (tally next_tally : TallyView) (a c : View) : Type 0 where
   pub frames : CommitsFrames place look.count result b turn a c
   pub fences : OnOk result (RenewsFences place.layout.format b look.count index next_index)
   pub counted : OnOk result (next_tally ≡ record tally { counts = counts_by changes tally.counts; marks = marks_by_changes tally.height changes tally.marks })

@@ -106,7 +106,8 @@ pub record Batches (items : List Update) (result : Result Batch StoreFault) (s t
   pub images : IfOk result (λ done. b.travel.written ≤ a.travel.written + 4101 * s.place.layout.format * charge_in done + intent_cost_in done)
   -- If bytes are told, on Ok at most 514 bytes are written and what its items cost, each in the state before it, and none if it
   -- is refused. Whatever is answered, at most 514 bytes and the cost of some first items of those that an accepted batch makes.
-  pub cost : IfOk result (λ done. Told a → b.travel.written ≤ a.travel.written + updates_cost s.place.layout (state_in s a.held) (items_made (version_of s) (limit_of s) (map_of a.held) items) + intent_cost_in done)
+  pub cost : IfOk result (λ done. Told a → b.travel.written ≤ a.travel.written
+      + updates_cost s.place.layout (state_in s a.held) (items_made (version_of s) (limit_of s) (map_of a.held) items) + intent_cost_in done)
   pub most : Told a → WritesSome s.place.layout (state_in s a.held) (items_made (version_of s) (limit_of s) (map_of a.held) items) (a.travel.written + 514) b.travel.written
   -- On every station, whatever is answered, at most 514 bytes and for each item what one update may write at the greatest height.
   pub spent : b.travel.written ≤ a.travel.written + (most_of s.place.layout (length items) + 514)

@@ -10,8 +10,8 @@ use Rattle.pma_store.specs.declared.answers.Put.{Put}
 use Rattle.pma_store.specs.declared.answers.Put.TheVariants.{New, Full}
 use Rattle.pma_store.specs.declared.answers.Put.TheVariants as put
 use Rattle.pma_store.specs.declared.answers.Report.{Report}
-use Rattle.pma_store.specs.declared.updating.Outcome.{Outcome}
-use Rattle.pma_store.specs.declared.updating.Outcome.TheVariants.{Unchanged, Replaced, Changed}
+use Rattle.pma_store.specs.declared.answers.Outcome.{Outcome}
+use Rattle.pma_store.specs.declared.answers.Outcome.TheVariants.{Unchanged, Replaced, Changed}
 
 -- whether an update changed anything
 abbrev pub changes : Outcome → Bool

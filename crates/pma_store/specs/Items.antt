@@ -78,7 +78,8 @@ pub record MakesItems (items : List Update) (result : Result ℕ StoreFault) (s 
   pub store : OnOk result (StandsOn t b)
   pub no_intent : OnOk result (EachHeld (λ image. has_pending image ≡ false) b)
   -- in the middle of a batch from some map on: at every moment the map after all items is meant
-  pub steps : (base : Map) → AreAdmitted (limit_of s) base items → EachHeld (InBatch s.place.layout base items 0) a → Steps (MeansNow s.place.layout (map_after_all s.place.layout base items)) a b
+  pub steps : (base : Map) → AreAdmitted (limit_of s) base items → EachHeld (InBatch s.place.layout base items 0) a →
+      Steps (MeansNow s.place.layout (map_after_all s.place.layout base items)) a b
   pub touched : Steps (Touched (IsItemPlace s.place.layout)) a b
   pub layout : t.place.layout ≡ s.place.layout
   pub closed : t.closed ≡ s.closed

@@ -9,7 +9,7 @@ use Rattle.map_model.specs.Items.{ItemCounts, no_items, count_items, first_full}
 use Rattle.map_model.specs.Store.{Map, Update, bind, unbind, key_of}
 use Rattle.segment.specs.declared.fault.StoreFault.{StoreFault}
 use Rattle.segment.specs.declared.fault.StoreFault.TheVariants.{Failed}
-use Rattle.pma_store.specs.declared.judging.Judged.{Judged}
+use Rattle.pma_store.specs.declared.judgement.Judged.{Judged}
 use Rattle.pma_store.specs.BatchCalls.{LooksOnce}
 use Rattle.pma_store.specs.Damaging.{IsMetLooking}
 use Rattle.pma_store.specs.Looking.{TellsOther}

@@ -21,7 +21,7 @@ use Rattle.redo_journal.specs.declared.place.Place.{Place}
 use Rattle.segment.specs.declared.fault.StoreFault.{StoreFault}
 use Rattle.segment.specs.declared.fault.StoreFault.TheVariants.{Failed}
 use Rattle.segment_frames.specs.Lists.{held_lists, most_segments, segments_in, IsHeld}
-use Rattle.pma_store.specs.declared.look.Look.{Look}
+use Rattle.pma_store.specs.declared.batch_scan.Look.{Look}
 use Rattle.pma_store.specs.BatchCalls.{LooksOnce}
 use Rattle.pma_store.specs.Damaging.{IsMetLooking}
 use Rattle.window_tally.specs.View.{TallyView}
@@ -71,7 +71,8 @@ HasFound segments numbers items found from = (k : ℕ) (d : Update) → k < leng
 
 -- the batch has each segment below one that an item edits, with all of its items made
 pub record LoadsEdits (format : ℕ) (segments : Array) (items : List Update) (b : Batch) (from : ℕ) : Type 0 where
-  pub named : (k : ℕ) → k < length (segments_in format b.numbers) → let i = get_or (segments_in format b.numbers) k 0 in segment_at (held_lists format b) k ≡ edited_by (items_for segments i items) (segment_at segments i)
+  pub named : (k : ℕ) → k < length (segments_in format b.numbers) → let i = get_or (segments_in format b.numbers) k 0 in
+      segment_at (held_lists format b) k ≡ edited_by (items_for segments i items) (segment_at segments i)
   pub unnamed : (i : ℕ) → i < from → IsNone (segments_in format b.numbers) i → items_for segments i items ≡ []
 
 -- both, as far as a look is whole
@@ -95,7 +96,8 @@ pub record ReadsOnce (place : Place) (numbers : List ℕ) (from : ℕ) (a c : Vi
   pub calls : c.calls ≤ a.calls + length read
 
 -- A batch was looked over, in a store with this tally: nothing was written.
-pub record LooksOver (place : Place) (tally : TallyView) (numbers : List ℕ) (items : List Update) (result : Result (Unit {0}) StoreFault) (b : Batch) (look : Look) (a c : View) : Type 0 where
+pub record LooksOver (place : Place) (tally : TallyView) (numbers : List ℕ) (items : List Update)
+    (result : Result (Unit {0}) StoreFault) (b : Batch) (look : Look) (a c : View) : Type 0 where
   pub loaded : OnOk result (AreLoaded place.layout.format b look (2 ^ tally.height))
   pub looked : OnOk result (Told a → HasLooked place.layout.format (array_of a.held) numbers items b look (2 ^ tally.height))
   pub journal : b.journal ≡ place.layout.journal

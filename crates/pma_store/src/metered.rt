@@ -1,6 +1,8 @@
 //! A store whose updates are noted in a ledger.
+//!
+//! Each call is the store's own. What an update answers says what it is charged, and the file is not asked again.
 
-ghost use Rattle.std.specs.Prelude.{◌≡◌, ◌+◌, ◌*◌, ◌≤◌, ◌<◌, ◌^◌, [], ◌∷◌, false, IsTrue, OnOk, IfOk, IfErr, IsErrOf, is_err, length, sum, T};
+ghost use Rattle.std.specs.Prelude.{◌≡◌, ◌+◌, ◌*◌, ◌^◌, ◌<◌, ◌≤◌, [], ◌∷◌, false, IsTrue, OnOk, IfOk, IfErr, IsErrOf, is_err, length, sum, T};
 ghost use Rattle.std.specs.List.{list_all};
 ghost use Rattle.station.specs.View.{Told, Rose};
 ghost use Rattle.batch_intent.specs.Spelling.{fits_item};
@@ -17,8 +19,7 @@ ghost use Rattle.pma_store.specs.Makes.{Puts, Removes};
 ghost use Rattle.pma_store.specs.Metered.{IsMetered, Notes};
 ghost use Rattle.pma_store.specs.Store.{IsStore, IsOpenOn, limit_of};
 
-use crate::answers::{Batch, Checked, Put, Report};
-use crate::charging::work_of;
+use crate::answers::{Batch, Checked, Put, Report, work_of};
 use crate::store::Store;
 use batch_intent::Intent;
 use block_touch::Probe;
@@ -146,9 +147,11 @@ impl Metered {
         // On every station the update goes by the kept counts and marks, as `UpdatesAt` says.
         ensures at { UpdatesAt (bind key.now value.now) result (λ done. is_new done.0) (λ done. done.1) self.old.store self.new.store (S.view station.old) (S.view station.new) }
         // It is one update, which is noted with its charge if it answers Ok, as `Notes` says.
-        ensures notes { Notes (bind key.now value.now ∷ []) result (λ done. 1) (λ done. charge_told self.new.store.tally.height (put_changes done.0) done.1) self.old self.new (S.view station.old) }
+        ensures notes { Notes (bind key.now value.now ∷ []) result (λ done. 1)
+            (λ done. charge_told self.new.store.tally.height (put_changes done.0) done.1) self.old self.new (S.view station.old) }
         // On Ok at most `4101 * F` bytes times its charge are written, with F pages a segment, on every station.
-        ensures images { IfOk result (λ done. (S.view station.new).travel.written ≤ (S.view station.old).travel.written + 4101 * self.old.store.place.layout.format * charge_told self.new.store.tally.height (put_changes done.0) done.1) }
+        ensures images { IfOk result (λ done. (S.view station.new).travel.written ≤ (S.view station.old).travel.written
+            + 4101 * self.old.store.place.layout.format * charge_told self.new.store.tally.height (put_changes done.0) done.1) }
     {
         match self.store.put(station, key, value) {
             Ok((answer, report)) => {
@@ -190,7 +193,8 @@ impl Metered {
         // It is one update, which is noted with its charge if it answers Ok, as `Notes` says.
         ensures notes { Notes (unbind key.now ∷ []) result (λ done. 1) (λ done. charge_told self.new.store.tally.height done.0 done.1) self.old self.new (S.view station.old) }
         // On Ok at most `4101 * F` bytes times its charge are written, with F pages a segment, on every station.
-        ensures images { IfOk result (λ done. (S.view station.new).travel.written ≤ (S.view station.old).travel.written + 4101 * self.old.store.place.layout.format * charge_told self.new.store.tally.height done.0 done.1) }
+        ensures images { IfOk result (λ done. (S.view station.new).travel.written ≤ (S.view station.old).travel.written
+            + 4101 * self.old.store.place.layout.format * charge_told self.new.store.tally.height done.0 done.1) }
     {
         match self.store.remove(station, key) {
             Ok((took, report)) => {
@@ -228,7 +232,8 @@ impl Metered {
         ensures counted { IfErr result (TellsOther (2 ^ limit_of self.old.store)) }
         // If it answers Ok, as many updates as it has items are noted of an accepted batch, with the sum of their charges, and
         // none of a refused one, as `Notes` says.
-        ensures notes { Notes (items_made (version_of self.old.store) (limit_of self.old.store) (map_of (S.view station.old).held) intent.now) result (made_in (length intent.now)) charge_in self.old self.new (S.view station.old) }
+        ensures notes { Notes (items_made (version_of self.old.store) (limit_of self.old.store) (map_of (S.view station.old).held) intent.now)
+            result (made_in (length intent.now)) charge_in self.old self.new (S.view station.old) }
     {
         match self.store.batch(station, intent) {
             Ok(done) => {

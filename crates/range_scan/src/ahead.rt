@@ -63,7 +63,9 @@ pub fn first_ahead_in<S: Station>(
     requires begins { Told (S.view station.old) → first ≡ first_for start.now (array_of (S.view station.old).held) }
     // On Ok the record with the least key that isn't below the lower bound, is above `past` and is below `high`, or None if there
     // is none, if the station tells its bytes.
-    ensures row { IfOk result (λ row. Told (S.view station.old) → (low : Option Bytes) → start.now ≡ later low past.now → option_map record_of row ≡ record_ahead onward (record { low = low; high = high.now; past = past.now }) (entries (map_of (S.view station.old).held))) }
+    ensures row { IfOk result (λ row. Told (S.view station.old) → (low : Option Bytes) → start.now ≡ later low past.now →
+        option_map record_of row ≡
+        record_ahead onward (record { low = low; high = high.now; past = past.now }) (entries (map_of (S.view station.old).held))) }
     // If the station tells its bytes, no segment is found damaged.
     ensures damaged { IfErr result (λ fault. Told (S.view station.old) → fault ≡ StoreFault.Failed) }
     // `Failed` comes only if the count of disk faults rose.
@@ -71,7 +73,8 @@ pub fn first_ahead_in<S: Station>(
     // No byte changes.
     ensures steps { Steps Same (S.view station.old) (S.view station.new) }
     // One segment is read, or two that stand side by side, each once, and nothing is written (`ReadsNear`).
-    ensures reads { ReadsNear start.now (record { layout = layout; region = region; height = tally.now.height; counts = tally.now.counts }) result (S.view station.old) (S.view station.new) }
+    ensures reads { ReadsNear start.now (record { layout = layout; region = region; height = tally.now.height; counts = tally.now.counts })
+        result (S.view station.old) (S.view station.new) }
 {
     let mut reader = RegionReader::new(
         layout,

@@ -63,7 +63,9 @@ pub fn last_behind_in<S: Station>(
     requires ends { Told (S.view station.old) → last ≡ last_for end.now (array_of (S.view station.old).held) }
     // On Ok the record with the greatest key that isn't below the lower bound, is below `past` and is below `high`, or None if
     // there is none, if the station tells its bytes.
-    ensures row { IfOk result (λ row. Told (S.view station.old) → (past high : Option Bytes) → end.now ≡ earlier past high → option_map record_of row ≡ record_ahead back (record { low = low.now; high = high; past = past }) (entries (map_of (S.view station.old).held))) }
+    ensures row { IfOk result (λ row. Told (S.view station.old) → (past high : Option Bytes) → end.now ≡ earlier past high →
+        option_map record_of row ≡
+        record_ahead back (record { low = low.now; high = high; past = past }) (entries (map_of (S.view station.old).held))) }
     // If the station tells its bytes, no segment is found damaged.
     ensures damaged { IfErr result (λ fault. Told (S.view station.old) → fault ≡ StoreFault.Failed) }
     // `Failed` comes only if the count of disk faults rose.
@@ -71,7 +73,8 @@ pub fn last_behind_in<S: Station>(
     // No byte changes.
     ensures steps { Steps Same (S.view station.old) (S.view station.new) }
     // One segment is read, and maybe the one before it, each once, and nothing is written (`ReadsBehind`).
-    ensures reads { ReadsBehind end.now (record { layout = layout; region = region; height = tally.now.height; counts = tally.now.counts }) result (S.view station.old) (S.view station.new) }
+    ensures reads { ReadsBehind end.now (record { layout = layout; region = region; height = tally.now.height; counts = tally.now.counts })
+        result (S.view station.old) (S.view station.new) }
 {
     let place = read_below(station, &layout, region, tally, page, last, end)?;
     if place > 0 || last == 0 {

@@ -144,8 +144,10 @@ impl HeldPage {
         requires reach { file_length layout.now ≤ (S.view station.old).fixed.reach }
         // On Ok the answer is the value that is bound to the key in the segment, or None if none is, if the station tells its
         // bytes.
-        ensures some { IfOk result (λ found. IfSome found (λ value. Told (S.view station.old) → value_of key.now (segment_of layout.now.format (page_in layout.now region (S.view station.old).held segment)) ≡ Some value.now)) }
-        ensures none { IfOk result (λ found. IfNone found (Told (S.view station.old) → value_of key.now (segment_of layout.now.format (page_in layout.now region (S.view station.old).held segment)) ≡ None)) }
+        ensures some { IfOk result (λ found. IfSome found (λ value. Told (S.view station.old) →
+            value_of key.now (segment_of layout.now.format (page_in layout.now region (S.view station.old).held segment)) ≡ Some value.now)) }
+        ensures none { IfOk result (λ found. IfNone found (Told (S.view station.old) →
+            value_of key.now (segment_of layout.now.format (page_in layout.now region (S.view station.old).held segment)) ≡ None)) }
         // On every station the key and a value that is found fit a slot of the format.
         ensures fits { IfOk result (λ found. IfSome found (λ value. T (is_record layout.now.format (key.now, value.now)))) }
         // On Ok nothing is wrong with the bytes of the segment, and it has the number of records that is kept, if the station

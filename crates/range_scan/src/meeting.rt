@@ -72,7 +72,9 @@ impl HeldPage {
         ensures sound { OnOk result (Told (S.view station.old) → page_fault layout.now.format segment last.now (first_of self.old.along (page_in layout.now region (S.view station.old).held segment)) ≡ None) }
         ensures above { OnOk result (begins_above last.now self.new.rows ≡ true) }
         ensures meeting { Meets layout.now region segment count result self.old self.new (S.view station.old) (S.view station.new) }
-        ensures refused { IfErr result (λ fault. fault ≢ RegionFault.Failed → Told (S.view station.old) → page_fault layout.now.format segment last.now (first_of self.old.along (page_in layout.now region (S.view station.old).held segment)) ≡ Some fault) }
+        ensures refused { IfErr result (λ fault. fault ≢ RegionFault.Failed → Told (S.view station.old) →
+            page_fault layout.now.format segment last.now
+            (first_of self.old.along (page_in layout.now region (S.view station.old).held segment)) ≡ Some fault) }
         ensures named { IfErr result (λ fault. Names segment fault) }
         ensures failed { IsErrOf result RegionFault.Failed → Rose (S.view station.old).disk_faults (S.view station.new).disk_faults }
     {

@@ -56,7 +56,8 @@ impl<'a> Sweep<'a> {
         requires reach { file_length self.old.reader.layout ≤ (S.view station.old).fixed.reach }
         ensures more { IfOk result (λ more. more ≡ true → judged self.new ≡ judged self.old + 1) }
         ensures step { judged self.new ≤ judged self.old + 1 }
-        ensures all_below { IfOk result (λ more. more ≡ true → Told (S.view station.old) → self.new.kept ≡ [] → T (are_before self.old.low (segment_at (cut self.old.tally.counts (entries (map_of (S.view station.old).held))) (judged self.old)))) }
+        ensures all_below { IfOk result (λ more. more ≡ true → Told (S.view station.old) → self.new.kept ≡ [] →
+            T (are_before self.old.low (segment_at (cut self.old.tally.counts (entries (map_of (S.view station.old).held))) (judged self.old)))) }
         ensures no_more { IfOk result (λ more. more ≡ false → self.new ≡ self.old) }
         ensures used_up { IfOk result (λ more. more ≡ false → Told (S.view station.old) → scanned self.new.low self.new.high (self.new.limit - self.new.given) (ahead self.new (entries (map_of (S.view station.old).held))) ≡ []) }
         ensures given { self.new.given ≡ self.old.given }

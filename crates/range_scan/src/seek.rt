@@ -54,7 +54,8 @@ pub trait Seek {
         requires reach { file_length (kept self.old).layout ≤ (S.view station.old).fixed.reach }
         // On Ok the record with the least key that isn't below the lower bound, is above `past` and is below `high`, or None if
         // there is none, if the station tells its bytes.
-        ensures row { IfOk result (λ row. Told (S.view station.old) → option_map record_of row ≡ record_ahead onward (record { low = low; high = high; past = past }) (entries (map_of (S.view station.old).held))) }
+        ensures row { IfOk result (λ row. Told (S.view station.old) → option_map record_of row ≡
+            record_ahead onward (record { low = low; high = high; past = past }) (entries (map_of (S.view station.old).held))) }
         // If the station tells its bytes, no segment is found damaged.
         ensures damaged { IfErr result (λ fault. Told (S.view station.old) → fault ≡ StoreFault.Failed) }
         // `Failed` comes only if the count of disk faults rose.
@@ -89,7 +90,8 @@ pub trait Seek {
         requires reach { file_length (kept self.old).layout ≤ (S.view station.old).fixed.reach }
         // On Ok the record with the greatest key that isn't below the lower bound, is below `past` and is below `high`, or None
         // if there is none, if the station tells its bytes.
-        ensures row { IfOk result (λ row. Told (S.view station.old) → option_map record_of row ≡ record_ahead back (record { low = low; high = high; past = past }) (entries (map_of (S.view station.old).held))) }
+        ensures row { IfOk result (λ row. Told (S.view station.old) → option_map record_of row ≡
+            record_ahead back (record { low = low; high = high; past = past }) (entries (map_of (S.view station.old).held))) }
         // If the station tells its bytes, no segment is found damaged.
         ensures damaged { IfErr result (λ fault. Told (S.view station.old) → fault ≡ StoreFault.Failed) }
         // `Failed` comes only if the count of disk faults rose.

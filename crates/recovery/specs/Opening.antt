@@ -33,7 +33,8 @@ use Rattle.recovery.specs.declared.parts.Parts.{Parts}
 
 -- What an opening comes to: which files it opens, why it refuses the others, and what becomes of the file. At each moment
 -- `opens` relates it to the file at entry; a file that `rests` says nothing is to be done to is read, and no more than `reads`.
-pub record OpensFile {T : Type 0} (opens : List ℕ → List ℕ → Type 0) (rests : List ℕ → Type 0) (reads : List ℕ → ℕ) (result : Result T OpenFault) (a b : View) : Type 0 where
+pub record OpensFile {T : Type 0} (opens : List ℕ → List ℕ → Type 0) (rests : List ℕ → Type 0) (reads : List ℕ → ℕ)
+    (result : Result T OpenFault) (a b : View) : Type 0 where
   -- on Ok there is no reason against the file, and `NotStore` names the first one, if the station tells its bytes
   pub sound : OnOk result (Told a → opening_reason a.held ≡ None)
   pub refused : IfErr result (λ e. (r : Reason) → e ≡ NotStore r → Told a → opening_reason a.held ≡ Some r)

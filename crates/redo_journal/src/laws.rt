@@ -34,7 +34,8 @@ pub fn stations_at_rest<S: Station>(a: &S, b: &S)
     // Below version 4, if a station is at rest with a gate that is noted (`RestsAt`), the gate is even in each image that it may
     // hold; and a station with nothing pending and an even gate in each such image is at rest, with 0 noted.
     ensures settled { (l : Layout) (turn : ℕ) → l.version ≢ PAIRED → RestsAt l turn (S.view a.now) → EachHeld (λ image. gate image ≡ 0) (S.view a.now) }
-    ensures rests { (l : Layout) → l.version ≢ PAIRED → NothingPending (S.view a.now) → EachHeld (λ image. gate image ≡ 0) (S.view a.now) → RestsAt l 0 (S.view a.now) }
+    ensures rests { (l : Layout) → l.version ≢ PAIRED → NothingPending (S.view a.now) →
+        EachHeld (λ image. gate image ≡ 0) (S.view a.now) → RestsAt l 0 (S.view a.now) }
     // Calls that change no byte keep the rest.
     ensures still { (l : Layout) → AtRest l (S.view a.now) → Steps Same (S.view a.now) (S.view b.now) → AtRest l (S.view b.now) }
 {}

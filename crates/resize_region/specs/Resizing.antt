@@ -35,7 +35,8 @@ pub record CanResize (place : Place) (t : TallyView) (frames : Batch) (v : View)
   pub bare : Told v → IsBare place.layout v.held
 
 -- A resize to a height, whatever it answered.
-pub record ResizesTo {T : Type 0} (height : ℕ) (result : Result T StoreFault) (place after : Place) (t u : TallyView) (fence : ℕ → Option Bytes) (frames : Batch) (a b : View) : Type 0 where
+pub record ResizesTo {T : Type 0} (height : ℕ) (result : Result T StoreFault) (place after : Place) (t u : TallyView)
+    (fence : ℕ → Option Bytes) (frames : Batch) (a b : View) : Type 0 where
   pub steps : Steps (Resizes place height) a b
   pub settled : OnOk result (NothingPending b)
   pub rests : OnOk result ((turn : ℕ) → RestsAt place.layout turn a → RestsAt after.layout turn b)

@@ -63,7 +63,8 @@ pub record SpreadsWide {T : Type 0} (result : Result T StoreFault) (place after 
   pub rests : OnOk result ((turn : ℕ) → RestsAt place.layout turn a → RestsAt after.layout turn b)
   pub array : OnOk result (Told a → array_of b.held ≡ resized (array_of a.held) (upgraded_height place.layout t.height))
   -- the place, and the height and the counts of the new array, stand for the file
-  pub stands : OnOk result (EachHeld (StandsWith after.layout after.region (upgraded_height place.layout t.height) (resized_counts t.counts (upgraded_height place.layout t.height))) b)
+  pub stands : OnOk result (EachHeld (StandsWith after.layout after.region (upgraded_height place.layout t.height)
+      (resized_counts t.counts (upgraded_height place.layout t.height))) b)
   -- on Ok the place is that of the upgraded store, on a failure the old one
   pub place_is : OnOk result (after ≡ upgraded place)
   pub place_kept : OnErr result (after ≡ place)

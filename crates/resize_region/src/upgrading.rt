@@ -99,7 +99,8 @@ pub fn upgrade<S: Station>(
     ensures damaged { IfErr result (λ fault. Told (S.view station.old) → fault ≡ StoreFault.Failed) }
     // `Damaged` is that of the segment that was read last: a bad slot, another number of records than is kept, or its order.
     ensures cause { IfErr result (λ fault. (i : ℕ) × (i < 2 ^ tally.now.height) × IsDamageAt i tally.now.counts fault) }
-    ensures last { IfErr result (λ fault. (fault ≡ StoreFault.Failed) ⊎ ((i : ℕ) × IsDamageAt i tally.now.counts fault × Walks place.old 0 (i + 1) (S.view station.old).travel (S.view station.new).travel)) }
+    ensures last { IfErr result (λ fault. (fault ≡ StoreFault.Failed) ⊎ ((i : ℕ) × IsDamageAt i tally.now.counts fault
+        × Walks place.old 0 (i + 1) (S.view station.old).travel (S.view station.new).travel)) }
     // `Failed` comes only if the count of disk faults rose.
     ensures failed { IsErrOf result StoreFault.Failed → Rose (S.view station.old).disk_faults (S.view station.new).disk_faults }
 {

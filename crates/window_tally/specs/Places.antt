@@ -41,4 +41,5 @@ pub record Fills {X : Type 0} (d : X) (value : ℕ → X) (first n : ℕ) (old n
 -- all other windows what they held
 pub record FillsBelow {X : Type 0} (d : X) (value : ℕ → ℕ → X) (height j w top : ℕ) (old new : List X) : Type 0 where
   pub inside : (h i : ℕ) → h < top → i < 2 ^ (j - h) → slice_index_or new (place height h (w * 2 ^ (j - h) + i)) d ≡ value h i
-  pub outside : (h k : ℕ) → IsWindow height h k → (h < top → k / 2 ^ (j - h) ≡ w → ⊥) → slice_index_or new (place height h k) d ≡ slice_index_or old (place height h k) d
+  pub outside : (h k : ℕ) → IsWindow height h k → (h < top → k / 2 ^ (j - h) ≡ w → ⊥) →
+      slice_index_or new (place height h k) d ≡ slice_index_or old (place height h k) d

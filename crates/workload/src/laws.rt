@@ -26,7 +26,8 @@ pub fn summaries_grow()
     ensures state { (count seed : ℕ) → gen_state (count + 1) seed ≡ array_step gen_layout (gen_state count seed) (command_numbered seed (count + 1)) }
     // The counts begin at 0, and each command is counted by the lines of its reply.
     ensures none { (seed : ℕ) → gen_counts 0 seed ≡ summary_of 0 [] }
-    ensures counts { (count seed : ℕ) → gen_counts (count + 1) seed ≡ counted (gen_counts count seed) (answers gen_layout (gen_state count seed) (command_numbered seed (count + 1))) }
+    ensures counts { (count seed : ℕ) → gen_counts (count + 1) seed ≡
+        counted (gen_counts count seed) (answers gen_layout (gen_state count seed) (command_numbered seed (count + 1))) }
 {}
 
 /// A law: of the lines of a range's reply the last counts alone.
@@ -41,9 +42,13 @@ pub fn runs_go_on()
     // A run of generated commands begins with the seed, with no counts, and with the empty store.
     ensures begins { (seed : ℕ) → HasRun 0 seed seed (summary_of 0 []) empty_state }
     // Up to the millionth command all counts are numbers below 2^32.
-    ensures fits { (count seed x : ℕ) (s : Summary) (state : ArrayState) (c : Command) (last : Reply) → HasRun count seed x s state → count < 1000000 → c ≡ command_by (next_draw x) (count + 1) → CountsBy (answers gen_layout state c) last → Fits (counted s (last ∷ [])) }
+    ensures fits { (count seed x : ℕ) (s : Summary) (state : ArrayState) (c : Command) (last : Reply) →
+        HasRun count seed x s state → count < 1000000 → c ≡ command_by (next_draw x) (count + 1) →
+        CountsBy (answers gen_layout state c) last → Fits (counted s (last ∷ [])) }
     // A run goes on by the generator's next command, counted by the last line of its reply.
-    ensures next { (count seed x : ℕ) (s : Summary) (state : ArrayState) (c : Command) (last : Reply) → HasRun count seed x s state → c ≡ command_by (next_draw x) (count + 1) → CountsBy (answers gen_layout state c) last → HasRun (count + 1) seed (next_draw x) (counted s (last ∷ [])) (array_step gen_layout state c) }
+    ensures next { (count seed x : ℕ) (s : Summary) (state : ArrayState) (c : Command) (last : Reply) →
+        HasRun count seed x s state → c ≡ command_by (next_draw x) (count + 1) → CountsBy (answers gen_layout state c) last →
+        HasRun (count + 1) seed (next_draw x) (counted s (last ∷ [])) (array_step gen_layout state c) }
     // In the end the size of the store makes the counts the whole summary.
     ensures ends { (count seed x : ℕ) (s : Summary) (state : ArrayState) → HasRun count seed x s state → sized s (plain state) ≡ gen_summary count seed }
 {}

@@ -1,0 +1,374 @@
+use Rattle.std.proofs.Common.{◌≡◌, ◌≢◌, inl, inr, ◌+◌, ℕ, ◌^◌, ◌<◌, ◌≤◌, Bool, true, length, get_or, Some, sym, ap, subst, ◌∙◌, arith, rules}
+use Rattle.std.specs.Prelude.{sum}
+use Rattle.station.specs.View.{Told}
+use Rattle.station.specs.Steps.{Steps}
+use Rattle.station.proofs.Composition.{told_on, told_back}
+use Rattle.density_rule.specs.Bounds.{upper_of}
+use Rattle.density_rule.specs.Updates.{counts_after}
+use Rattle.density_rule.specs.Windows.{IsBalanced}
+use Rattle.header_gate.specs.declared.layout.Layout.{Layout}
+use Rattle.header_gate.specs.Places.{height_limit}
+use Rattle.map_model.specs.Array.{rows}
+use Rattle.map_model.specs.Holding.{HoldsMap}
+use Rattle.map_model.specs.Image.{array_of, map_of, height_of}
+use Rattle.map_model.specs.Store.{height_after, map_after}
+use Rattle.std.proofs.lemmas.Grind.{common_steps}
+use Rattle.pma_store.specs.declared.update.Need.TheVariants as need
+use Rattle.window_tally.specs.declared.Change.{Change}
+use Rattle.window_tally.specs.declared.Change.TheVariants.{Add}
+use Rattle.window_tally.specs.declared.Pick.TheVariants.{AtLimit, Fits}
+use Rattle.window_tally.specs.declared.Pick.{Pick}
+use Rattle.window_tally.specs.Choice.{adds, IsPossible, pick_of}
+use Rattle.window_tally.specs.View.{TallyView}
+use Rattle.map_model.specs.ArrayState.{next_state, report_by, report_of}
+use Rattle.pma_store.specs.Answers.{state_in, reported}
+use Rattle.pma_store.specs.Counting.{counted}
+use Rattle.pma_store.specs.Changing.{outcome_of, update_cost, picked_height}
+use Rattle.pma_store.specs.declared.answers.Outcome.TheVariants.{Changed}
+use Rattle.pma_store.specs.Rewrites.{HasRewritten, Rewrites, rewritten, commit_cost}
+use Rattle.pma_store.specs.Store.{StoreView, Stands, limit_of}
+use Rattle.pma_store.specs.Touching.{Updates, IsPlaceAfter}
+use Rattle.map_model.specs.ArrayUpdates.{edited}
+use Rattle.pma_store.specs.Updating.{FitsFormat, update_of}
+use Rattle.pma_store.proofs.Changes.{outcome_by, taken_some, height_same, report_same, final_array, final_holds, final_marks}
+use Rattle.pma_store.proofs.Outcomes.{needs_in, IsQuiet, limit_by, records_are, rows_len, rewritten_represents, state_after}
+use Rattle.pma_store.proofs.Picks.{most_cost, picked_is, limit_adds, balanced_next}
+use Rattle.pma_store.proofs.Steps.{own_of, keeps_updates, keeps_then, rewrite_updates}
+use Rattle.pma_store.proofs.Touching.{rewrite_place, place_then}
+use Rattle.pma_store.proofs.store.OpenArray.change.Goals as goal
+use Rattle.pma_store.specs.Charging.{IsPaid, work_by, changes as changed_by}
+use Rattle.pma_store.specs.Costing.{update_cost_in}
+use Rattle.pma_store.proofs.Charged.{cost_told}
+use Rattle.pma_store.proofs.Paying.{paid_changed}
+use Rattle.pma_store.proofs.Damages.{change_is, none_asks}
+use Rattle.pma_store.proofs.Making.{no_fault, stands_there, stands_again, quiet_applies, fault_applies, rewrite_faults, changes}
+use Rattle.pma_store.specs.Readying.{broken_in, readied, ready_cost, resizes}
+use Rattle.pma_store.specs.Damaging.{IsMetLate, change_in, picked, report_at}
+use Rattle.pma_store.specs.Calling.{asked_calls, update_calls}
+use Rattle.pma_store.proofs.Meeting.{moved_one, quiet_within}
+use Rattle.std.specs.Prelude.{is_ok}
+use Rattle.pma_store.proofs.store.OpenArray.change.Goals.{After-prepare, After-rewrite, Then-eq}
+
+-- A store at its limit.
+
+quiet_here : (g : _) (c : Then-eq g) → Told (g.S.Station.view c.args.station.now) → IsQuiet c.args.self.now (g.S.Station.view c.args.station.now).held (update_of c.args.update.now)
+quiet_here g c told =
+    let a = g.S.Station.view c.args.station.now in
+    let s = c.args.self.now in
+    let u = update_of c.args.update.now in
+    let is : c.pick-pick.result ≡ AtLimit = first_of (search rules, grind (arith, common_steps)) in
+    let stands_here = stands_there s c.requires.on told in
+    let full = (subst (IsPossible s.tally) is c.pick-pick.ensures.possible).1 in
+    let add = limit_adds c.args.change c.args.spot.segment s.tally (sym c.pick-pick.ensures.answer ∙ is) in
+    limit_by s a.held stands_here u
+    (needs_in s a.held stands_here u c.args.spot c.args.rows.now c.requires.spot (c.requires.own told) ∙ c.requires.needs ∙ ap (λ (ch : Change). need.Change ch) add)
+    (full ∙ ap (λ (h : ℕ). upper_of h) c.requires.kept.hmax)
+
+pub returns-then-eq-clause-applied : goal.returns-then-eq-clause-applied
+returns-then-eq-clause-applied g c =
+    quiet_applies (update_of c.args.update.now) c.args.self.now c.requires.on (quiet_here g (goal.at.returns-then-eq-clause-applied g c).Then-eq)
+
+-- What is known of the store before and once it is ready.
+
+stands : (g : _) (c : After-prepare g) → Told (g.S.Station.view c.args.station.now) → Stands c.args.self.now (g.S.Station.view c.args.station.now).held
+stands g c told = stands_there c.args.self.now c.requires.on told
+
+not_limit : (g : _) (c : After-prepare g) → c.pick-pick.result ≢ AtLimit
+not_limit g c = first_of (search rules, grind (arith, common_steps))
+
+fewer_than : (g : _) (c : After-prepare g) → c.args.change ≡ Add → sum c.args.self.now.tally.counts < upper_of c.args.self.now.tally.hmax
+fewer_than g c add = c.pick-pick.ensures.few add (not_limit g c)
+
+room : (g : _) (c : After-prepare g) → Told (g.S.Station.view c.args.station.now) → c.args.change ≡ Add → length (rows (array_of (g.S.Station.view c.args.station.now).held)) < upper_of (limit_of c.args.self.now)
+room g c told add =
+    let a = g.S.Station.view c.args.station.now in
+    let s = c.args.self.now in
+    let own = stands g c told in
+    omega (arith, fewer_than g c add, records_are s a.held own, rows_len s a.held own, ap (λ (h : ℕ). upper_of h) c.requires.kept.hmax)
+
+outcome : (g : _) (c : After-prepare g) → Told (g.S.Station.view c.args.station.now) → Changed ≡ outcome_of (limit_of c.args.self.now) (array_of (g.S.Station.view c.args.station.now).held) (update_of c.args.update.now)
+outcome g c told =
+    let a = g.S.Station.view c.args.station.now in
+    let s = c.args.self.now in
+    let u = update_of c.args.update.now in
+    let asks = needs_in s a.held (stands g c told) u c.args.spot c.args.rows.now c.requires.spot (c.requires.own told) ∙ c.requires.needs in
+    sym (outcome_by (limit_of s) (height_of a.held) (array_of a.held) u c.args.change asks (room g c told))
+
+report : (g : _) (c : After-prepare g) → Told (g.S.Station.view c.args.station.now) → reported c.report-report.result ≡ report_of (limit_of c.args.self.now) (state_in c.args.self.now (g.S.Station.view c.args.station.now).held) (update_of c.args.update.now)
+report g c told =
+    let a = g.S.Station.view c.args.station.now in
+    report_same c.args.self.now a.held (stands g c told) (update_of c.args.update.now) c.args.change c.args.spot c.args.rows.now c.requires.spot (c.requires.own told) c.requires.needs (room g c told)
+    (reported c.report-report.result) c.report-report.ensures.report
+
+pub rewrite-requires-clause-balanced : goal.rewrite-requires-clause-balanced
+rewrite-requires-clause-balanced g c =
+    let here = (goal.at.rewrite-requires-clause-balanced g c).After-prepare in
+    let t = c.args.self.now.tally in
+    let u = update_of c.args.update.now in
+    let ready = c.in-Ok.ensures.ready in
+    let at = c.in-Ok.next.segment in
+    let is = ready.tally_is in
+    let kept = c.requires.kept in
+    let by_ready = balanced_next c.args.change c.args.spot.segment t kept.tally kept.balanced c.requires.spot.within
+    (taken_some u c.args.self.now c.args.spot c.args.rows.now c.args.change c.requires.spot c.requires.needs) (fewer_than g here)
+    at (subst (λ (t : TallyView). at < 2 ^ t.height) is ready.is_spot.within) ready.near
+    (λ takes. subst (λ (t : TallyView). 1 ≤ get_or t.counts at 0) is (taken_some u c.prepare.new.self c.in-Ok.next c.prepare.new.rows c.args.change ready.is_spot ready.needs takes)) in
+    subst (λ (t : TallyView). IsBalanced t.height (counts_after (adds c.args.change) t.counts at)) (sym is) by_ready
+
+pub rewrite-requires-clause-fits : goal.rewrite-requires-clause-fits
+rewrite-requires-clause-fits g c = subst (λ (l : Layout). FitsFormat l.format (update_of c.args.update.now)) (sym c.prepare.ensures.kept.layout) c.requires.fits
+
+-- The store behind the rewriting of a segment.
+
+stood : (g : _) (c : After-rewrite g) → Told (g.S.Station.view c.args.station.now) → Stands c.args.self.now (g.S.Station.view c.args.station.now).held
+stood g c told = stands_there c.args.self.now c.requires.on told
+
+had_room : (g : _) (c : After-rewrite g) → Told (g.S.Station.view c.args.station.now) → c.args.change ≡ Add → length (rows (array_of (g.S.Station.view c.args.station.now).held)) < upper_of (limit_of c.args.self.now)
+had_room g c told add =
+    let a = g.S.Station.view c.args.station.now in
+    let s = c.args.self.now in
+    let not_at : c.pick-pick.result ≢ AtLimit = first_of (search rules, grind (arith, common_steps)) in
+    omega (arith, c.pick-pick.ensures.few add not_at, records_are s a.held (stood g c told), rows_len s a.held (stood g c told), ap (λ (h : ℕ). upper_of h) c.requires.kept.hmax)
+
+-- its map is held by the rewritten array
+holds : (g : _) (c : After-rewrite g) → Told (g.S.Station.view c.args.station.now)
+    → HoldsMap (limit_of c.prepare.new.self) (map_after (limit_of c.args.self.now) (map_of (g.S.Station.view c.args.station.now).held) (update_of c.args.update.now)) c.prepare.new.self.tally.height (rewritten (g.S.Station.view c.prepare.new.station).held c.in-Ok.next.segment (edited (update_of c.args.update.now) c.prepare.new.rows))
+holds g c told =
+    let a = g.S.Station.view c.args.station.now in
+    let b = g.S.Station.view c.prepare.new.station in
+    let s = c.args.self.now in
+    let t = c.prepare.new.self in
+    let u = update_of c.args.update.now in
+    let has = c.in-Ok.ensures.own told in
+    let held = final_holds s a.held (stood g c told) u c.args.change c.args.spot c.args.rows.now c.requires.spot (c.requires.own told) c.requires.needs (had_room g c told) b.held has.array_is c.in-Ok.next c.prepare.new.rows has.own
+    t.tally.height (ap (λ (t : TallyView). t.height) c.in-Ok.ensures.ready.tally_is) in
+    subst (λ (l : Layout). HoldsMap (height_limit l) (map_after (limit_of s) (map_of a.held) u) t.tally.height (rewritten b.held c.in-Ok.next.segment (edited u c.prepare.new.rows))) (sym c.prepare.ensures.kept.layout) held
+
+steps : (g : _) (c : After-rewrite g) → Steps (Updates (limit_of c.args.self.now) (update_of c.args.update.now)) (g.S.Station.view c.args.station.now) (g.S.Station.view c.rewrite.new.station)
+steps g c =
+    let a = g.S.Station.view c.args.station.now in
+    let b = g.S.Station.view c.prepare.new.station in
+    let s = c.args.self.now in
+    let t = c.prepare.new.self in
+    let u = update_of c.args.update.now in
+    let m = map_of a.held in
+    let next = map_after (limit_of s) m u in
+    let rs = edited u c.prepare.new.rows in
+    let frame = c.prepare.ensures.kept.steps.frame in
+    keeps_then (limit_of s) u c.prepare.ensures.kept.steps
+    (rewrite_updates (limit_of s) u m t c.in-Ok.next.segment rs (g.met.S.Station.lawful c.prepare.new.station) c.in-Ok.ensures.kept.store
+    (λ told_b. let told = told_back frame told_b in (c.prepare.ensures.kept.steps.held told).map_is m (own_of s a.held (stood g c told)))
+    (λ told_b image has. (t.tally.height, (rewritten_represents t b.held image c.in-Ok.next.segment rs next (stands_there t c.in-Ok.ensures.kept.store told_b) has (holds g c (told_back frame told_b))).0))
+    c.rewrite.ensures.steps)
+
+-- its place, by what was picked
+place : (g : _) (c : After-rewrite g) → c.rewrite.new.self ≡ record c.prepare.new.self { tally = c.rewrite.new.self.tally; index = c.rewrite.new.self.index; turn = c.rewrite.new.self.turn }
+    → Steps (Rewrites c.prepare.new.self.place c.in-Ok.next.segment (edited (update_of c.args.update.now) c.prepare.new.rows)) (g.S.Station.view c.prepare.new.station) (g.S.Station.view c.rewrite.new.station)
+    → IsPlaceAfter c.report-report.result.resized c.args.self.now c.rewrite.new.self (g.S.Station.view c.args.station.now) (g.S.Station.view c.rewrite.new.station)
+place g c kept laid =
+    let s = c.args.self.now in
+    let t = c.prepare.new.self in
+    let next = c.rewrite.new.self in
+    let rs = edited (update_of c.args.update.now) c.prepare.new.rows in
+    subst (λ (b : Bool). IsPlaceAfter b s next (g.S.Station.view c.args.station.now) (g.S.Station.view c.rewrite.new.station)) (sym c.report-report.ensures.resized)
+    (place_then (resizes c.pick-pick.result) s t next c.in-Ok.ensures.place (rewrite_place t next c.in-Ok.next.segment rs (ap (λ (t : StoreView). t.place) kept) laid))
+
+-- its state
+state : (g : _) (c : After-rewrite g) → (Told (g.S.Station.view c.prepare.new.station) → HasRewritten c.in-Ok.next.segment (edited (update_of c.args.update.now) c.prepare.new.rows) (g.S.Station.view c.prepare.new.station).held (g.S.Station.view c.rewrite.new.station).held)
+    → c.rewrite.new.self.tally ≡ counted (Some c.args.change) c.in-Ok.next.segment c.prepare.new.self.tally
+    → Told (g.S.Station.view c.args.station.now) → state_in c.rewrite.new.self (g.S.Station.view c.rewrite.new.station).held ≡ next_state (limit_of c.args.self.now) (state_in c.args.self.now (g.S.Station.view c.args.station.now).held) (update_of c.args.update.now)
+state g c laid counted told =
+    let a = g.S.Station.view c.args.station.now in
+    let b = g.S.Station.view c.prepare.new.station in
+    let d = g.S.Station.view c.rewrite.new.station in
+    let s = c.args.self.now in
+    let t = c.prepare.new.self in
+    let u = update_of c.args.update.now in
+    let next = map_after (limit_of s) (map_of a.held) u in
+    let rs = edited u c.prepare.new.rows in
+    let told_b = told_on c.prepare.ensures.kept.steps.frame told in
+    let has = c.in-Ok.ensures.own told in
+    let is = c.in-Ok.ensures.ready.tally_is in
+    let own = stood g c told in
+    let room_here = had_room g c told in
+    let after = rewritten_represents t b.held d.held c.in-Ok.next.segment rs next (stands_there t c.in-Ok.ensures.kept.store told_b) (laid told_b) (holds g c told) in
+    let tall = ap (λ (t : TallyView). t.height) is ∙ height_same s a.held own u c.args.change c.args.spot c.args.rows.now c.requires.spot (c.requires.own told) c.requires.needs room_here in
+    let array = after.1 ∙ final_array s a.held own u c.args.change c.args.spot c.args.rows.now c.requires.spot (c.requires.own told) c.requires.needs room_here b.held has.array_is c.in-Ok.next c.prepare.new.rows has.own in
+    let marks = ap (λ (t : TallyView). t.marks) counted ∙ final_marks s a.held own u c.args.change c.args.spot c.args.rows.now c.requires.spot (c.requires.own told) c.requires.needs room_here b.held has.array_is c.in-Ok.next c.prepare.new.rows has.own t.tally is in
+    state_after s c.rewrite.new.self a.held d.held u t.tally.height after.0 tall array marks
+
+-- its height, by what was picked
+tall : (g : _) (c : After-rewrite g) → c.rewrite.new.self.tally ≡ counted (Some c.args.change) c.in-Ok.next.segment c.prepare.new.self.tally → c.rewrite.new.self.tally.height ≡ picked_height c.args.self.now.tally.height c.pick-pick.result
+tall g c counted =
+    let t = c.args.self.now.tally in
+    let not_at : c.pick-pick.result ≢ AtLimit = first_of (search rules, grind (arith, common_steps)) in
+    ap (λ (t : TallyView). t.height) counted ∙ ap (λ (t : TallyView). t.height) c.in-Ok.ensures.ready.tally_is
+    ∙ picked_is c.args.change c.args.spot.segment t c.pick-pick.result c.pick-pick.ensures.answer not_at
+
+-- The update is paid for.
+
+paid : (g : _) (c : After-rewrite g) → c.rewrite.new.self.tally ≡ counted (Some c.args.change) c.in-Ok.next.segment c.prepare.new.self.tally
+    → IsPaid c.args.self.now.tally c.rewrite.new.self.tally (work_by c.rewrite.new.self.tally.height true c.report-report.result)
+paid g c counts =
+    let t = c.args.self.now.tally in
+    let u = update_of c.args.update.now in
+    let kept = c.requires.kept in
+    let ready = c.in-Ok.ensures.ready in
+    let at = c.in-Ok.next.segment in
+    let is = ready.tally_is in
+    let not_at : c.pick-pick.result ≢ AtLimit = first_of (search rules, grind (arith, common_steps)) in
+    paid_changed c.args.change c.args.spot.segment t kept.tally kept.balanced c.requires.spot.within
+    (taken_some u c.args.self.now c.args.spot c.args.rows.now c.args.change c.requires.spot c.requires.needs) (λ add. c.pick-pick.ensures.few add not_at)
+    at (subst (λ (t : TallyView). at < 2 ^ t.height) is ready.is_spot.within)
+    (λ takes. subst (λ (t : TallyView). 1 ≤ get_or t.counts at 0) is (taken_some u c.prepare.new.self c.in-Ok.next c.prepare.new.rows c.args.change ready.is_spot ready.needs takes))
+    c.rewrite.new.self.tally (counts ∙ ap (counted (Some c.args.change) at) is)
+    c.report-report.result c.report-report.ensures.report
+
+-- Its bound, by the state.
+
+bounded : (g : _) (c : After-prepare g) (n : ℕ) → n ≤ (g.S.Station.view c.args.station.now).travel.written + (ready_cost c.args.self.now.place.layout c.args.self.now.tally.height c.pick-pick.result + commit_cost c.args.self.now.place.layout)
+    → Told (g.S.Station.view c.args.station.now) → n ≤ (g.S.Station.view c.args.station.now).travel.written + update_cost_in c.args.self.now.place.layout (state_in c.args.self.now (g.S.Station.view c.args.station.now).held) (update_of c.args.update.now)
+bounded g c n few told =
+    let a = g.S.Station.view c.args.station.now in
+    let s = c.args.self.now in
+    let u = update_of c.args.update.now in
+    let own = stands g c told in
+    let next : picked_height s.tally.height c.pick-pick.result ≡ height_after (limit_of s) (height_of a.held) (map_of a.held) u =
+    sym (picked_is c.args.change c.args.spot.segment s.tally c.pick-pick.result c.pick-pick.ensures.answer (not_limit g c))
+    ∙ height_same s a.held own u c.args.change c.args.spot c.args.rows.now c.requires.spot (c.requires.own told) c.requires.needs (room g c told) in
+    let cost = cost_told s a.held own u true (ap changed_by (outcome g c told)) c.report-report.result (report g c told) (picked_height s.tally.height c.pick-pick.result) next in
+    omega (arith, few, c.report-report.ensures.cost, cost)
+
+pub returns-in-Ok-rewrite-clause-applied : goal.returns-in-Ok-rewrite-clause-applied
+returns-in-Ok-rewrite-clause-applied g c =
+    let here = (goal.at.returns-in-Ok-rewrite-clause-applied g c).After-rewrite in
+    let before = (goal.at.returns-in-Ok-rewrite-clause-applied g c).After-prepare in
+    let a = g.S.Station.view c.args.station.now in
+    let s = c.args.self.now in
+    let t = c.rewrite.new.self in
+    let u = update_of c.args.update.now in
+    let ready = c.in-Ok.ensures.kept in
+    let one = c.in-Ok-rewrite.ensures in
+    let layout = ap (λ (t : StoreView). t.place.layout) one.kept ∙ ready.layout in
+    record {
+      update = record {
+        state = state g here one.laid one.counted;
+        report = report g before;
+        rested = c.report-report.ensures.rested;
+        store = stands_again c.prepare.new.self t ready.store (ap (λ (t : StoreView). t.place.layout) one.kept) one.steps.frame
+            (one.store (map_after (limit_of s) (map_of a.held) u) (λ told_b. holds g here (told_back ready.steps.frame told_b))) one.rests;
+        steps = steps g here;
+        place = place g here one.kept one.steps;
+        layout = layout;
+        cost = omega (arith, ready.cost, one.cost, ap commit_cost ready.layout, c.report-report.ensures.cost, ap (λ (h : ℕ). update_cost s.place.layout h c.report-report.result) (tall g here one.counted));
+        most = omega (arith, ready.cost, one.cost, ap commit_cost ready.layout, most_cost s.place.layout s.tally c.pick-pick.result c.pick-pick.ensures.possible);
+        paid = paid g here one.counted;
+      };
+      outcome = outcome g before;
+      unchanged = changes;
+      bounded = tt;
+      closed = ap (λ (t : StoreView). t.closed) one.kept ∙ ready.closed;
+      damaged = tt;
+      counted = tt;
+      failed = no_fault (Changed, c.report-report.result);
+    }
+
+pub returns-in-Err-rewrite-clause-applied : goal.returns-in-Err-rewrite-clause-applied
+returns-in-Err-rewrite-clause-applied g c =
+    let here = (goal.at.returns-in-Err-rewrite-clause-applied g c).After-rewrite in
+    let before = (goal.at.returns-in-Err-rewrite-clause-applied g c).After-prepare in
+    let s = c.args.self.now in
+    let ready = c.prepare.ensures.kept in
+    let one = c.in-Err-rewrite.ensures in
+    rewrite_faults (update_of c.args.update.now) c.in-Err-rewrite.fault s c.rewrite.new.self (steps g here) (ap (λ (t : StoreView). t.place.layout) one.kept ∙ ready.layout) (ap (λ (t : StoreView). t.closed) one.kept ∙ ready.closed)
+    (omega (arith, ready.cost, one.cost, ap commit_cost ready.layout, most_cost s.place.layout s.tally c.pick-pick.result c.pick-pick.ensures.possible)) (bounded g before _ (omega (arith, ready.cost, one.cost, ap commit_cost ready.layout))) one.disk (omega (arith, one.failed, ready.steps.frame.disk_faults))
+
+-- The calls that were made.
+
+asked : (g : _) (c : After-prepare g) → c.pick-pick.result ≡ picked (change_in (update_of c.args.update.now)) c.args.spot.segment c.args.self.now.tally
+asked g c =
+    let t = c.args.self.now.tally in
+    let own = change_is (update_of c.args.update.now) (is_ok c.args.spot.found) c.args.change c.requires.needs in
+    c.pick-pick.ensures.answer ∙ ap (λ (ch : Change). picked ch c.args.spot.segment t) own
+
+few : (g : _) (c : After-prepare g) (n : ℕ) → n ≤ (g.S.Station.view c.args.station.now).calls + asked_calls c.args.self.now.place.layout c.args.self.now.tally.height c.pick-pick.result
+    → n ≤ (g.S.Station.view c.args.station.now).calls + asked_calls c.args.self.now.place.layout c.args.self.now.tally.height (picked (change_in (update_of c.args.update.now)) c.args.spot.segment c.args.self.now.tally)
+few g c n le = subst (λ (p : Pick). n ≤ (g.S.Station.view c.args.station.now).calls + asked_calls c.args.self.now.place.layout c.args.self.now.tally.height p) (asked g c) le
+
+-- and what was written
+wide : (g : _) (c : After-prepare g) (n : ℕ) → n ≤ (g.S.Station.view c.args.station.now).travel.written + (ready_cost c.args.self.now.place.layout c.args.self.now.tally.height c.pick-pick.result + commit_cost c.args.self.now.place.layout)
+    → n ≤ (g.S.Station.view c.args.station.now).travel.written + (ready_cost c.args.self.now.place.layout c.args.self.now.tally.height (picked (change_in (update_of c.args.update.now)) c.args.spot.segment c.args.self.now.tally) + commit_cost c.args.self.now.place.layout)
+wide g c n le = subst (λ (p : Pick). n ≤ (g.S.Station.view c.args.station.now).travel.written + (ready_cost c.args.self.now.place.layout c.args.self.now.tally.height p + commit_cost c.args.self.now.place.layout)) (asked g c) le
+
+-- What is kept says it as well.
+
+own : (g : _) (c : After-prepare g) → c.args.change ≡ change_in (update_of c.args.update.now)
+own g c = change_is (update_of c.args.update.now) (is_ok c.args.spot.found) c.args.change c.requires.needs
+
+pub returns-then-eq-clause-within : goal.returns-then-eq-clause-within
+returns-then-eq-clause-within g c = quiet_within (update_of c.args.update.now) c.args.spot.segment c.args.self.now
+
+pub returns-in-Ok-rewrite-clause-within : goal.returns-in-Ok-rewrite-clause-within
+returns-in-Ok-rewrite-clause-within g c =
+    let t = c.args.self.now.tally in
+    let u = update_of c.args.update.now in
+    let before = (goal.at.returns-in-Ok-rewrite-clause-within g c).After-prepare in
+    record {
+      report =
+          subst (λ (ch : Change). reported c.report-report.result ≡ report_by t.height c.args.spot.segment (broken_in ch c.args.spot.segment t) t.marks) (own g before) c.report-report.ensures.report
+          ∙ ap (λ (b : Bool). report_at b (change_in u) c.args.spot.segment t) (sym (moved_one u));
+      counts = inr (record {
+        at = c.args.spot.segment;
+        at_in = c.requires.spot.within;
+        there = c.in-Ok.next.segment;
+        there_in = subst (λ (h : ℕ). c.in-Ok.next.segment < 2 ^ h) (sym (ap (λ (t : TallyView). t.height) c.in-Ok-rewrite.ensures.counted)) c.in-Ok.ensures.ready.is_spot.within;
+        counts = c.in-Ok-rewrite.ensures.counted ∙ (λ τ. counted (Some (own g before τ)) c.in-Ok.next.segment (c.in-Ok.ensures.ready.tally_is τ)) ∙ ap (λ (ch : Change). counted (Some (change_in u)) c.in-Ok.next.segment (readied ch c.args.spot.segment t)) (own g before);
+      });
+      late = tt;
+      asked = few g before _ (omega (arith, c.in-Ok.ensures.kept.calls, c.in-Ok-rewrite.ensures.calls));
+      calls = omega (arith, c.in-Ok.ensures.kept.calls, c.in-Ok-rewrite.ensures.calls, c.report-report.ensures.calls, ap (λ (h : ℕ). update_calls c.args.self.now.place.layout t.height h c.report-report.result) (tall g (goal.at.returns-in-Ok-rewrite-clause-within g c).After-rewrite c.in-Ok-rewrite.ensures.counted));
+      spared = λ none. tt;
+      written = wide g before _ (omega (arith, c.in-Ok.ensures.kept.cost, c.in-Ok-rewrite.ensures.cost, ap commit_cost c.in-Ok.ensures.kept.layout));
+    }
+
+pub returns-in-Err-rewrite-clause-within : goal.returns-in-Err-rewrite-clause-within
+returns-in-Err-rewrite-clause-within g c =
+    let s = c.args.self.now in
+    let before = (goal.at.returns-in-Err-rewrite-clause-within g c).After-prepare in
+    let ready = c.prepare.ensures.kept in
+    let one = c.in-Err-rewrite.ensures in
+    record {
+      report = tt;
+      counts = tt;
+      late = inl one.disk;
+      asked = few g before _ (omega (arith, ready.calls, one.calls));
+      calls = tt;
+      spared = λ none.
+          let fits : c.pick-pick.result ≡ Fits = c.pick-pick.ensures.answer ∙ ap (pick_of s.tally.hmax s.tally.height c.args.spot.segment c.args.change) (ap (λ (ch : Change). broken_in ch c.args.spot.segment s.tally) (own g before) ∙ none) in
+          omega (arith, ready.cost, one.cost, ap commit_cost ready.layout, ap (λ (p : Pick). ready_cost s.place.layout s.tally.height p) fits);
+      written = wide g before _ (omega (arith, ready.cost, one.cost, ap commit_cost ready.layout));
+    }
+
+pub returns-in-Err-clause-within : goal.returns-in-Err-clause-within
+returns-in-Err-clause-within g c =
+    let s = c.args.self.now in
+    let same = change_is (update_of c.args.update.now) (is_ok c.args.spot.found) c.args.change c.requires.needs in
+    record {
+      report = tt;
+      counts = tt;
+      late = subst (λ (ch : Change). IsMetLate ch c.args.spot.segment s c.prepare.new.self c.in-Err.fault (g.S.Station.view c.prepare.new.station)) same c.in-Err.ensures.late;
+      asked = few g (goal.at.returns-in-Err-clause-within g c).After-prepare _ (omega (arith, c.in-Err.ensures.kept.calls));
+      calls = tt;
+      spared = λ none. absurd (none_asks _ (ap (λ (ch : Change). broken_in ch c.args.spot.segment s.tally) same ∙ none) c.in-Err.ensures.asks);
+      written = wide g (goal.at.returns-in-Err-clause-within g c).After-prepare _ (omega (arith, c.in-Err.ensures.kept.cost));
+    }
+
+pub returns-in-Err-clause-applied : goal.returns-in-Err-clause-applied
+returns-in-Err-clause-applied g c =
+    let s = c.args.self.now in
+    let u = update_of c.args.update.now in
+    let ready = c.in-Err.ensures.kept in
+    fault_applies u c.in-Err.fault s c.prepare.new.self
+    (keeps_updates (limit_of s) u ready.steps)
+    ready.layout ready.closed (omega (arith, ready.cost, most_cost s.place.layout s.tally c.pick-pick.result c.pick-pick.ensures.possible)) (bounded g (goal.at.returns-in-Err-clause-applied g c).After-prepare _ (omega (arith, ready.cost))) ready.damaged ready.counted
+    ready.failed

@@ -1,0 +1,227 @@
+//! What an update asks for before it is made: a window is rebalanced, or the store grows or shrinks.
+//!
+//! The kept counts decide it, before anything is written. The spot of the update is then found anew, and is to lie in the
+//! window.
+
+ghost use Rattle.std.specs.Prelude.{◌≡◌, ◌≢◌, ◌+◌, ◌-◌, ◌/◌, ◌^◌, ◌<◌, ◌≤◌, ◌↔◌, ◌⊎◌, ℕ, Some, sum, slice_index, IfOk, OnOk, OnErr, IfErr, IsSome, IsTrue, is_ok, false};
+ghost use Rattle.station.specs.View.{Told};
+ghost use Rattle.density_rule.specs.Bounds.{upper_of};
+ghost use Rattle.density_rule.specs.Marks.{mark_of, spread_marks};
+ghost use Rattle.density_rule.specs.Spread.{spread_counts};
+ghost use Rattle.density_rule.specs.Windows.{IsWindow};
+ghost use Rattle.density_rule.specs.declared.Window.{Window};
+ghost use Rattle.map_model.specs.Array.{spread};
+ghost use Rattle.map_model.specs.ArrayState.{report_by};
+ghost use Rattle.map_model.specs.Image.{array_of};
+ghost use Rattle.window_tally.specs.Choice.{pick_of, IsPossible};
+ghost use Rattle.pma_store.specs.Answers.{reported};
+ghost use Rattle.pma_store.specs.Calling.{asked_calls, update_calls, again_calls, ready_calls, spread_calls};
+ghost use Rattle.pma_store.specs.Changing.{IsRested, picked_height, update_cost, LiesIn, LeavesWindow, IsLow, FindsAgain, IsReady, HasReady};
+ghost use Rattle.pma_store.specs.Damaging.{IsMetLate, IsOrderly, IsMetMaking, IsMetMoving};
+ghost use Rattle.pma_store.specs.Readying.{broken_in, ready_cost, resizes, KeepsStore, readied, readied_array, spread_cost};
+ghost use Rattle.pma_store.specs.Rewrites.{commit_cost};
+ghost use Rattle.pma_store.specs.Spots.{IsSpot, IsOwn, FindsSpot};
+ghost use Rattle.pma_store.specs.Store.{IsStore, StandsOn};
+ghost use Rattle.pma_store.specs.Touching.{IsPlaceAfter};
+ghost use Rattle.pma_store.specs.Updating.{update_of, need_of};
+ghost use Rattle.pma_store.specs.declared.update.Need.TheVariants as need;
+
+use crate::answers::{QUIET, Report};
+use crate::store::OpenArray;
+use crate::update::{Need, Spot, Update};
+use density_rule::{Window, window_of};
+use redistribute::rebalance;
+use segment::{Damage, Segment, StoreFault};
+use station::Station;
+use window_tally::{Change, Pick, Tally};
+
+impl OpenArray {
+    // What a change of a segment asks for.
+    pub(crate) fn pick(&self, segment: u32, change: Change) -> Pick
+        requires segment { segment < 2 ^ self.now.tally.height }
+        requires some { change ≡ Change.Take → 1 ≤ slice_index self.now.tally.counts segment }
+        ensures answer { result ≡ pick_of self.now.tally.hmax self.now.tally.height segment change (broken_in change segment self.now.tally) }
+        ensures possible { IsPossible self.now.tally result }
+        ensures few { change ≡ Change.Add → result ≢ Pick.AtLimit → sum self.now.tally.counts < upper_of self.now.tally.hmax }
+        ensures cause { (window : Window) (n : ℕ) → result ≡ Pick.Spread window → mark_of self.now.tally.marks (window.height - 1) (segment / 2 ^ (window.height - 1)) ≡ Some n → 2 ^ (window.height - 1) ≤ n }
+    {
+        self.tally.pick(segment, change)
+    }
+
+    // What is reported of a change of a segment that asks for this.
+    pub(crate) fn report(&self, segment: u32, change: Change, pick: Pick) -> Report
+        requires segment { segment < 2 ^ self.now.tally.height }
+        requires pick { pick ≡ pick_of self.now.tally.hmax self.now.tally.height segment change (broken_in change segment self.now.tally) }
+        requires possible { IsPossible self.now.tally pick }
+        requires room { pick ≢ Pick.AtLimit }
+        requires cause { (window : Window) (n : ℕ) → pick ≡ Pick.Spread window → mark_of self.now.tally.marks (window.height - 1) (segment / 2 ^ (window.height - 1)) ≡ Some n → 2 ^ (window.height - 1) ≤ n }
+        ensures report { reported result ≡ report_by self.now.tally.height segment (broken_in change segment self.now.tally) self.now.tally.marks }
+        ensures rested { IsRested result }
+        ensures resized { result.resized ≡ resizes pick }
+        ensures calls { asked_calls self.now.place.layout self.now.tally.height pick ≤ update_calls self.now.place.layout self.now.tally.height (picked_height self.now.tally.height pick) result }
+        ensures cost { ready_cost self.now.place.layout self.now.tally.height pick + commit_cost self.now.place.layout ≤ update_cost self.now.place.layout (picked_height self.now.tally.height pick) result }
+    {
+        match pick {
+            Pick::Fits | Pick::AtLimit => QUIET,
+            Pick::Spread(window) => Report {
+                rebalanced: Some(window),
+                child_updates: updates_in(&self.tally, window_of(segment, window.height - 1)),
+                resized: false,
+            },
+            Pick::Grow | Pick::Shrink => Report {
+                resized: true,
+                ..QUIET
+            },
+        }
+    }
+
+    // Does what a change asks for, and answers the spot in which it is then made. Where it asks for nothing, that is the
+    // spot that was found.
+    pub(crate) fn prepare<S: Station>(
+        &mut self,
+        station: &mut S,
+        update: &Update,
+        spot: Spot,
+        rows: &mut Segment,
+        change: Change,
+        pick: Pick,
+    ) -> Result<Spot, StoreFault>
+        requires on { StandsOn self.old (S.view station.old) }
+        requires kept { IsStore self.old }
+        requires few { change ≡ Change.Add → sum self.old.tally.counts < upper_of self.old.tally.hmax }
+        requires spot { IsSpot (update_of update.now) self.old spot rows.old }
+        requires own { Told (S.view station.old) → IsOwn (update_of update.now) spot rows.old (S.view station.old).held }
+        requires needs { need_of (update_of update.now) (is_ok spot.found) ≡ need.Change change }
+        requires pick { pick ≡ pick_of self.old.tally.hmax self.old.tally.height spot.segment change (broken_in change spot.segment self.old.tally) }
+        requires possible { IsPossible self.old.tally pick }
+        requires room { pick ≢ Pick.AtLimit }
+        ensures kept { KeepsStore result (ready_cost self.old.place.layout self.old.tally.height pick)
+            (ready_calls self.old.place.layout self.old.tally.height pick + again_calls pick)
+            self.old self.new (S.view station.old) (S.view station.new) }
+        ensures place { OnOk result (IsPlaceAfter (resizes pick) self.old self.new (S.view station.old) (S.view station.new)) }
+        ensures ready { IfOk result (λ next. IsReady (update_of update.now) change spot.segment self.old self.new next rows.new) }
+        ensures own { IfOk result (λ next. Told (S.view station.old) → HasReady (update_of update.now) change spot.segment self.old next rows.new (S.view station.old).held (S.view station.new).held) }
+        ensures asks { OnErr result (IsSome (broken_in change spot.segment self.old.tally)) }
+        ensures late { IfErr result (λ fault. IsMetLate change spot.segment self.old self.new fault (S.view station.new)) }
+    {
+        if pick == Pick::Fits {
+            return Ok(spot);
+        }
+        match self.make_ready(station, spot.segment, change, pick) {
+            Ok(()) => self.find_again(station, update, rows, change, pick),
+            Err(fault) => Err(fault),
+        }
+    }
+
+    // Does what a change of a segment asks for.
+    pub(crate) fn make_ready<S: Station>(
+        &mut self,
+        station: &mut S,
+        segment: u32,
+        change: Change,
+        pick: Pick,
+    ) -> Result<(), StoreFault>
+        requires on { StandsOn self.old (S.view station.old) }
+        requires pick { pick ≡ pick_of self.old.tally.hmax self.old.tally.height segment change (broken_in change segment self.old.tally) }
+        requires possible { IsPossible self.old.tally pick }
+        requires room { pick ≢ Pick.AtLimit }
+        ensures kept { KeepsStore result (ready_cost self.old.place.layout self.old.tally.height pick) (ready_calls self.old.place.layout self.old.tally.height pick) self.old self.new (S.view station.old) (S.view station.new) }
+        ensures place { OnOk result (IsPlaceAfter (resizes pick) self.old self.new (S.view station.old) (S.view station.new)) }
+        ensures array { OnOk result (Told (S.view station.old) → array_of (S.view station.new).held ≡ readied_array change segment self.old.tally (array_of (S.view station.old).held)) }
+        ensures making { IfErr result (λ fault. (fault ≡ StoreFault.Failed) ⊎ IsMetMaking pick self.old.tally fault) }
+        ensures tally { OnOk result (self.new.tally ≡ readied change segment self.old.tally) }
+    {
+        match pick {
+            Pick::Fits => Ok(()),
+            Pick::Spread(window) => self.spread(station, window),
+            Pick::Grow => self.grow(station),
+            Pick::Shrink => self.shrink(station),
+            Pick::AtLimit => Ok(()),
+        }
+    }
+
+    // Spreads the records of a window evenly over its segments.
+    pub(crate) fn spread<S: Station>(
+        &mut self,
+        station: &mut S,
+        window: Window,
+    ) -> Result<(), StoreFault>
+        requires on { StandsOn self.old (S.view station.old) }
+        requires window { IsWindow self.old.tally.height window.height window.number }
+        requires larger { 1 ≤ window.height }
+        ensures kept { KeepsStore result (spread_cost self.old.place.layout window.height) (spread_calls self.old.place.layout window.height) self.old self.new (S.view station.old) (S.view station.new) }
+        ensures moving { IfErr result (λ fault. (fault ≡ StoreFault.Failed) ⊎ IsMetMoving window self.old.tally.counts fault) }
+        ensures array { OnOk result (Told (S.view station.old) → array_of (S.view station.new).held ≡ spread (array_of (S.view station.old).held) window.height window.number) }
+        ensures tally { OnOk result (self.new.tally ≡ record self.old.tally {
+          counts = spread_counts self.old.tally.counts window.height window.number;
+          marks = spread_marks self.old.tally.height window.height window.number self.old.tally.marks;
+        }) }
+        ensures place { IsPlaceAfter false self.old self.new (S.view station.old) (S.view station.new) }
+    {
+        rebalance(
+            station,
+            &self.place,
+            &mut self.frames,
+            &mut self.tally,
+            &mut self.index,
+            window,
+        )
+    }
+
+    // Finds the spot of an update anew. Where the segment lies out of the window that was picked, or its rows contradict
+    // what was read before, it is out of order.
+    fn find_again<S: Station>(
+        &mut self,
+        station: &mut S,
+        update: &Update,
+        rows: &mut Segment,
+        change: Change,
+        pick: Pick,
+    ) -> Result<Spot, StoreFault>
+        requires on { StandsOn self.old (S.view station.old) }
+        requires again { Told (S.view station.old) → FindsAgain (update_of update.now) change pick (array_of (S.view station.old).held) }
+        requires low { IsLow pick }
+        ensures store { IsStore self.new }
+        ensures found { FindsSpot (update_of update.now) result self.old self.new rows.new (S.view station.old) (S.view station.new) }
+        ensures lies { IfOk result (λ spot. LiesIn pick spot.segment) }
+        ensures needs { IfOk result (λ spot. need_of (update_of update.now) (is_ok spot.found) ≡ need.Change change) }
+        ensures out { IfErr result (λ fault. ¬ IsOrderly fault → LeavesWindow (update_of update.now) change pick self.new rows.new) }
+    {
+        match self.find_spot(station, update, rows) {
+            Ok(spot) if fits_again(update, spot, change, pick) => Ok(spot),
+            Ok(spot) => Err(StoreFault::Damaged {
+                segment: spot.segment,
+                why: Damage::OutOfOrder,
+            }),
+            Err(fault) => Err(fault),
+        }
+    }
+}
+
+// How many updates a window has had since it was rested, where it is.
+fn updates_in(tally: &Tally, window: Window) -> Option<u64>
+    requires { IsWindow tally.now.height window.height window.number }
+    ensures { result ≡ mark_of tally.now.marks window.height window.number }
+{
+    let since = tally.since(window);
+    since.rested.then_some(since.updates)
+}
+
+// Whether a spot lies where it may, and the update asks for the same change there.
+fn fits_again(update: &Update, spot: Spot, change: Change, pick: Pick) -> bool
+    requires { IsLow pick }
+    ensures { IsTrue result ↔ (LiesIn pick spot.segment × (need_of (update_of update.now) (is_ok spot.found) ≡ need.Change change)) }
+{
+    lies_in(pick, spot.segment) && update.need(spot.found.is_ok()) == Need::Change(change)
+}
+
+// Whether a segment lies in the window that was picked, where one was.
+fn lies_in(pick: Pick, segment: u32) -> bool
+    requires { IsLow pick }
+    ensures { IsTrue result ↔ LiesIn pick segment }
+{
+    match pick {
+        Pick::Spread(window) => window_of(segment, window.height).number == window.number,
+        _ => true,
+    }
+}
