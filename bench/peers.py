@@ -188,7 +188,7 @@ class Run:
         return {what: [f"{statistics.median(column):.4g}" for column in zip(*runs)] for what, runs in found.items()}
 
     def on_disk(self, disk, commands, traced):
-        """Rows of durable updates a second by the clock, with bytes and syncs; so many updates over all rounds, each command sent
+        """Rows of durable updates a second by the clock, with bytes and syncs; that many updates over all rounds, each command sent
         when the reply before it is there, the first one when the program has opened."""
         each, took, rows = max(2, commands // self.rounds), {}, []
         files = {one.name: one.copied(disk) for one in self.stores}
@@ -227,7 +227,7 @@ class Run:
         return rows
 
     def charges(self):
-        """Rows of the charge of an update over so many puts into an empty store, by their order, beside the proved bound."""
+        """Rows of the charge of an update over that many puts into an empty store, by their order, beside the proved bound."""
         marks = [10**n for n in range(2, 7) if 10**n <= self.records] or [self.records]
         rows, pma, new, replies = [], self.all[0], self.folder / "charges", self.folder / "costs"
         for order, numbers in orders(marks[-1]):
@@ -250,7 +250,7 @@ class Run:
 
 
 def binary_blocks(segment, count, size):
-    """How many blocks of so many fences a binary search for this segment touches, over a sorted array of fences."""
+    """How many blocks of that many fences a binary search for this segment touches, over a sorted array of fences."""
     low, high, blocks = 0, count, set()
     while high - low > 1:
         middle = (low + high) // 2

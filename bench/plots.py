@@ -86,13 +86,13 @@ def lost_time(numbers):
         (QUICK, "an opening reads the index of the file, and the run writes it anew"),
     ):
         rows += lost(f"processor time, {work}", "ms", beside_opening(numbers, work, OPEN), cause)
-    reads = "each segment is read by a system call and judged whole"
-    updates = "a segment is judged and edited whole, and written twice"
+    reads = "each segment is read by a system call and validated whole"
+    updates = "a segment is validated and edited whole, and written twice"
     causes = {work: reads for work in READS} | {work: updates for work in UPDATES}
     causes |= {"half and half": updates, "mostly scans": reads}
-    causes[BATCH] = "each item's segment is judged and edited whole, and written twice"
+    causes[BATCH] = "each item's segment is validated and edited whole, and written twice"
     causes |= {
-        "cursor": "each `next` looks for its key anew, in a segment that is read and judged whole",
+        "cursor": "each `next` looks for its key anew, in a segment that is read and validated whole",
         "cursor back": "each `prev` does",
     }
     causes |= {"bulk, load": "records are packed and then spread, so each segment is written twice", "bulk, dump": reads}

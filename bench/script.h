@@ -31,7 +31,7 @@ void store_append(struct bytes key, struct bytes value);
 extern const unsigned long store_bulk;
 /* Says the value by `say_found`; 0 where there is none, and nothing is said. */
 int store_get(struct bytes key);
-/* Says the records from low on and below high by `say_record`, at most so many, ascending; no high is no bound. */
+/* Says the records from low on and below high by `say_record`, at most that many, ascending; no high is no bound. */
 void store_range(struct bytes low, const struct bytes *high, unsigned long limit);
 /* Sets a cursor of the store's own, of a number below CURSORS, on the first record from low on; 0 where there is none. */
 int store_seek(int cursor, struct bytes low, struct record *found);

@@ -4,7 +4,7 @@ import random
 SEED = 7
 KEYS = 10**10  # random keys are numbers below, ascending ones stand above
 ITEMS = 16  # of a batch
-WALKED = 100000  # records that a cursor goes over, where there are so many
+WALKED = 100000  # records that a cursor goes over, where there are that many
 BATCH, BY_PUTS = "batch of 16", "batch of 16, by puts"
 CURSOR, BACK, BY_RANGE = "cursor", "cursor back", "cursor, by range"
 
@@ -23,7 +23,7 @@ def short_value(n):
 
 
 class Workloads:
-    """Scripts for a store of so many records. Those of a round leave the store with the same keys as they found it."""
+    """Scripts for a store of that many records. Those of a round leave the store with the same keys as they found it."""
 
     def __init__(self, records, rounds):
         self.records, self.rounds = records, rounds
@@ -152,7 +152,7 @@ class Workloads:
 
 
 def orders(count):
-    """(Name, numbers of keys) of the orders in which so many keys are put: at one place, each comes between the two before it."""
+    """(Name, numbers of keys) of the orders in which that many keys are put: at one place, each comes between the two before it."""
     yield "random", random.Random(SEED).sample(range(KEYS), count)
     yield "ascending", range(count)
     yield "descending", range(count, 0, -1)

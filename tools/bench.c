@@ -67,7 +67,7 @@ static double least_run(void)
     return least;
 }
 
-/* A script of so many lines: `first` and `second` by turns, each with the number of a record. */
+/* A script of that many lines: `first` and `second` by turns, each with the number of a record. */
 static void write_script(const char *first, const char *second, long lines)
 {
     FILE *file = fopen(script, "w");

@@ -61,7 +61,7 @@ each() {
     echo $(((with - $("$@") + $(wc -l <"$lines") / 2) / $(wc -l <"$lines")))
 }
 
-# A file with a line so many times.
+# A file with a line that many times.
 many_of() {
     yes "$1" | head -n 1000 >"$folder/lines"
     echo "$folder/lines"

@@ -1,7 +1,7 @@
 #!/usr/bin/env python3
 """The goals that cost the prover most, by the steps that it counted.
 
-Usage: tools/dear-goals.py [MILLIONS [CRATE..]], for goals of at least so many million steps: 1, and all crates of
+Usage: tools/dear-goals.py [MILLIONS [CRATE..]], for goals of at least that many million steps: 1, and all crates of
 crates.txt, where none is given. The steps are the same in each check; a million took about 0.4 seconds of one processor.
 
 It reads what `rt check` keeps in crates/NAME/out, so check first. A line has the steps in millions, the crate, the module

@@ -1,7 +1,7 @@
 #!/usr/bin/env python3
 """Proves the crates that the program stands on, side by side, and builds the program, crates/pma_cli/out/pma_cli.
 
-Usage: tools/prove.py [JOBS], at most so many processors being used; without it all of them, or fewer where there aren't 3 GB of
+Usage: tools/prove.py [JOBS], at most that many processors being used; without it all of them, or fewer where there aren't 3 GB of
 memory for each. A line a crate says how far it is; all else goes into out/make/CRATE.log, which is named where a proof fails. What
 is proved stays, so a run that was interrupted goes on where it was.
 

@@ -99,7 +99,7 @@ static int digit(char c)
     return isdigit((unsigned char)c) ? c - '0' : (c | 0x20) - 'a' + 10;
 }
 
-/* Reads a word with its escapes, at most so many bytes; where it ends, or NULL where it is none. */
+/* Reads a word with its escapes, at most that many bytes; where it ends, or NULL where it is none. */
 static const char *read_word(const char *at, unsigned char *bytes, size_t most, size_t *size)
 {
     for (*size = 0; *at && *at != ' '; at++) {

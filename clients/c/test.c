@@ -323,7 +323,7 @@ static void children_that_others_wait_for(void)
     DUE(waitpid(child, &status, 0) == child && WEXITSTATUS(status) == 7);
 }
 
-/* Kills the program in so many microseconds; the process that does so. */
+/* Kills the program in that many microseconds; the process that does so. */
 static pid_t killer(long run, long microseconds)
 {
     fflush(stdout);

@@ -19,7 +19,7 @@ class KillTest(StoreCase):
         self.kill_again_and_again("sent ahead", sent_ahead, 0.02)
 
     def kill_again_and_again(self, how, work, seconds):
-        """Each kill comes at a random moment of so many seconds."""
+        """Each kill comes at a random moment of that many seconds."""
         r, held, told = random.Random(SEED), {}, []
         for _ in range(KILLS):
             store = self.open("c", height=8)
@@ -61,7 +61,7 @@ def one_by_one(store, r, held):
 
 
 def sent_ahead(store, r, held):
-    """The same of so many changes that are sent at once, each of a key of its own."""
+    """The same of that many changes that are sent at once, each of a key of its own."""
     changes = {b"%d" % n: value for n, value in enumerate(some_changes(r, REQUESTS, REQUESTS).values())}
     pipeline = store.pipeline()
     answers = [pipeline.remove(key) if value is None else pipeline.put(key, value) for key, value in changes.items()]
@@ -82,7 +82,7 @@ def sent_ahead(store, r, held):
 
 
 def some_changes(r, count, keys=400):
-    """So many keys with new values, None for a removal."""
+    """That many keys with new values, None for a removal."""
     return {b"%d" % n: r.choice([None, b"", b"%d" % r.randrange(10**6)]) for n in r.sample(range(keys), count)}
 
 

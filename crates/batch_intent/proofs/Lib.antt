@@ -1,7 +1,7 @@
 pub mod Buffers
 pub mod ItemsRead
 pub mod Kept
-pub mod Judged
+pub mod Validated
 pub mod Gates
 pub mod Meanings
 pub mod Accepted

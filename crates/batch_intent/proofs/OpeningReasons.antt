@@ -11,7 +11,7 @@ use Rattle.map_model.specs.Reasons.{reason_of}
 use Rattle.map_model.proofs.Reasonings.{represents_of_none, none_of_represents}
 use Rattle.map_model.proofs.Recovering.{determined}
 use Rattle.batch_intent.specs.Spelling.{items_in}
-use Rattle.batch_intent.specs.Judging.{wrong_place}
+use Rattle.batch_intent.specs.Validating.{wrong_place}
 use Rattle.batch_intent.specs.Gate.{intent_area, reason_at, form_reason}
 use Rattle.batch_intent.specs.Means.{has_pending, pending, Means, meant_map, full_reason, fullness_reason, opening_reason}
 use Rattle.batch_intent.proofs.Gates.{length-intent_area}

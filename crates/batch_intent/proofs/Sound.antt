@@ -13,7 +13,7 @@ use Rattle.map_model.specs.Items.{has_item, are_distinct}
 use Rattle.batch_intent.specs.declared.intent.TheConstants.{MOST_ITEMS}
 use Rattle.batch_intent.specs.Spelling.{item_bytes, intent_bytes, fits_item, Spells, key_field, value_field, item_at, after_item, items_in, items_from, place_from}
 use Rattle.key_slot.specs.Format.{key_room, value_room}
-use Rattle.batch_intent.specs.Judging.{is_kind, is_item, is_wrong_item, first_wrong, wrong_place}
+use Rattle.batch_intent.specs.Validating.{is_kind, is_item, is_wrong_item, first_wrong, wrong_place}
 use Rattle.batch_intent.proofs.Buffers.{fields_written}
 use Rattle.batch_intent.proofs.ItemsRead.{place_next, items_next, length-items_from, key_of-item_at}
 use Rattle.batch_intent.proofs.Kept.{distinct_more, all_more}
@@ -97,7 +97,7 @@ module _ (format : ℕ) (bytes : List ℕ) (p : ℕ) (long : length bytes ≡ IN
       let parts = both (byte bytes p == 2) (byte bytes (p + 2) == 0) other in
       unbind_spelled (eqb-true (byte bytes p) 2 parts.0) (eqb-true (byte bytes (p + 2)) 0 parts.1)
 
--- an item that was judged is spelled there
+-- an item that was validated is spelled there
 pub item_spelled : (format : ℕ) (bytes : List ℕ) (p : ℕ) → length bytes ≡ INTENT_SIZE → is_item format bytes p ≡ true → IsSpelled format bytes p (item_at bytes p) × (after_item bytes p ≤ INTENT_SIZE)
 item_spelled format bytes p long is =
     let a = both (is_kind (byte bytes p) (byte bytes (p + 2))) (nat_le 1 (byte bytes (p + 1)) && (nat_le (byte bytes (p + 1)) (key_room format) && (nat_le (byte bytes (p + 2)) (value_room format) && nat_le (after_item bytes p) INTENT_SIZE))) is in

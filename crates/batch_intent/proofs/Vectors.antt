@@ -14,7 +14,7 @@ use Rattle.map_model.specs.Items.{first_full, is_full}
 use Rattle.map_model.proofs.Resuming.{removal_fits}
 use Rattle.batch_intent.specs.declared.intent.IntentFault.TheVariants.{TooMany, Repeated}
 use Rattle.batch_intent.specs.Spelling.{intent_bytes, items_in, fits_item}
-use Rattle.batch_intent.specs.Judging.{first_wrong, wrong_place}
+use Rattle.batch_intent.specs.Validating.{first_wrong, wrong_place}
 use Rattle.batch_intent.specs.Pushing.{push_fault}
 use Rattle.batch_intent.specs.Gate.{has_intent, reason_at}
 use Rattle.batch_intent.specs.Means.{full_reason}

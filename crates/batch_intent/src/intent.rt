@@ -13,7 +13,7 @@ use crate::places::INTENT_SIZE;
 use crate::spelling::{find_item, item_key, item_len, read_item, write_item};
 use std::marker::Model;
 
-/// The most items that a batch may have.
+/// The most items that a batch may have. The 512 bytes of an intent leave 31 for each: two short words and what is said of them.
 pub const MOST_ITEMS: u32 = 16;
 
 /// The items of a batch, no two of them with one key. They are kept as the file has them.

@@ -8,12 +8,12 @@
 mod gate;
 mod intent;
 mod item;
-mod judging;
 mod laws;
 mod places;
 mod reading;
 mod sizes;
 mod spelling;
+mod validating;
 
 pub use gate::{close_intent, write_intent};
 pub use intent::{Intent, IntentFault, MOST_ITEMS};

@@ -13,8 +13,8 @@ ghost use Rattle.batch_intent.specs.Spelling.{items_in, fits_item};
 ghost use Rattle.batch_intent.specs.Gate.{has_intent, intent_area, form_reason};
 
 use crate::intent::Intent;
-use crate::judging::judge_intent;
 use crate::places::{INTENT, INTENT_SIZE};
+use crate::validating::validate_intent;
 use header_gate::{Gate, HeaderFault, INTENT_VERSION, Layout, Reason};
 use station::Station;
 
@@ -22,7 +22,7 @@ use station::Station;
 /// the slot format.
 ///
 /// `NotStore` names the place of the number of items, or of the first item, that is wrong; no byte is changed. Whether an
-/// item meets a full store isn't judged. Nothing is read where the version has no intents, and where the gate is even its byte
+/// item meets a full store isn't validated. Nothing is read where the version has no intents, and where the gate is even its byte
 /// alone.
 pub fn read_intent<S: Station>(
     station: &mut S,
@@ -73,7 +73,7 @@ pub fn read_intent<S: Station>(
     let Ok(()) = station.read_at(INTENT, &mut bytes) else {
         return Err(HeaderFault::Failed);
     };
-    match judge_intent(&bytes, layout.format) {
+    match validate_intent(&bytes, layout.format) {
         Ok(intent) => Ok(Some(intent)),
         Err(place) => Err(HeaderFault::NotStore(Reason::Intent {
             place: INTENT as u32 + place,

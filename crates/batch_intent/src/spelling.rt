@@ -21,7 +21,7 @@ pub(crate) const PUT: u8 = 1;
 // The first byte of a remove.
 pub(crate) const REMOVE: u8 = 2;
 
-// The bytes of an item before its key.
+// The bytes of an item before its key: what it is, and the lengths of key and value.
 pub(crate) const HEAD: usize = 3;
 
 // The key of an item.

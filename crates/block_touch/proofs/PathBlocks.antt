@@ -21,7 +21,7 @@ blocks_touched-cut h i block align high =
     let split : blocks_touched (path_to h i) block align ≡ blocks_touched (top ++ map (λ x. start + x) bottom) block align = ap (λ (xs : List ℕ). blocks_touched xs block align) (path_to-split h i high) in
     omega (arith, split, blocks_touched-append top (map (λ x. start + x) bottom) block align, blocks_touched-moved start bottom block align)
 
--- where a tree of so many levels fits a block
+-- where a tree of that many levels fits a block
 module _ (levels block : ℕ) (some : 1 ≤ levels) (fits : 2 ^ levels ≤ block + 1) where
   -- the path in such a tree
   low_path : (h i align : ℕ) → h ≤ levels → i < 2 ^ h → blocks_touched (path_to h i) block align ≤ 2

@@ -24,7 +24,7 @@ pub struct Probe {
     pub nodes: u32,
     /// How many blocks these touch.
     pub blocks: u32,
-    /// The bound on these for a path of so many nodes.
+    /// The bound on these for a path of that many nodes.
     pub bound: u32,
 }
 

@@ -1,4 +1,4 @@
-pub mod AsideReads
+pub mod SpareReads
 pub mod BalanceLaws
 pub mod Calls
 pub mod CauseLaws

@@ -23,7 +23,7 @@ use Rattle.redo_journal.specs.declared.place.Place.{Place}
 use Rattle.window_tally.specs.View.{TallyView}
 use Rattle.segment_frames.specs.Standing.{IsSettledAt, StandsFor}
 use Rattle.map_model.specs.Regions.{Spares, IsSparePlace, HoldsArray}
-use Rattle.resize_region.specs.Aside.{HasWritten}
+use Rattle.resize_region.specs.Spare.{HasWritten}
 use Rattle.map_model.proofs.OtherRegion.{still_represents, layout_same, flipped_represents, flipped_array, flipped_bare, layout_new, tall}
 use Rattle.resize_region.proofs.SettledLaws.{settled_kept, bare_kept, gate_kept}
 use Rattle.line_source.specs.SourceView.{SourceView}

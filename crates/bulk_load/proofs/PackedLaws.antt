@@ -26,7 +26,7 @@ use Rattle.segment_frames.proofs.Moves.{set_from, set_to, set_other}
 use Rattle.spread_plan.specs.declared.Move.{Move}
 use Rattle.spread_plan.specs.Moves.{after_move}
 use Rattle.spread_plan.proofs.Making.{after_move-right}
-use Rattle.resize_region.specs.Aside.{aside_bytes}
+use Rattle.resize_region.specs.Spare.{spare_bytes}
 use Rattle.resize_region.specs.Shares.{places, HasShares, share_in}
 use Rattle.resize_region.proofs.ShareFrames.{long_shares, all_with, pages_with, share_holds, has_shares, share_is, share_rows, holds_read}
 use Rattle.resize_region.proofs.OldRowLaws.{rose_on, failed_as, failed_is}
@@ -85,7 +85,7 @@ module _ (format n : ℕ) (old new : Batch) (s : Packed) (count : ℕ) (is : IsP
   pub read_some : 1 ≤ count
   read_some = let unread : 1 ≤ s.unread = omega (arith, some, none) in omega (arith, count_is, is.some, unread)
 
-  -- segment i has so many of n records, and all are among the rest
+  -- segment i has that many of n records, and all are among the rest
   pub count_same : (i : ℕ) → i < s.unread → packed_count n i ≡ packed_count s.rest i
   count_same i lt = by is.whole
     where
@@ -97,7 +97,7 @@ module _ (format n : ℕ) (old new : Batch) (s : Packed) (count : ℕ) (is : IsP
   read_there i lt = omega (arith, is.few, lt, is.within, some)
 
   pub read_packed : HasShares format new → places format new ≡ places format old → ((i : ℕ) → i < count → length (share_in format i new) ≡ packed_count n (s.unread - count + i)) → ((i : ℕ) → count ≤ i → i < places format old → share_in format i new ≡ share_in format i old) → IsPacked format n new after
-  read_packed shares same judged others = record {
+  read_packed shares same validated others = record {
     shares = shares;
     some = is.some;
     room = omega (arith, is.room, same);
@@ -106,7 +106,7 @@ module _ (format n : ℕ) (old new : Batch) (s : Packed) (count : ℕ) (is : IsP
     few = omega (arith, is.few);
     all = omega (arith, count_is, none, is.some);
     counts = λ i lt. elim (cases_lt i count) [
-      | inl low ↦ judged i low ∙ count_same (s.unread - count + i) (omega (arith, low, count_is))
+      | inl low ↦ validated i low ∙ count_same (s.unread - count + i) (omega (arith, low, count_is))
       | inr high ↦
           ap length (others i high (omega (arith, lt, is.room))) ∙ is.counts i lt ∙ omega (arith, none, high, count_is)
     ];
@@ -117,7 +117,7 @@ module _ (format n : ℕ) (old new : Batch) (s : Packed) (count : ℕ) (is : IsP
       whole (inr le) = inr (omega (arith, le))
 
   -- and hold the records
-  module _ (place : Place) (rows : List Record) (file : List ℕ) (format_is : place.layout.format ≡ format) (are : ArePacked place n rows s old file) (pages : (i : ℕ) → i < count → page_at format new.slots i ≡ aside_bytes place (s.unread - count + i) file) where
+  module _ (place : Place) (rows : List Record) (file : List ℕ) (format_is : place.layout.format ≡ format) (are : ArePacked place n rows s old file) (pages : (i : ℕ) → i < count → page_at format new.slots i ≡ spare_bytes place (s.unread - count + i) file) where
     whole_rows : (s.rest ≡ length rows) ⊎ (SEGMENT_SLOTS * s.unread ≤ s.rest)
     whole_rows = by is.whole
       where
@@ -128,7 +128,7 @@ module _ (format n : ℕ) (old new : Batch) (s : Packed) (count : ℕ) (is : IsP
     segment : (i : ℕ) → i < count → IsSegment format (packed_at rows (s.unread - count + i)) (page_at format new.slots i)
     segment i lt =
         let here = are.unread (s.unread - count + i) (omega (arith, lt, count_is)) in
-        subst (IsSegment format (packed_at rows (s.unread - count + i))) (sym (pages i lt)) (subst (λ (f : ℕ). IsSegment f (packed_at rows (s.unread - count + i)) (aside_bytes place (s.unread - count + i) file)) format_is here)
+        subst (IsSegment format (packed_at rows (s.unread - count + i))) (sym (pages i lt)) (subst (λ (f : ℕ). IsSegment f (packed_at rows (s.unread - count + i)) (spare_bytes place (s.unread - count + i) file)) format_is here)
 
     decoded : (i : ℕ) → i < count → rows_at format new.slots i ≡ packed_at rows (s.unread - count + i)
     decoded i lt = segment_rows format (packed_at rows (s.unread - count + i)) (page_at format new.slots i) (segment i lt)

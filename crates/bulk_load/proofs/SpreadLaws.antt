@@ -14,7 +14,7 @@ use Rattle.map_model.proofs.Spreading.{segment_spread_over, rows-spread_over}
 use Rattle.redo_journal.specs.Frames.{Batch}
 use Rattle.redo_journal.specs.declared.place.Place.{Place}
 use Rattle.spread_plan.proofs.Spreads.{share-le}
-use Rattle.resize_region.specs.Aside.{aside_bytes}
+use Rattle.resize_region.specs.Spare.{spare_bytes}
 use Rattle.resize_region.specs.Shares.{places, HasShares, share_in}
 use Rattle.resize_region.proofs.ShareParts.{length-share}
 use Rattle.bulk_load.specs.Packing.{AreRows, HasPacked, packed_at}
@@ -67,7 +67,7 @@ packed_beside format n b d s is shares same others = record {
   counts = λ i lt. ap length (others i lt) ∙ is.counts i lt;
 }
 
-pub are_beside : (place : Place) (n : ℕ) (rs : List Record) (s : Packed) (b d : Batch) (old new : List ℕ) → ArePacked place n rs s b old → ((i : ℕ) → i < s.room → share_in place.layout.format i d ≡ share_in place.layout.format i b) → ((i : ℕ) → i < s.unread → aside_bytes place i new ≡ aside_bytes place i old) → ArePacked place n rs s d new
+pub are_beside : (place : Place) (n : ℕ) (rs : List Record) (s : Packed) (b d : Batch) (old new : List ℕ) → ArePacked place n rs s b old → ((i : ℕ) → i < s.room → share_in place.layout.format i d ≡ share_in place.layout.format i b) → ((i : ℕ) → i < s.unread → spare_bytes place i new ≡ spare_bytes place i old) → ArePacked place n rs s d new
 are_beside place n rs s b d old new are others same = record {
   are_rows = are.are_rows;
   count = are.count;

@@ -9,7 +9,7 @@ use Rattle.map_model.specs.Reasons.{begins_above}
 use Rattle.header_gate.specs.declared.layout.Layout.{Layout}
 use Rattle.redo_journal.specs.declared.place.Place.{Place}
 use Rattle.redo_journal.specs.Frames.{Batch}
-use Rattle.resize_region.specs.Aside.{aside_bytes}
+use Rattle.resize_region.specs.Spare.{spare_bytes}
 use Rattle.resize_region.specs.Shares.{places, HasShares, share_in}
 use Rattle.bulk_load.specs.declared.packing.Taken.{Taken}
 use Rattle.bulk_load.specs.Packing.{room_in, AreRows, IsTaken, HasPlace, HasPacked, packed_at}
@@ -62,7 +62,7 @@ module _ (l : Layout) (t : Taken) (b c : Batch) (rows : List Record) (r : Record
 
 -- places are written behind the segments that are
 pub flush_packed : (place : Place) (rows : List Record) (w count : ℕ) (b : Batch) (old new : List ℕ) → AreRows place.layout.format rows → ((i : ℕ) → i < count → share_in place.layout.format i b ≡ packed_at rows (w + i))
-    → ((i : ℕ) → i < count → FitsSegment place.layout.format (share_in place.layout.format i b) → IsSegment place.layout.format (share_in place.layout.format i b) (aside_bytes place (w + i) new)) → ((i : ℕ) → i < w → aside_bytes place i new ≡ aside_bytes place i old) → HasPacked place rows w old → HasPacked place rows (w + count) new
+    → ((i : ℕ) → i < count → FitsSegment place.layout.format (share_in place.layout.format i b) → IsSegment place.layout.format (share_in place.layout.format i b) (spare_bytes place (w + i) new)) → ((i : ℕ) → i < w → spare_bytes place i new ≡ spare_bytes place i old) → HasPacked place rows w old → HasPacked place rows (w + count) new
 flush_packed place rows w count b old new are held written others packed i lt = elim (cases_lt i w) [
   | inl low ↦ subst (IsSegment place.layout.format (packed_at rows i)) (sym (others i low)) (packed i low)
   | inr high ↦
@@ -70,8 +70,8 @@ flush_packed place rows w count b old new are held written others packed i lt = 
       let at : w + k ≡ i = omega (arith, high) in
       let k_low : k < count = omega (arith, at, lt) in
       let same = held k k_low in
-      subst (λ (j : ℕ). IsSegment place.layout.format (packed_at rows j) (aside_bytes place j new)) at
-      (subst (λ (x : List Record). IsSegment place.layout.format x (aside_bytes place (w + k) new)) same (written k k_low (subst (FitsSegment place.layout.format) (sym same) (packed_fits place.layout.format rows (w + k) are))))
+      subst (λ (j : ℕ). IsSegment place.layout.format (packed_at rows j) (spare_bytes place j new)) at
+      (subst (λ (x : List Record). IsSegment place.layout.format x (spare_bytes place (w + k) new)) same (written k k_low (subst (FitsSegment place.layout.format) (sym same) (packed_fits place.layout.format rows (w + k) are))))
 ]
 
 -- and all places are empty then
@@ -107,4 +107,4 @@ none_taken l t b records written last shares empty = record {
 
 -- what is written stays packed when a record more is taken
 pub put_packed : (place : Place) (rows : List Record) (r : Record) (w : ℕ) (file : List ℕ) → SEGMENT_SLOTS * w ≤ length rows → HasPacked place rows w file → HasPacked place (rows ++ r ∷ []) w file
-put_packed place rows r w file behind packed i lt = subst (λ (x : List Record). IsSegment place.layout.format x (aside_bytes place i file)) (sym (packed_before rows r i (omega (arith, behind, lt)))) (packed i lt)
+put_packed place rows r w file behind packed i lt = subst (λ (x : List Record). IsSegment place.layout.format x (spare_bytes place i file)) (sym (packed_before rows r i (omega (arith, behind, lt)))) (packed i lt)

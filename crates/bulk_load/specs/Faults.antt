@@ -54,7 +54,7 @@ IsReadingFault format most r0 s0 s Spent = SourceTold s0 → IsSpentIn format mo
 IsReadingFault format most r0 s0 s (NotEmpty n) = ⊥
 IsReadingFault format most r0 s0 s (Damaged segment why) = ⊥
 
--- Why a text isn't loaded into a store of so many records. `NotEmpty` comes exactly where there are some, and nothing was
+-- Why a text isn't loaded into a store of that many records. `NotEmpty` comes exactly where there are some, and nothing was
 -- taken from the source then.
 abbrev pub IsLoadFault : ℕ → ℕ → ℕ → ReaderView → SourceView → SourceView → LoadFault → Type 0
 IsLoadFault format most records r0 s0 s (NotEmpty n) = (n ≡ records) × (0 < records) × (s ≡ s0)

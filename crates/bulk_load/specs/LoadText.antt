@@ -54,20 +54,20 @@ pub record IsUnfinished (format : ℕ) (lines : List (List ℕ)) : Type 0 where
   pub begins : BeginsText format lines
   pub no_text : (rows : List Record) → IsLoadText format lines rows → ⊥
 
--- Line n is refused by a store that may hold so many records: it is the first that no load text can have there, or one more
+-- Line n is refused by a store that may hold that many records: it is the first that no load text can have there, or one more
 -- than there are, where the lines end before the one with the number of records; and the lines before it have no more records
 -- than that.
 pub record IsRefusedAt (format most : ℕ) (lines : List (List ℕ)) (n : ℕ) : Type 0 where
   pub why : IsFirstWrong format lines n ⊎ (IsUnfinished format lines × (n ≡ length lines + 1))
   pub few : length (records_in format (take (n - 1) lines)) ≤ most
 
--- these lines make no refusal due in a store that may hold so many records: some load text begins with them, and they have no
+-- these lines make no refusal due in a store that may hold that many records: some load text begins with them, and they have no
 -- more
 pub record MayGoOn (format most : ℕ) (lines : List (List ℕ)) : Type 0 where
   pub begins : BeginsText format lines
   pub few : length (records_in format lines) ≤ most
 
--- the first n lines have one record more than so many, and some load text begins with them
+-- the first n lines have one record more than that many, and some load text begins with them
 pub record IsOneTooMany (format most : ℕ) (lines : List (List ℕ)) : Type 0 where
   pub n : ℕ
   pub there : n ≤ length lines

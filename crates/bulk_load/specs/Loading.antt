@@ -44,7 +44,7 @@ abbrev pub load_from : ℕ → ℕ → ℕ → Loading → List (List ℕ) → L
 load_from format most k s [] = s
 load_from format most k s (raw ∷ lines) = load_from format most (k + 1) (load_step format most k s raw) lines
 
--- what comes of these lines in a store that may hold so many records
+-- what comes of these lines in a store that may hold that many records
 abbrev pub loading : ℕ → ℕ → List (List ℕ) → Loading
 loading format most lines = load_from format most 1 (reads [] false) lines
 
@@ -62,7 +62,7 @@ pub record IsUnread (r : ReaderView) : Type 0 where
   pub begun : r.held ≡ []
   pub going : r.ended ≡ false
 
--- what was taken is a front of what was left, of at most so many bytes
+-- what was taken is a front of what was left, of at most that many bytes
 pub record TakesAtMost (most : ℕ) (a b : SourceView) : Type 0 where
   pub front : List ℕ
   pub is : a.left ≡ front ++ b.left

@@ -15,7 +15,7 @@ use Rattle.map_model.specs.Holding.{IsBalancedArray}
 use Rattle.map_model.specs.Image.{Represents, array_of}
 use Rattle.map_model.specs.Store.{Map}
 use Rattle.redo_journal.specs.declared.place.Place.{Place}
-use Rattle.resize_region.specs.Aside.{HasWritten}
+use Rattle.resize_region.specs.Spare.{HasWritten}
 use Rattle.map_model.specs.Regions.{IsSparePlace}
 use Rattle.segment_frames.specs.Standing.{IsSettledAt}
 use Rattle.bulk_load.specs.Loading.{IsTextOf}

@@ -15,7 +15,7 @@ use Rattle.redo_journal.specs.Frames.{Batch}
 use Rattle.map_model.specs.Regions.{Spares}
 use Rattle.segment.specs.declared.fault.StoreFault.{StoreFault}
 use Rattle.segment.specs.declared.fault.StoreFault.TheVariants.{Failed}
-use Rattle.resize_region.specs.Aside.{aside_bytes}
+use Rattle.resize_region.specs.Spare.{spare_bytes}
 use Rattle.resize_region.specs.Shares.{places, HasShares, share_in}
 use Rattle.bulk_load.specs.declared.packing.Taken.{Taken}
 use Rattle.bulk_load.specs.declared.room.TheConstants.{MOST_FRAMES}
@@ -57,7 +57,7 @@ pub record HasPlace (l : Layout) (t : Taken) : Type 0 where
 
 -- the first segments of the other region are the first of these
 abbrev pub HasPacked : Place → List Record → ℕ → List ℕ → Type 0
-HasPacked place rows written file = (i : ℕ) → i < written → IsSegment place.layout.format (packed_at rows i) (aside_bytes place i file)
+HasPacked place rows written file = (i : ℕ) → i < written → IsSegment place.layout.format (packed_at rows i) (spare_bytes place i file)
 
 -- Some segments of the records in the frames were written, whatever was answered.
 pub record WritesPacked {X : Type 0} (place : Place) (result : Result X StoreFault) (old new : Taken) (f g : Batch) (a b : View) : Type 0 where
@@ -79,6 +79,6 @@ goes_on_by t r = not t.ended && begins_above t.last (r ∷ [])
 abbrev pub TriesRun : Layout → Taken → ℕ → ℕ → Type 0
 TriesRun l t before after = (after ≤ before) ⊎ ((after ≤ before + 1) × (SEGMENT_SLOTS * (t.written + room_in l) ≤ t.records + 1))
 
--- Between two counts of calls, segments from one number to another were written, by one call for each whole run of so many.
+-- Between two counts of calls, segments from one number to another were written, by one call for each whole run of that many.
 abbrev pub WritesRuns : ℕ → ℕ → ℕ → ℕ → ℕ → Type 0
 WritesRuns room from to before after = (made : ℕ) × (room * made ≤ to - from) × (after ≤ before + made)

@@ -64,7 +64,7 @@ pub record TakesLine (place : Place) (k : ℕ) (rows : List Record) (line : Load
   pub taken : IsTaken place.layout new b now
   pub packed : station.Told a → HasPacked place rows old.written a.held → HasPacked place now new.written z.held
 
--- What the taking of line k comes to, whatever was answered.
+-- The outcome of the taking of line k, whatever was answered.
 pub record TakesOn {X : Type 0} (place : Place) (k : ℕ) (line : LoadLine) (result : Result X LoadFault) (old new : Taken) (f g : Batch) (a b : station.View) : Type 0 where
   pub takes : OnOk result ((rows : List Record) → IsTaken place.layout old f rows → TakesLine place k rows line old a new g b)
   pub taking : OnOk result (IsTaking place.layout new g)

@@ -86,6 +86,6 @@ pub record ReadsPacked {T : Type 0} (place : Place) (n : ℕ) (result : Result T
 abbrev pub TriesParts : ℕ → ℕ → ℕ → ℕ → ℕ → Type 0
 TriesParts room count from before after = (to : ℕ) × GoesInParts room count from to before after
 
--- the calls that write so many records packed, and spread them over so many segments, and those of a flip
+-- the calls that write that many records packed, and spread them over that many segments, and those of a flip
 abbrev pub load_calls : Layout → ℕ → ℕ → ℕ
 load_calls l records segments = parts (room_in l) (used_by records) + copy_calls (room_in l) (used_by records) segments + 4

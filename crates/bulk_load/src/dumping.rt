@@ -8,14 +8,14 @@ ghost use Rattle.map_model.specs.Standing.{StandsBalanced};
 ghost use Rattle.range_scan.specs.SweepView.{IsSweep};
 ghost use Rattle.range_scan.specs.Sweeping.{IsSweeping, BeginsThere, scan_of};
 
-use range_scan::{HeldPage, Sweep};
+use range_scan::{SegmentBuffer, Sweep};
 use redo_journal::Place;
 use window_tally::Tally;
 
 /// A sweep over all records of the store that has this place and this tally; the segments are read into the page.
 ///
 /// Where it is at its end, the lines of the records that it gave, and a line with their number, are a load text.
-pub fn sweep_all<'a>(place: &Place, tally: &'a Tally, page: &'a mut HeldPage) -> Sweep<'a>
+pub fn sweep_all<'a>(place: &Place, tally: &'a Tally, page: &'a mut SegmentBuffer) -> Sweep<'a>
     requires layout { IsLayout place.now.layout }
     requires region { place.now.region < 2 }
     requires height { tally.now.height ≤ height_limit place.now.layout }

@@ -18,7 +18,6 @@ pub use laws::{
 };
 pub use loading::load_rows;
 
-mod aside;
 mod dumping;
 mod fault;
 mod laws;
@@ -27,4 +26,5 @@ mod packed;
 mod packing;
 mod reading;
 mod room;
+mod spare;
 mod spreading;

@@ -20,7 +20,7 @@ ghost use Rattle.bulk_load.specs.Spreading.{load_calls};
 use crate::fault::{LoadFault, Loaded, of_file};
 use crate::packing::flush_rest;
 use crate::reading::read_text;
-use crate::spreading::spread_aside;
+use crate::spreading::spread_spare;
 use density_rule::{Window, upper};
 use line_source::{LineReader, Source};
 use redo_journal::{Frames, Place};
@@ -161,7 +161,7 @@ fn write_text<I: Source, S: Station>(
     let height = least_height(records, place.layout.height_limit());
     let segments = segments_at(height);
     match flush_rest(station, place, frames, &mut taken) {
-        Ok(()) => match spread_aside(station, place, frames, records, segments) {
+        Ok(()) => match spread_spare(station, place, frames, records, segments) {
             Ok(()) => Ok(Loaded { records, height }),
             Err(fault) => Err(of_file(fault)),
         },
@@ -169,7 +169,7 @@ fn write_text<I: Source, S: Station>(
     }
 }
 
-// The least height of a store that holds so many records.
+// The least height of a store that holds that many records.
 fn least_height(records: u32, limit: u32) -> u32
     requires limit { limit ≤ 16 }
     requires room { records ≤ upper_of limit }

@@ -13,11 +13,11 @@ ghost use Rattle.bulk_load.specs.Packing.{CanFill};
 ghost use Rattle.bulk_load.specs.Spreading.{used_by, packed_count, IsPacked, HoldsPacked, ReadsPacked, TriesParts};
 ghost use Rattle.segment_frames.specs.Parts.{GoesInParts};
 
-use crate::aside::read_aside;
+use crate::spare::read_spare;
 use density_rule::SEGMENT_RECORDS;
 use redo_journal::{Frames, Place};
 use segment::StoreFault;
-use segment_frames::{judge_frame, make_move};
+use segment_frames::{make_move, validate_frame};
 use spread_plan::Move;
 use station::Station;
 
@@ -63,14 +63,14 @@ pub(crate) fn read_packed<S: Station>(
 {
     let count = packed.room.min(packed.unread);
     let first = packed.unread - count;
-    read_aside(station, place, frames, first, count)?;
-    judge_packed(frames, place.layout.format, first, count, records)?;
+    read_spare(station, place, frames, first, count)?;
+    validate_packed(frames, place.layout.format, first, count, records)?;
     packed.unread = first;
     Ok(())
 }
 
 // Sees that the first places hold segments of as many records as those of packed records from `first` on.
-fn judge_packed(
+fn validate_packed(
     frames: &Frames,
     format: u32,
     first: u32,
@@ -87,7 +87,7 @@ fn judge_packed(
         IsPageFault format (page_at format frames.now.slots i) (first + i) (packed_count records (first + i)) fault) }
 {
     for i in 0..count {
-        judge_frame(
+        validate_frame(
             frames,
             format,
             i,
@@ -108,7 +108,7 @@ fn packed_count(records: u32, segment: u32) -> u32
         .min(SEGMENT_RECORDS)
 }
 
-/// Moves the last packed records, at most so many, out of the last segment that has some to the front of a share, and answers
+/// Moves the last packed records, at most that many, out of the last segment that has some to the front of a share, and answers
 /// how many.
 pub(crate) fn take_last(
     frames: &mut Frames,

@@ -13,16 +13,16 @@ ghost use Rattle.density_rule.specs.declared.TheConstants.{SEGMENT_RECORDS};
 ghost use Rattle.key_slot.specs.Record.{Record};
 ghost use Rattle.map_model.specs.Array.{segment_at, spread_over};
 ghost use Rattle.map_model.specs.Regions.{Spares};
-ghost use Rattle.resize_region.specs.Aside.{HasWritten};
+ghost use Rattle.resize_region.specs.Spare.{HasWritten};
 ghost use Rattle.resize_region.specs.Shares.{places, HasShares, share_in};
 ghost use Rattle.bulk_load.specs.Packing.{CanFill, AreRows, HasPacked, room_in};
 ghost use Rattle.bulk_load.specs.Spreading.{used_by, IsPacked, ArePacked, ReadsPacked, HasCause, TriesParts};
 ghost use Rattle.segment_frames.specs.Parts.{GoesInParts};
 ghost use Rattle.resize_region.specs.Source.{copy_calls};
 
-use crate::aside::write_aside;
 use crate::packed::{Packed, read_packed, take_last, used_by};
 use crate::room::room_of;
+use crate::spare::write_spare;
 use density_rule::SEGMENT_RECORDS;
 use redo_journal::{Frames, Place};
 use segment::StoreFault;
@@ -33,7 +33,7 @@ use station::Station;
 ///
 /// Half of the frames that are used are read into, and the others are filled and written, a run of segments by one call of the
 /// device. Each packed segment is read once, and each segment is written once.
-pub(crate) fn spread_aside<S: Station>(
+pub(crate) fn spread_spare<S: Station>(
     station: &mut S,
     place: &Place,
     frames: &mut Frames,
@@ -78,7 +78,7 @@ pub(crate) fn spread_aside<S: Station>(
             end - count,
             count,
         )?;
-        write_aside(station, place, frames, packed.room, end - count, count)?;
+        write_spare(station, place, frames, packed.room, end - count, count)?;
         clear_places(frames, place.layout.format, packed.room, room);
         end -= count;
     }

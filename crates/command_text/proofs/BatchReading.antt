@@ -111,7 +111,7 @@ module _ (ws : List (List ℕ)) (name : List ℕ) (behind_name : List (List ℕ)
       either true is = refl
       either false is = is refl
 
--- The form of a batch, judged item by item.
+-- The form of a batch, validated item by item.
 
 -- some items of the words were looked at, and these words are left
 pub record Counted (whole left : List (List ℕ)) (i size : ℕ) : Type 0 where

@@ -1,4 +1,4 @@
--- A field of zeros, of which so many bytes were lent and written up to a place.
+-- A field of zeros, of which that many bytes were lent and written up to a place.
 use Rattle.std.proofs.Common.{◌≡◌, ℕ, ◌+◌, ◌≤◌, List, ◌++◌, length, take, drop, replicate, set, sym, ap, ◌∙◌, arith, length-append, length-drop}
 use Rattle.std.proofs.lemmas.List.{length-replicate, drop-drop, drop-set-lt, drop-replicate, drop-append-le, take-append-le, take-append-drop, length-take-le}
 use Rattle.key_slot.specs.Padded.{IsPadded}

@@ -42,7 +42,7 @@ batch_body stored replaced removed absent =
 abbrev pub full_body : ℕ → List ℕ
 full_body most = codes "full " ++ decimal most
 
--- what one update comes to, in a store that holds so many records at most
+-- the outcome of one update, in a store that holds that many records at most
 abbrev pub effect_body : ℕ → Effect → List ℕ
 effect_body most Replaces = codes "replaced"
 effect_body most Adds = codes "stored"

@@ -19,7 +19,7 @@ use segment::StoreFault;
 use station::Station;
 use std::marker::Model;
 
-/// The most cursors that are open at once.
+/// The most cursors that are open at once: few enough that one is found by looking through all.
 const PLACES: usize = 16;
 
 /// Cursors by their names, at most 16 of them.

@@ -1,4 +1,4 @@
--- A segment lies in its region by its pages, and images laid over the pages of segments are segments laid over it.
+-- A segment lies in its region by its pages, and images replayed over the pages of segments are segments replayed over it.
 use Rattle.std.proofs.Common.{◌≡◌, inl, inr, ℕ, zero, suc, ◌+◌, ◌-◌, ◌*◌, ◌/◌, ◌%◌, ◌^◌, ◌<◌, ◌≤◌, List, [], ◌∷◌, ◌++◌, length, get_or, refl, sym, ◌∙◌, ap, arith, length-append}
 use Rattle.std.proofs.lemmas.Bool.{cases_lt}
 use Rattle.std.proofs.lemmas.List.{get_or_append_left}
@@ -9,7 +9,7 @@ use Rattle.std.proofs.lemmas.Grind.{get_or_default_zero}
 use Rattle.station.specs.Bytes.{byte}
 use Rattle.header_gate.specs.declared.layout.Layout.{Layout}
 use Rattle.header_gate.specs.Places.{IsSlotFormat, IsFormat, page_size, segment_size, page_place, segment_place, height_limit, area_place, file_length}
-use Rattle.header_gate.specs.Recovered.{Ascends, IsBatch, laid_over}
+use Rattle.header_gate.specs.Recovered.{Ascends, IsBatch, replayed_over}
 use Rattle.header_gate.specs.Paged.{pages_of, pages_of_all, segment_image}
 use Rattle.header_gate.proofs.RecoveredPages.{page_before_area, laid_over_named, laid_over_unnamed}
 
@@ -141,7 +141,7 @@ pages_batch journal bound format numbers some few batch = record {
 
 -- a byte of a laid segment is its image's
 pub segment_named : (l : Layout) (live : ℕ) (numbers : List ℕ) (image : ℕ → ℕ → ℕ) (file : List ℕ) (k o : ℕ) → Ascends (pages_of_all l.format numbers) → k < length numbers → o < segment_size l
-    → segment_place l live (get_or numbers k 0) + o < length file → byte (laid_over l live (pages_of_all l.format numbers) image file) (segment_place l live (get_or numbers k 0) + o) ≡ segment_image l.format image k o
+    → segment_place l live (get_or numbers k 0) + o < length file → byte (replayed_over l live (pages_of_all l.format numbers) image file) (segment_place l live (get_or numbers k 0) + o) ≡ segment_image l.format image k o
 segment_named l live numbers image file k o ascends lt small within =
     let q = o / page_size in
     let r = o % page_size in
@@ -149,18 +149,18 @@ segment_named l live numbers image file k o ascends lt small within =
     let number = page_at l.format numbers k q lt few in
     let page = get_or (pages_of_all l.format numbers) (l.format * k + q) 0 in
     let place : page_place l live page + r ≡ segment_place l live (get_or numbers k 0) + o = omega (arith, number) in
-    ap (byte (laid_over l live (pages_of_all l.format numbers) image file)) (sym place)
+    ap (byte (replayed_over l live (pages_of_all l.format numbers) image file)) (sym place)
     ∙ laid_over_named l live (pages_of_all l.format numbers) image file (l.format * k + q) r ascends
     (omega (arith, length-pages_of_all l.format numbers, page_of_segment l.format (length numbers) k q lt few)) (omega arith) (omega (arith, place, within))
 
 -- a byte of another segment stays
 pub segment_unnamed : (l : Layout) (live : ℕ) (numbers : List ℕ) (image : ℕ → ℕ → ℕ) (file : List ℕ) (i o : ℕ) → ((k : ℕ) → k < length numbers → get_or numbers k 0 ≡ i → ⊥) → o < segment_size l
-    → segment_place l live i + o < length file → byte (laid_over l live (pages_of_all l.format numbers) image file) (segment_place l live i + o) ≡ byte file (segment_place l live i + o)
+    → segment_place l live i + o < length file → byte (replayed_over l live (pages_of_all l.format numbers) image file) (segment_place l live i + o) ≡ byte file (segment_place l live i + o)
 segment_unnamed l live numbers image file i o none small within =
     let q = o / page_size in
     let r = o % page_size in
     let few : q < l.format = omega (arith, small) in
     let place : page_place l live (l.format * i + q) + r ≡ segment_place l live i + o = omega arith in
-    ap (byte (laid_over l live (pages_of_all l.format numbers) image file)) (sym place)
+    ap (byte (replayed_over l live (pages_of_all l.format numbers) image file)) (sym place)
     ∙ laid_over_unnamed l live (pages_of_all l.format numbers) image file (l.format * i + q) r (no_page l.format numbers i q none few) (omega arith) (omega (arith, place, within))
     ∙ ap (byte file) place

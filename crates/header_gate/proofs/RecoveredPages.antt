@@ -1,4 +1,4 @@
--- What a recovered image keeps of its file, and what images laid over it change: the header page and the pages of a region.
+-- What a recovered image keeps of its file, and what images replayed over it change: the header page and the pages of a region.
 use Rattle.std.proofs.Common.{◌≡◌, ◌⊎◌, inl, inr, ℕ, zero, suc, ◌+◌, ◌-◌, ◌*◌, ◌^◌, ◌<◌, ◌≤◌, Bool, true, false, cond, List, [], ◌∷◌, length, get_or, refl, ◌∙◌, ap, arith}
 use Rattle.std.specs.Prelude.{◌==◌, ◌&&◌, ◌||◌, nat_le, nat_lt}
 use Rattle.std.proofs.lemmas.Bool.Decides.{nat_tests}
@@ -7,9 +7,9 @@ use Rattle.station.specs.Bytes.{byte}
 use Rattle.header_gate.specs.declared.layout.Layout.{Layout}
 use Rattle.header_gate.specs.Header.{live_copy}
 use Rattle.header_gate.specs.Places.{table_place, image_place, journal_end, region_place, page_place, area_place, file_length, page_size}
-use Rattle.header_gate.specs.Recovered.{is_in_page, laid_byte, is_journal, recovered, laid_over, live_shift, live_table, is_laid, Ascends}
+use Rattle.header_gate.specs.Recovered.{is_in_page, laid_byte, is_journal, recovered, replayed_over, live_shift, live_table, is_laid, Ascends}
 use Rattle.header_gate.specs.InPlace.{IsRecovered}
-use Rattle.header_gate.proofs.RecoveredBytes.{byte-recovered, byte-laid_over}
+use Rattle.header_gate.proofs.RecoveredBytes.{byte-recovered, byte-replayed_over}
 
 -- Places.
 
@@ -58,7 +58,7 @@ page_before_area l region i small below = omega (arith, fits_twice (2 ^ l.hmax) 
 pub page_within : (l : Layout) (region i : ℕ) → region < 2 → i < 2 ^ l.hmax → page_place l region i + page_size ≤ file_length l
 page_within l region i small below = omega (arith, page_before_area l region i small below)
 
--- Images laid over a byte.
+-- Images replayed over a byte.
 
 -- a place in none of the pages keeps its byte
 pub laid_beside : (region : ℕ) (image : ℕ → ℕ → ℕ) (under p k : ℕ) (ns : List ℕ) → ((j : ℕ) → j < length ns → is_in_page region (get_or ns j 0) p ≡ false) → laid_byte region image under p k ns ≡ under
@@ -100,11 +100,11 @@ recovered_page l file p lt low other =
     ∙ ap (λ (b : Bool). cond b 0 (cond (is_laid l file) laid (byte file p))) (not_journal l p other (inl low))
     ∙ either (is_laid l file) laid (byte file p) (laid_beside region (λ k o. byte file (image_place l k + live_shift l file + o)) (byte file p) p 0 (live_table l file) (before_all region p (live_table l file) before))
 
--- images laid over a region leave the header page
-pub laid_over_page : (l : Layout) (live : ℕ) (numbers : List ℕ) (image : ℕ → ℕ → ℕ) (file : List ℕ) (p : ℕ) → p < length file → p < page_size → byte (laid_over l live numbers image file) p ≡ byte file p
+-- images replayed over a region leave the header page
+pub laid_over_page : (l : Layout) (live : ℕ) (numbers : List ℕ) (image : ℕ → ℕ → ℕ) (file : List ℕ) (p : ℕ) → p < length file → p < page_size → byte (replayed_over l live numbers image file) p ≡ byte file p
 laid_over_page l live numbers image file p lt low =
     let before : p < region_place l live = omega (arith, low, page_before l live) in
-    byte-laid_over l live numbers image file p lt ∙ laid_beside (region_place l live) image (byte file p) p 0 numbers (before_all (region_place l live) p numbers before)
+    byte-replayed_over l live numbers image file p lt ∙ laid_beside (region_place l live) image (byte file p) p 0 numbers (before_all (region_place l live) p numbers before)
 
 -- The pages.
 
@@ -116,11 +116,11 @@ recovered_behind l file p is lt behind =
 
 -- a byte of a laid page is its image's
 pub laid_over_named : (l : Layout) (live : ℕ) (numbers : List ℕ) (image : ℕ → ℕ → ℕ) (file : List ℕ) (k o : ℕ) → Ascends numbers → k < length numbers → o < page_size
-    → page_place l live (get_or numbers k 0) + o < length file → byte (laid_over l live numbers image file) (page_place l live (get_or numbers k 0) + o) ≡ image k o
+    → page_place l live (get_or numbers k 0) + o < length file → byte (replayed_over l live numbers image file) (page_place l live (get_or numbers k 0) + o) ≡ image k o
 laid_over_named l live numbers image file k o ascends lt small within =
     let p = page_place l live (get_or numbers k 0) + o in
     let region = region_place l live in
-    byte-laid_over l live numbers image file p within
+    byte-replayed_over l live numbers image file p within
     ∙ laid_inside region image (byte file p) p 0 numbers k lt (inside region (get_or numbers k 0) p (omega arith) (omega (arith, small)))
     (λ i below. other_page region (get_or numbers i 0) (get_or numbers k 0) o p refl small (λ e. omega (arith, e, ascends i k below lt)))
     ∙ (λ t. image (first t) (offset t))
@@ -133,9 +133,9 @@ laid_over_named l live numbers image file k o ascends lt small within =
 
 -- a byte of another page stays
 pub laid_over_unnamed : (l : Layout) (live : ℕ) (numbers : List ℕ) (image : ℕ → ℕ → ℕ) (file : List ℕ) (i o : ℕ) → ((k : ℕ) → k < length numbers → get_or numbers k 0 ≡ i → ⊥) → o < page_size
-    → page_place l live i + o < length file → byte (laid_over l live numbers image file) (page_place l live i + o) ≡ byte file (page_place l live i + o)
+    → page_place l live i + o < length file → byte (replayed_over l live numbers image file) (page_place l live i + o) ≡ byte file (page_place l live i + o)
 laid_over_unnamed l live numbers image file i o none small within =
     let p = page_place l live i + o in
     let region = region_place l live in
-    byte-laid_over l live numbers image file p within
+    byte-replayed_over l live numbers image file p within
     ∙ laid_beside region image (byte file p) p 0 numbers (λ j lt. other_page region (get_or numbers j 0) i o p refl small (none j lt))

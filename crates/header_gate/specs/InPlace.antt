@@ -23,7 +23,7 @@ IsDone l file = is_laid l file ≡ true → IsInPlace l file
 abbrev pub IsRecovered : Layout → List ℕ → Type 0
 IsRecovered l file = (p : ℕ) → is_journal l p ≡ false → recovered_byte l file p ≡ byte file p
 
--- no page is to be laid over the live region, whatever is written there: the gate is even, or the live one of two journals
+-- no page is to be replayed over the live region, whatever is written there: the gate is even, or the live one of two journals
 -- is empty
 abbrev pub IsBare : Layout → List ℕ → Type 0
 IsBare l file = is_laid l file ≡ true → (l.version ≡ PAIRED) × (live_table l file ≡ [])

@@ -2,7 +2,7 @@
 
 ghost use Rattle.std.specs.Prelude.{◌≡◌, ◌+◌, ◌^◌, ◌<◌, ◌≤◌, ◌↔◌, IsTrue};
 
-/// The greatest height limit that a file may have.
+/// The greatest height limit that a file may have. An opening without an index reads all of the 65536 segments then.
 pub const GREATEST_HEIGHT: u32 = 16;
 
 /// The greatest slot format, which is how many pages a segment of it has.
@@ -20,7 +20,7 @@ pub const INDEXED: u32 = 3;
 /// The version of a file that has two journals, by turns, the greatest that a layout may have.
 pub const PAIRED: u32 = 4;
 
-/// The fewest pages that a journal may hold.
+/// The fewest pages that a journal may hold: those of the least window, of two segments, in the longer slots.
 pub const LEAST_JOURNAL: u32 = 4;
 
 /// The place of the selector, a byte whose low bit names the live copy and the live region.
@@ -38,7 +38,8 @@ pub(crate) const NAME_FRONT: u32 = 0x5341_4d50;
 /// The text `TORE`, likewise.
 pub(crate) const NAME_BACK: u32 = 0x4552_4f54;
 
-/// The bytes of a page: the header is one, the journal's table is so many, and the journal and the regions count in them.
+/// The bytes of a page, in which systems cache files: the header is one, the journal's table is one, and journal and regions
+/// count in them.
 pub const PAGE: usize = 4096;
 
 /// The place of the journal's table, behind the header page.
@@ -194,7 +195,7 @@ impl Layout {
         self.image_in(1, self.journal) + PAGE as u64 * self.pages() * region as u64
     }
 
-    // The journal's table is a count and so many numbers, in whole pages.
+    // The journal's table is a count and that many numbers, in whole pages.
     fn table_size(&self) -> u64
         requires { IsLayout self.now }
         ensures { result ≡ table_size self.now }

@@ -10,7 +10,7 @@ pub mod Travelling
 pub mod SoundLaws
 pub mod ReadingLaws
 pub mod CountingLaws
-pub mod JudgingLaws
+pub mod ValidatingLaws
 pub mod LoadingLaws
 pub mod QuickLaws
 pub mod Answering

@@ -16,10 +16,10 @@ use Rattle.veb_index.proofs.Middles.{fence_place-within}
 use Rattle.index_file.specs.Area.{node_place}
 use Rattle.index_file.specs.Node.{is_node}
 use Rattle.index_file.specs.Seats.{link_of}
-use Rattle.index_file.specs.Judging.{node_reason, fence_read, order_reason, fences_reason, windows_reason, area_reason}
+use Rattle.index_file.specs.Validating.{node_reason, fence_read, order_reason, fences_reason, windows_reason, area_reason}
 use Rattle.index_file.specs.Reading.{FailsAt}
 use Rattle.index_file.specs.Writing.{AreNodesOf}
-use Rattle.index_file.proofs.JudgingLaws.{order_few, if_true}
+use Rattle.index_file.proofs.ValidatingLaws.{order_few, if_true}
 use Rattle.index_file.proofs.ReadingLaws.{fails_reason}
 
 -- reasons that agree

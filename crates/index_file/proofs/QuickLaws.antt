@@ -31,7 +31,7 @@ use Rattle.veb_index.specs.View.{IndexView, fence_at, fence_of}
 use Rattle.veb_index.specs.Arrays.{IsIndexOf}
 use Rattle.window_tally.specs.View.{TallyView, IsTally}
 use Rattle.index_file.specs.Clean.{IsLeft, fence_of_segment}
-use Rattle.index_file.specs.Judging.{counts_read, fence_read}
+use Rattle.index_file.specs.Validating.{counts_read, fence_read}
 use Rattle.index_file.specs.Writing.{AreNodesOf}
 use Rattle.index_file.proofs.LoadingLaws.{fences_are}
 use Rattle.index_file.proofs.SoundLaws.{left_counts, left_first, fence_read-is}

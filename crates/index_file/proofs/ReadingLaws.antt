@@ -14,7 +14,7 @@ use Rattle.veb_index.specs.View.{fence_at}
 use Rattle.index_file.specs.Seats.{link_of}
 use Rattle.index_file.specs.Node.{is_node, IsNode}
 use Rattle.index_file.specs.Area.{node_place}
-use Rattle.index_file.specs.Judging.{node_reason}
+use Rattle.index_file.specs.Validating.{node_reason}
 use Rattle.index_file.specs.Reading.{is_node_of, IsFirstWrong, FailsAt}
 use Rattle.index_file.specs.Writing.{IsNodeOf, AreNodesOf}
 use Rattle.index_file.proofs.NodeLaws.{node_same, node_test_same}

@@ -34,7 +34,7 @@ use Rattle.index_file.specs.Seats.{seat_of, link_of}
 use Rattle.index_file.specs.Node.{is_node, fence_in, IsNode}
 use Rattle.index_file.specs.Area.{node_place, count_place, HasNodes}
 use Rattle.index_file.specs.Clean.{IsLeft, fence_of_segment}
-use Rattle.index_file.specs.Judging.{node_reason, fence_read, order_reason, counts_read, window_reason, row_reason, area_reason}
+use Rattle.index_file.specs.Validating.{node_reason, fence_read, order_reason, counts_read, window_reason, row_reason, area_reason}
 use Rattle.index_file.proofs.SeatLaws.{seat_of-is}
 
 -- tests that hold

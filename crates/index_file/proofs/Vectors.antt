@@ -10,7 +10,7 @@ use Rattle.index_file.specs.declared.seats.Seat.{Seat}
 use Rattle.index_file.specs.Seats.{seat_of, link_of}
 use Rattle.index_file.specs.Node.{fence_in, has_form, is_node}
 use Rattle.index_file.specs.Area.{node_place, count_place}
-use Rattle.index_file.specs.Judging.{row_reason}
+use Rattle.index_file.specs.Validating.{row_reason}
 
 abbrev layout : Layout
 layout = record { hmax = 2; journal = 4; version = 3; format = 1 }

@@ -3,7 +3,7 @@ pub mod Node
 pub mod Area
 pub mod Writing
 pub mod Clean
-pub mod Judging
+pub mod Validating
 pub mod Reading
 pub mod Leaving
 pub mod Counting

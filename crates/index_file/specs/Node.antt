@@ -8,7 +8,7 @@ use Rattle.key_slot.specs.Record.{Bytes}
 use Rattle.key_slot.specs.Format.{key_room}
 use Rattle.index_file.specs.declared.sizes.TheConstants.{FENCE_AT, LINKS_AT}
 
--- so many bytes of a file from a place on; past its end they are zero
+-- that many bytes of a file from a place on; past its end they are zero
 abbrev pub bytes_at : List ℕ → ℕ → ℕ → List ℕ
 bytes_at file place n = map (λ k. byte file (place + k)) (range_with_len 0 n)
 

@@ -59,7 +59,7 @@ count_calls h = parts 1024 (2 ^ h)
 abbrev pub area_calls : ℕ → ℕ
 area_calls h = node_calls h + count_calls h
 
--- the travel after one read of so many bytes, or none where there are none
+-- the travel after one read of that many bytes, or none where there are none
 abbrev pub after_part : ℕ → ℕ → Travel → Travel
 after_part place n t = if n == 0 then t else after_read place n t
 
@@ -135,7 +135,7 @@ pub record ReadsNodes {T : Type 0} (l : Layout) (h : ℕ) (result : Result T Are
   -- a fault of the disk
   pub failed : IsErrOf result Failed → Rose a.disk_faults b.disk_faults
 
--- of so many nodes in a piece, from the one of position first on, that of position x is the first that isn't there
+-- of that many nodes in a piece, from the one of position first on, that of position x is the first that isn't there
 pub record IsFirstWrong (f h first count : ℕ) (piece : List ℕ) (x : ℕ) : Type 0 where
   pub from : first ≤ x
   pub below : x < first + count

@@ -79,7 +79,7 @@ pub(crate) fn links_at(h: u32, x: u32) -> (u32, u32)
     }
 }
 
-/// The nodes of an index from a position on, so many of them, at the front of a piece.
+/// The nodes of an index from a position on, that many of them, at the front of a piece.
 pub(crate) fn fill_nodes(piece: &mut [u8], index: &Index, h: u32, first: u32, count: u32)
     requires size { length piece.old ≡ PIECE }
     requires room { count ≤ 64 }
@@ -96,7 +96,7 @@ pub(crate) fn fill_nodes(piece: &mut [u8], index: &Index, h: u32, first: u32, co
     }
 }
 
-/// The counts of a tally from a segment on, so many of them, at the front of a piece.
+/// The counts of a tally from a segment on, that many of them, at the front of a piece.
 pub(crate) fn fill_counts(piece: &mut [u8], tally: &Tally, first: u32, count: u32)
     requires size { length piece.old ≡ PIECE }
     requires room { count ≤ 1024 }

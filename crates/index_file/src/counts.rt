@@ -1,4 +1,4 @@
-//! The counts of the index in a file are read and judged, piece by piece.
+//! The counts of the index in a file are read and validated, piece by piece.
 
 ghost use Rattle.std.specs.Prelude.{◌≡◌, ℕ, ◌+◌, ◌-◌, ◌*◌, ◌^◌, ◌≤◌, ◌<◌, List, length, get_or, OnOk, IfErr, IfSome, IsErrOf, None};
 ghost use Rattle.station.specs.Bytes.{Same};
@@ -52,7 +52,7 @@ pub(crate) fn read_counts<S: Station>(
     Ok(())
 }
 
-// Reads the counts from a segment on, so many of them.
+// Reads the counts from a segment on, that many of them.
 fn read_count_piece<S: Station>(
     station: &mut S,
     layout: &Layout,

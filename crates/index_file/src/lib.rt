@@ -11,7 +11,6 @@ mod closing;
 mod counts;
 mod fault;
 mod gate;
-mod judging;
 mod laws;
 mod leaving;
 mod loading;
@@ -20,6 +19,7 @@ mod quick;
 mod reading;
 mod seats;
 mod sizes;
+mod validating;
 mod writing;
 
 pub use closing::close_index;

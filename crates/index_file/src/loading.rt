@@ -9,7 +9,7 @@ ghost use Rattle.density_rule.specs.Windows.{IsBalanced};
 ghost use Rattle.header_gate.specs.Places.{IsLayout, file_length};
 ghost use Rattle.header_gate.specs.declared.layout.TheConstants.{INDEXED};
 ghost use Rattle.header_gate.specs.declared.reason.Reason.TheVariants.{Index as WrongIndex};
-ghost use Rattle.index_file.specs.Judging.{area_reason, fences_reason, windows_reason, counts_read};
+ghost use Rattle.index_file.specs.Validating.{area_reason, fences_reason, windows_reason, counts_read};
 ghost use Rattle.index_file.specs.Area.{node_place};
 ghost use Rattle.index_file.specs.Reading.{HasIndex, IsUncounted, TakesCounts, IsUnread, TakesFences, IsFrontRead, IsAreaFront, NamesNode, NamesCount, NamesPlace, ReadsNodes, ReadsCounts, after_area, area_calls};
 ghost use Rattle.index_file.specs.declared.sizes.TheConstants.{NODE_SIZE};
@@ -19,15 +19,15 @@ ghost use Rattle.window_tally.specs.View.{IsTally};
 use crate::area::{wrong_count, wrong_node};
 use crate::counts::read_counts;
 use crate::fault::AreaFault;
-use crate::judging::{first_broken, first_misplaced};
 use crate::reading::read_nodes;
+use crate::validating::{first_broken, first_misplaced};
 use density_rule::Window;
 use header_gate::Layout;
 use station::Station;
 use veb_index::{Index, fence_position};
 use window_tally::Tally;
 
-/// Reads the index in the file into a tally and an index of one height, and judges it.
+/// Reads the index in the file into a tally and an index of one height, and validates it.
 ///
 /// `Wrong` names the first node or count that is wrong: by the form and the links of the nodes, by the order of the fences,
 /// and by the bounds of the windows. No byte outside the index is read.
@@ -61,7 +61,7 @@ pub(crate) fn load_area<S: Station>(
     }
 }
 
-// Reads the nodes, and judges them and the order of their fences.
+// Reads the nodes, and validates them and the order of their fences.
 fn load_fences<S: Station>(
     station: &mut S,
     layout: &Layout,
@@ -88,7 +88,7 @@ fn load_fences<S: Station>(
     }
 }
 
-// Reads the counts, and judges the windows by them.
+// Reads the counts, and validates the windows by them.
 fn load_counts<S: Station>(
     station: &mut S,
     layout: &Layout,

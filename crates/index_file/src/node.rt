@@ -27,7 +27,13 @@ pub(crate) fn node_bytes(fence: &Key, left: u32, right: u32) -> [u8; NODE_SIZE]
 
 /// The fence of the node at a place, if one with these links and a key of the slot format stands there.
 #[tactic(auto, unfolding(crate::specs::Node::is_node))]
-pub(crate) fn judge_node(bytes: &[u8], at: usize, left: u32, right: u32, format: u32) -> Option<Key>
+pub(crate) fn validate_node(
+    bytes: &[u8],
+    at: usize,
+    left: u32,
+    right: u32,
+    format: u32,
+) -> Option<Key>
     requires room { at + NODE_SIZE ≤ length bytes.now }
     requires format { format ≤ wide }
     ensures some { IfSome result (λ fence. IsNode format left right fence bytes.now at) }
@@ -110,7 +116,7 @@ fn has_form(bytes: &[u8], at: usize, format: u32) -> bool
     is_zero(bytes, at + (LINKS_AT + 8), 8)
 }
 
-// Whether so many bytes from a place on are zero.
+// Whether that many bytes from a place on are zero.
 fn is_zero(bytes: &[u8], at: usize, count: usize) -> bool
     requires { at + count ≤ length bytes.now }
     ensures { result ≡ is_zero_of bytes.now at count }

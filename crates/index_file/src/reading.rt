@@ -1,4 +1,4 @@
-//! The nodes of the index in a file are read and judged, piece by piece.
+//! The nodes of the index in a file are read and validated, piece by piece.
 
 ghost use Rattle.std.specs.Prelude.{◌≡◌, ℕ, ◌+◌, ◌-◌, ◌*◌, ◌^◌, ◌≤◌, ◌<◌, length, OnOk, OnErr, IfErr, IfSome, IsErrOf, None, true, false};
 ghost use Rattle.station.specs.Bytes.{byte, Same};
@@ -14,7 +14,7 @@ ghost use Rattle.index_file.specs.Writing.{IsNodeOf, AreNodesOf};
 
 use crate::area::{links_at, node_at, wrong_node};
 use crate::fault::AreaFault;
-use crate::node::judge_node;
+use crate::node::validate_node;
 use crate::sizes::{NODE_SIZE, PIECE};
 use crate::writing::{PIECE_NODES, node_count};
 use header_gate::Layout;
@@ -52,7 +52,7 @@ pub(crate) fn read_nodes<S: Station>(
     Ok(())
 }
 
-// Reads the nodes from a position on, so many of them.
+// Reads the nodes from a position on, that many of them.
 fn read_node_piece<S: Station>(
     station: &mut S,
     layout: &Layout,
@@ -91,7 +91,7 @@ fn read_node_piece<S: Station>(
     }
 }
 
-/// Fills the front of a piece, so many bytes of it, with those of the file from a place on.
+/// Fills the front of a piece, that many bytes of it, with those of the file from a place on.
 pub(crate) fn read_front<S: Station>(
     station: &mut S,
     pos: u64,
@@ -133,7 +133,7 @@ fn take_nodes(
     for k in 0..count {
         let x = first + k;
         let (left, right) = links_at(h, x);
-        match judge_node(piece, NODE_SIZE * k as usize, left, right, format) {
+        match validate_node(piece, NODE_SIZE * k as usize, left, right, format) {
             Some(fence) => index.set_node(x, &fence),
             None => return Some(x),
         }

@@ -3,7 +3,7 @@
 ghost use Rattle.std.specs.Prelude.{◌≡◌, ◌≤◌};
 ghost use Rattle.key_slot.specs.Format.{wide, key_room};
 
-/// How many bytes a node has.
+/// How many bytes a node has: those of a line of most processors' caches.
 pub(crate) const NODE_SIZE: usize = 64;
 
 /// Where the fence begins in a node, behind its size.
@@ -15,7 +15,7 @@ pub(crate) const LINKS_AT: usize = 48;
 /// How many bytes a count has.
 pub(crate) const COUNT_SIZE: usize = 4;
 
-/// How many bytes of the index are read or written at once.
+/// How many bytes of the index are read or written at once: a page.
 pub(crate) const PIECE: usize = 4096;
 
 /// The most bytes of a fence: 24 in slot format 1, and 40 in format 2.

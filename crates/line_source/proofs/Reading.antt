@@ -25,7 +25,7 @@ pub record Reading (r0 : ReaderView) (s0 : SourceView) (long : Bool) (r : Reader
   pub ended : r0.ended ≡ true → (s ≡ s0) × (r.ended ≡ true)
   pub met : r0.ended ≡ false → r.ended ≡ true → SourceTold s0 → (s.left ≡ []) × (0 < r.room)
 
--- of what is held, so many bytes are known to be no line feed
+-- of what is held, that many bytes are known to be no line feed
 pub record Looking (r0 : ReaderView) (s0 : SourceView) (long : Bool) (seen : ℕ) (r : ReaderView) (s : SourceView) : Type 0 where
   pub here : Reading r0 s0 long r s
   pub within : seen ≤ length r.held

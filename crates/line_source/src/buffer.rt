@@ -7,7 +7,7 @@ ghost use Rattle.line_source.specs.ReaderView.{IsFirstFeed};
 
 use super::source::{ReadFailed, Source};
 
-// The start of a line, and what is taken ahead.
+// The start of a line, and what is taken ahead: a page, which holds several of the longest lines.
 pub(crate) const BUFFER_LEN: usize = 4096;
 
 // Where the first line feed stands. None stands among the first `seen` bytes.

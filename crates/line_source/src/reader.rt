@@ -26,7 +26,8 @@ pub enum LineStep {
     Spent,
 }
 
-// The most bytes of a line that is given. Its line feed doesn't count, a carriage return before it does.
+// The most bytes of a line that is given. Its line feed doesn't count, a carriage return before it does. So the items of a batch
+// have room in the 512 bytes of an intent.
 const LINE_LIMIT: usize = 512;
 
 /// Reads the lines of a source.

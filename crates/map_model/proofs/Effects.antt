@@ -1,4 +1,4 @@
--- What an update comes to is the same by an array and by the map that it holds; when a put finds the store full.
+-- The outcome of an update is the same by an array and by the map that it holds; when a put finds the store full.
 use Rattle.std.proofs.Common.{◌≡◌, ◌↔◌, ℕ, suc, ◌+◌, ◌-◌, ◌<◌, ◌≤◌, Bool, true, false, nat_lt, refl, ap, subst, arith, inl, inr}
 use Rattle.std.specs.FinMap.{contains_key, len}
 use Rattle.std.proofs.lemmas.Bool.{cases_lt, le-ltb, ltb-false}

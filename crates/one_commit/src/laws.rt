@@ -29,7 +29,7 @@ pub fn fitting_items_are_edits()
 /// segments is laid.
 pub fn edits_reach_files()
     // With a sound journal, and every window within its bounds, a file has the state after distinct items that fit one commit
-    // once a batch of the edited segments is laid over it (`LaysEdits`).
+    // once a batch of the edited segments is replayed over it (`LaysEdits`).
     ensures { (s : ArrayState) (items : List Update) (old new numbers : List ℕ) (image : ℕ → ℕ → ℕ) → HasState old s →
         IsBalancedArray s.height s.array → are_distinct items ≡ true →
         fit_one_commit s.height (counts_of s.array) (changes_in s.array items) ≡ true → LaysBatch numbers image old new →
@@ -40,7 +40,7 @@ pub fn edits_reach_files()
 /// A law: whatever items do at one height is one batch of the journal, if it holds each segment that they change.
 pub fn states_reach_files()
     // With a sound journal, and every window within its bounds, a file has the state after items that keep the height once a
-    // batch of each segment that they change is laid over it.
+    // batch of each segment that they change is replayed over it.
     ensures { (s : ArrayState) (items : List Update) (old new numbers : List ℕ) (image : ℕ → ℕ → ℕ) → HasState old s →
         IsBalancedArray s.height s.array →
         let next = next_states (height_limit (layout_in old)) s items in

@@ -32,7 +32,7 @@ use Rattle.map_model.proofs.Reasonings.{represents_of_none, none_of_represents}
 use Rattle.map_model.proofs.Unnamed.{unnamed_represents}
 use Rattle.batch_intent.specs.declared.places.TheConstants.{INTENT}
 use Rattle.batch_intent.specs.Gate.{form_reason, intent_area, reason_at}
-use Rattle.batch_intent.specs.Judging.{wrong_place}
+use Rattle.batch_intent.specs.Validating.{wrong_place}
 use Rattle.batch_intent.specs.Means.{Means, MeansMap, full_reason, fullness_reason, has_pending, opened_items_state, opening_reason, pending}
 use Rattle.batch_intent.specs.Spelling.{Spells, items_in}
 use Rattle.batch_intent.proofs.Gates.{area_same}
@@ -199,7 +199,7 @@ module _ (old new : List ℕ) (touched : Touched IsCleanPlace old new) where
   pub cost_same : opening_cost (layout_in new) + pending_cost new ≡ opening_cost (layout_in old) + pending_cost old
   cost_same t = opening_cost (layout_same t) + cond (has_same t) (updates_cost (layout_same t) (first_same t) (pending_same t) + 1 + most_of_one (layout_same t) (Batch (pending_same t))) 0
 
-  -- no page is to be laid over the live region
+  -- no page is to be replayed over the live region
   pub bare_same : IsBare (layout_in old) old → IsBare (layout_in new) new
   bare_same bare = subst (λ (l : Layout). IsBare l new) (sym layout_same) (bare_still (layout_in old) old new (same 512 (λ at. omega (arith, at))) (λ k low high. same k (λ at. omega (arith, at, low))) bare)
 

@@ -151,7 +151,7 @@ module _ (v : StoreView) (s t : SweepView) (of : SweepsStore s v) (a b : View) (
   dumped_of (Err serving.Reply) says d last silent line = subst (DumpsOpened REPLY_FAULT v a) (sym (silent refl)) (quiet (Err serving.Reply) says refl (inr (inr (inr refl))))
   dumped_of (Err serving.Spent) says d last silent line = absurd says.never
 
--- What the whole job comes to.
+-- The outcome of the whole job.
 
 pub record Comes (status : ℕ) (a b : View) : Type 0 where
   pub status_is : IsDumpStatus status

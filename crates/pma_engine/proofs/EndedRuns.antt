@@ -326,7 +326,7 @@ module _ (status served most : ℕ) (x : Session) (s0 s1 : SourceView) (t : Stor
     went = serves.went;
   }
 
--- What a run from an open store on comes to.
+-- The outcome of a run from an open store on.
 
 -- one that was stopped
 serves_stopped : {status most : ℕ} {l : Layout} {x : Session} {s0 s1 : SourceView} {a b : View} → (status ≡ REFUSED) ⊎ (status ≡ DISK_FAULT) → ServesScript status most l x s0 s1 a b → Serves status most l x s0 s1 a b

@@ -341,7 +341,7 @@ module _ (laws : Laws) (most : ℕ) (s : StoreView) (s0 s1 : SourceView) (layout
         (stopped_by load.Spent b facts TOO_LONG (inr (inr refl)) (λ never. tt) (λ e. absurd (omega (arith, e))) (λ e. absurd (omega (arith, e))) (λ e told. (facts.fault.1 told).all) (λ e. facts.fault.0) (λ e told_s. cut_early (facts.fault.1 told_s).read)
         (λ told_s told none rows text short calm_disk calm_script. outside load.Spent b facts told_s none rows text short))
 
--- What the whole job comes to.
+-- The outcome of the whole job.
 
 pub record Comes (status most : ℕ) (s0 s1 : SourceView) (a b : View) : Type 0 where
   pub status_is : IsLoadStatus status

@@ -14,7 +14,7 @@ parts_stand s place tally v same_place same_tally is = λ image held.
     subst (λ (p : Place). StandsWith p.layout p.region tally.height tally.counts image) (sym same_place)
     (subst (λ (t : TallyView). StandsWith s.place.layout s.place.region t.height t.counts image) (sym same_tally) (is.on.stands image held).balanced.stands)
 
--- no page is to be laid over its live region, where none is over the store's
+-- no page is to be replayed over its live region, where none is over the store's
 pub parts_bare : (s : StoreView) (place : Place) (v : View) → place ≡ s.place → (Told v → IsBare s.place.layout v.held) → Told v → IsBare place.layout v.held
 parts_bare s place v same bare told = subst (λ (p : Place). IsBare p.layout v.held) (sym same) (bare told)
 

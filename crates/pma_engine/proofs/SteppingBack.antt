@@ -1,4 +1,4 @@
--- What a step back of a cursor comes to.
+-- The outcome of a step back of a cursor.
 use Rattle.std.proofs.Common.{◌≡◌, ℕ, zero, suc, ◌+◌, ◌-◌, ◌∷◌, [], ◌∙◌, true, false, Bool, is_some, Option, Some, None, Result, Ok, Err, refl, sym, ap, subst, arith}
 use Rattle.std.specs.FinMap.{contains_key, get}
 use Rattle.station.specs.Bytes.{Same}

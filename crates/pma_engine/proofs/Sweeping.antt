@@ -13,7 +13,7 @@ use Rattle.pma_engine.specs.Ranging.{LeavesLast, SaysFront, SaysNext, SaysSweep,
 use Rattle.pma_engine.specs.Session.{IsPartSaid}
 use Rattle.pma_engine.specs.declared.fault.ServeFault.{ServeFault}
 use Rattle.pma_engine.specs.declared.fault.ServeFault.TheVariants.{Reply}
-use Rattle.pma_engine.proofs.Pieces.{front_on, part_behind, piece_front, row_text-append}
+use Rattle.pma_engine.proofs.Buffers.{front_on, part_behind, buffer_front, row_text-append}
 use Rattle.pma_engine.proofs.Ranging.{first_rows, no_fault}
 use Rattle.pma_engine.proofs.RangeAnswers.{more_than, part_of, rest_of, whole_of}
 
@@ -85,7 +85,7 @@ module _ (s t : SweepView) (fresh : s.given ≡ 0) {a b : View} where
         ∙ whole_of (leaves.before ++ leaves.last) (scan_of s a.held) count (all_are told) (omega (arith, leaves.rows.next.count, leaves.next.count, length-append leaves.before leaves.last, fresh, number))
 
     front_said : SaysFront lines a d
-    front_said = front_on law (row_text leaves.before) (left ++ reply_text (End count)) leaves.rows.whole (piece_front says)
+    front_said = front_on law (row_text leaves.before) (left ++ reply_text (End count)) leaves.rows.whole (buffer_front says)
 
     begun : Told a → (rest : List ℕ) × (lines ++ rest ≡ scan_text s a.held)
     begun told = ([], append-nil lines ∙ lines_are told)

@@ -275,7 +275,7 @@ module _ (a : View) (s : StoreView) (opened : IsOpenOn s a) where
         subst (λ (n : ℕ). Says (line_text (line_of_upgrade n r)) b d → (line_of_upgrade n r ≡ None → d ≡ b) → ((line : Reply) → line_of_upgrade n r ≡ Some line → SaidTold b → SaysLine line b.said b d) → UpgradesOpened (status_of_upgrade r) s.place.layout s.tally.height 0 a d)
         (sym is) (upgraded_of r facts)
 
--- What the whole job comes to.
+-- The outcome of the whole job.
 
 pub record Comes (status : ℕ) (a b : View) : Type 0 where
   pub status_is : IsUpgradeStatus status

@@ -46,7 +46,7 @@ abbrev pub map_after_commands : Layout → Map → List Command → Map
 map_after_commands l m [] = m
 map_after_commands l m (c ∷ cs) = map_after_commands l (map_after_items (height_limit l) m (updates_made l m c)) cs
 
--- A boot on a file that means this map carried out so many commands. What it said is a front of the replies to its commands, which
+-- A boot on a file that means this map carried out that many commands. What it said is a front of the replies to its commands, which
 -- map, height and cursors determine, with no cursor open at its start. It carried out as many commands as replies have a byte in
 -- what it said, or one more.
 pub record CarriesOut (start : List ℕ) (m : Map) (b : Boot) (count : ℕ) : Type 0 where
@@ -60,17 +60,17 @@ pub record CarriesOut (start : List ℕ) (m : Map) (b : Boot) (count : ℕ) : Ty
   pub front : new ++ rest ≡ flat_map (λ r. r) texts
   pub count_is : (count ≡ replies_begun texts (length new)) ⊎ (count ≡ replies_begun texts (length new) + 1)
 
--- the map after the first commands of a boot, so many of them
+-- the map after the first commands of a boot, that many of them
 abbrev pub after_boot : List ℕ → Map → Boot → ℕ → Map
 after_boot start m b count = map_after_commands (layout_in start) m (take count (commands_on start b))
 
--- boots, each of which carried out so many commands, lead from one map to another
+-- boots, each of which carried out that many commands, lead from one map to another
 abbrev pub LeadTo : List ℕ → Map → List Boot → List ℕ → Map → Type 0
 LeadTo start m [] [] last = last ≡ m
 LeadTo start m (b ∷ bs) (n ∷ counts) last = CarriesOut start m b n × LeadTo b.image (after_boot start m b n) bs counts last
 LeadTo start m _ _ last = ⊥
 
--- the commands that boots carried out, so many each, as one list
+-- the commands that boots carried out, that many each, as one list
 abbrev pub carried_out : List ℕ → List Boot → List ℕ → List Command
 carried_out start (b ∷ bs) (n ∷ counts) = take n (commands_on start b) ++ carried_out b.image bs counts
 carried_out start _ _ = []

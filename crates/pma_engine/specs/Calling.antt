@@ -16,7 +16,7 @@ use Rattle.pma_store.specs.Calling.{asked_calls}
 use Rattle.pma_store.specs.Damaging.{picked}
 use Rattle.pma_store.specs.Store.{StoreView}
 
--- so many calls are those of an update, by what the kept counts ask for in one segment, to which the key belongs; the first one
+-- that many calls are those of an update, by what the kept counts ask for in one segment, to which the key belongs; the first one
 -- reads that segment
 pub record IsForUpdate (change : Change) (key : Bytes) (s : StoreView) (a : View) (calls : ℕ) : Type 0 where
   pub at : ℕ
@@ -24,18 +24,18 @@ pub record IsForUpdate (change : Change) (key : Bytes) (s : StoreView) (a : View
   pub own : Told a → at ≡ segment_for (array_of a.held) key
   pub is : calls ≡ 1 + asked_calls s.place.layout s.tally.height (picked change at s.tally)
 
--- so many calls are those of a step of a cursor, which reads a segment or two; where there is none, none
+-- that many calls are those of a step of a cursor, which reads a segment or two; where there is none, none
 abbrev pub IsForStep : Option Cursor → ℕ → Type 0
 IsForStep None calls = calls ≡ 0
 IsForStep (Some k) calls = calls ≡ 2
 
--- so many calls are those of a range: no more than the store has segments, and no more than two besides one for each four of its
+-- that many calls are those of a range: no more than the store has segments, and no more than two besides one for each four of its
 -- records
 pub record IsForRange (low high : Option Bytes) (limit : ℕ) (s : StoreView) (a : View) (calls : ℕ) : Type 0 where
   pub within : calls ≤ 2 ^ s.tally.height
   pub few : Told a → calls ≤ length (scanned low high limit (entries (map_of a.held))) / 4 + 2
 
--- So many calls are those of a command, with these cursors open: of an update by what is asked for, of a batch by its segments and
+-- That many calls are those of a command, with these cursors open: of an update by what is asked for, of a batch by its segments and
 -- its items, of a get one, of a range one for each segment that it reads, of a check one for each segment, of a step of a cursor two,
 -- and of every other command none.
 abbrev pub IsForCommand : Command → StoreView → Cursors → View → ℕ → Type 0
@@ -57,7 +57,7 @@ IsForCommand OversizedValue s k a calls = calls ≡ 0
 IsForCommand RepeatedKey s k a calls = calls ≡ 0
 IsForCommand (Bad why) s k a calls = calls ≡ 0
 
--- a command makes at most so many calls, before its reply is said
+-- a command makes at most that many calls, before its reply is said
 pub record MakesCalls (c : Command) (s : StoreView) (k : Cursors) (a b : View) : Type 0 where
   pub calls : ℕ
   pub is_for : IsForCommand c s k a calls

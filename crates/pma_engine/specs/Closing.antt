@@ -1,4 +1,4 @@
--- What the closing of an index changes of a file, what keeps one closed, and what the leaving of one comes to.
+-- What the closing of an index changes of a file, what keeps one closed, and the outcome of the leaving of one.
 use Rattle.std.specs.Prelude.{◌≡◌, ◌⊎◌, ℕ, ◌+◌, ◌*◌, ◌^◌, ◌≤◌, nat_le, if◌then◌else◌, List}
 use Rattle.station.specs.Bytes.{Touched}
 use Rattle.station.specs.Steps.{Steps, LeavesOnly}
@@ -36,7 +36,7 @@ pub record StaysShut (a b : View) : Type 0 where
   pub after : EachHeld IsShut a → EachHeld IsShut b
   pub moments : EachHeld IsShut a → LeavesOnly (λ image said. IsShut image) a b
 
--- at most so many bytes are written by the closing of an index: files from version 3 on have one
+-- at most that many bytes are written by the closing of an index: files from version 3 on have one
 unfoldable pub closing_cost : Layout → ℕ
 closing_cost l = if nat_le INDEXED l.version then 1 else 0
 

@@ -1,4 +1,4 @@
--- What the dump of a file comes to.
+-- The outcome of the dump of a file.
 use Rattle.std.specs.Prelude.{◌≡◌, ◌⊎◌, ℕ, ◌+◌, ◌*◌, ◌^◌, ◌≤◌, List, ◌++◌, length, take, false, None}
 use Rattle.std.specs.List.{flat_map}
 use Rattle.std.specs.FinMap.{entries}
@@ -78,7 +78,7 @@ pub record DumpsFile (status : ℕ) (a b : View) : Type 0 where
   pub calls : (status ≡ REFUSED → ⊥) → Told a → CallsOpening (dump_calls a.held) (attached_by false a) b
   pub refused_calls : status ≡ REFUSED → Told a → CallsOpening (reopening_calls a.held + 512) (attached_by false a) b
 
--- what the dump of an open store came to, on whose station nothing is pending
+-- the outcome of the dump of an open store, on whose station nothing is pending
 pub record DumpsOpened (status : ℕ) (s : StoreView) (a b : View) : Type 0 where
   pub status_is : (status ≡ DONE) ⊎ ((status ≡ REFUSED) ⊎ ((status ≡ DISK_FAULT) ⊎ (status ≡ REPLY_FAULT)))
   -- nothing is written, and no byte changes at any moment

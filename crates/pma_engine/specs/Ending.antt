@@ -1,4 +1,4 @@
--- What the end of a run comes to, behind the serving of its script.
+-- The outcome of the end of a run, behind the serving of its script.
 use Rattle.std.specs.Prelude.{◌≡◌, ◌⊎◌, ℕ, ◌+◌, ◌≤◌}
 use Rattle.station.specs.Steps.{Steps, LeavesOnly}
 use Rattle.station.specs.View.{View, Told, NothingPending, Rose}
@@ -19,7 +19,7 @@ use Rattle.pma_engine.specs.declared.status.TheConstants.{DONE, DISK_FAULT, REPL
 abbrev pub IsSettledStatus : ℕ → Type 0
 IsSettledStatus status = IsRest status ⊎ (status ≡ REPLY_FAULT)
 
--- What the end of a run came to, whose serving ended with such a status, and whose file has no index that means anything. Nothing is
+-- The outcome of the end of a run, whose serving ended with such a status, and whose file has no index that means anything. Nothing is
 -- pending then, and where all was answered the index was left, if the file has room for one; or a disk call failed.
 pub record EndsRun (served status : ℕ) (s : StoreView) (a b : View) : Type 0 where
   pub status_is : (status ≡ served) ⊎ (status ≡ DISK_FAULT)

@@ -1,4 +1,4 @@
--- What the load of a text into a file comes to.
+-- The outcome of the load of a text into a file.
 use Rattle.std.specs.Prelude.{◌≡◌, ◌⊎◌, ℕ, ◌+◌, ◌*◌, ◌^◌, ◌<◌, ◌≤◌, List, [], ◌++◌, false, length, Option, Some, None, Result, Ok, Err}
 use Rattle.std.specs.FinMap.{from_sorted, len}
 use Rattle.station.specs.View.{View, Told, SaidTold, EachHeld, NothingPending, Rose, attached_by}
@@ -105,7 +105,7 @@ IsWrongAt l s n = SourceTold s → IsRefusedAt l.format (most_records l) (raw_li
 abbrev pub IsTooLong : Layout → SourceView → Type 0
 IsTooLong l s = SourceTold s → IsOneTooMany l.format (most_records l) (raw_lines s.left)
 
--- a text isn't loaded into a store of this layout with so many records, and this line says why: there are records, and nothing is
+-- a text isn't loaded into a store of this layout with that many records, and this line says why: there are records, and nothing is
 -- taken from the source; or a line of the text is wrong; or it has more records than the store may hold
 abbrev pub AnswersLoad : Layout → ℕ → SourceView → SourceView → Reply → Type 0
 AnswersLoad l records s0 s1 line = ((0 < records) × (line ≡ reply.NotEmpty records) × (s1 ≡ s0))
@@ -130,7 +130,7 @@ pub record IsLoadRefused (s0 s1 : SourceView) (a b : View) : Type 0 where
   -- or one more than there are, if the text ends before the line with the number of records; or that a record follows as many as
   -- the store may hold.
   pub why : Told a → (line : Reply) × IsLoadRefusal a.held s0 s1 line × (SaidTold a → SaysLine line a.said a b)
-  -- A file that is no store recovers to what it recovered to; and if no page is to be laid over its region (below version 4: if
+  -- A file that is no store recovers to what it recovered to; and if no page is to be replayed over its region (below version 4: if
   -- its gate is even), every byte stays. But an odd clean gate may be closed besides, from version 3 on.
   pub recovers : Told a → (r : Reason) → opening_reason a.held ≡ Some r → IsButClosed a.held (recovered (layout_in a.held) a.held) (recovered (layout_in a.held) b.held)
   pub bare : Told a → (r : Reason) → opening_reason a.held ≡ Some r → IsBare (layout_in a.held) a.held → IsButClosed a.held a.held b.held
@@ -138,7 +138,7 @@ pub record IsLoadRefused (s0 s1 : SourceView) (a b : View) : Type 0 where
   -- be closed.
   pub kept : Told a → IsAllAtRest a.held → 0 < len (meant_map a.held) → IsButClosed a.held a.held b.held × WritesGate a.held a.travel.written b.travel.written
 
--- at most so many bytes are written by the reading of a text into a file of this layout that then has this height
+-- at most that many bytes are written by the reading of a text into a file of this layout that then has this height
 abbrev pub text_cost : Layout → ℕ → ℕ
 text_cost l height = 2 * segment_size l * 2 ^ height + 9
 
@@ -156,7 +156,7 @@ pub record IsCutEarly (l : Layout) (s0 s1 : SourceView) : Type 0 where
   pub is : s0.left ≡ taken ++ s1.left
   pub lines : MayGoOn l.format (most_records l) (complete_lines taken)
 
--- `load`, of whose text at most so many bytes are taken
+-- `load`, of whose text at most that many bytes are taken
 pub record LoadsFile (status most : ℕ) (s0 s1 : SourceView) (a b : View) : Type 0 where
   -- Of a valid store: if nothing is pending at the entry, a crash at any moment leaves a file that has the layout of the one at
   -- the entry and means its map, or, if that has no records, the map of the whole text, at the least height that holds them. And
@@ -202,7 +202,7 @@ pub record LoadsFile (status most : ℕ) (s0 s1 : SourceView) (a b : View) : Typ
   pub written : status ≡ DONE → Told a → b.travel.written ≤ a.travel.written + (reopening_cost a.held + load_cost (layout_in a.held) (height_of b.held))
   pub most_written : Told a → b.travel.written ≤ a.travel.written + (reopening_cost a.held + load_cost (layout_in a.held) (height_limit (layout_in a.held)))
 
--- what a load into an open store of this layout with so many records came to, on whose station nothing is pending, where so many
+-- the outcome of a load into an open store of this layout with that many records, on whose station nothing is pending, where that many
 -- bytes may be written before the text is read; its file has no intent that is to be applied
 pub record LoadsOpened (status most : ℕ) (l : Layout) (records before : ℕ) (s0 s1 : SourceView) (a b : View) : Type 0 where
   pub status_is : IsRest status ⊎ ((status ≡ REFUSED) ⊎ (status ≡ DISK_FAULT))

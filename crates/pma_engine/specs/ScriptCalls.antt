@@ -8,7 +8,7 @@ use Rattle.pma_store.specs.Store.{Stands}
 use Rattle.pma_engine.specs.Calling.{IsForCommand}
 use Rattle.pma_engine.specs.Carrying.{SessionView, layout_on, session_in}
 
--- So many calls are those of a command's line in a state of a session: those of the command, in a store that stands for bytes with
+-- That many calls are those of a command's line in a state of a session: those of the command, in a store that stands for bytes with
 -- that state, and one for each byte of its reply.
 pub record IsForLine (v : View) (l : Layout) (x : Session) (c : Command) (calls : ℕ) : Type 0 where
   pub on : SessionView
@@ -20,12 +20,12 @@ pub record IsForLine (v : View) (l : Layout) (x : Session) (c : Command) (calls 
   pub is_for : IsForCommand c on.store on.cursors (record v { held = image }) own
   pub is : calls ≡ own + length (session_reply l x c)
 
--- so many are those of lines, each behind those before it
+-- that many are those of lines, each behind those before it
 abbrev pub AreForLines : View → Layout → Session → List Command → ℕ → Type 0
 AreForLines v l x [] calls = calls ≡ 0
 AreForLines v l x (c ∷ cs) calls = (one : ℕ) × (more : ℕ) × IsForLine v l x c one × AreForLines v l (session_step l x c) cs more × (calls ≡ one + more)
 
--- The lines of a script from a session on made at most so many calls, for some first lines of it.
+-- The lines of a script from a session on made at most that many calls, for some first lines of it.
 pub record CallsOnScript (l : Layout) (x : Session) (cs : List Command) (a b : View) : Type 0 where
   pub begun : List Command
   pub behind : List Command

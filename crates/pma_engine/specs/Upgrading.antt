@@ -1,4 +1,4 @@
--- What an upgrade of a file to slot format 2 comes to.
+-- The outcome of an upgrade of a file to slot format 2.
 use Rattle.std.specs.Prelude.{◌≡◌, ◌⊎◌, ℕ, ◌+◌, ◌-◌, ◌*◌, ◌^◌, ◌<◌, ◌≤◌, List, false, Option, Some, None, Result, Ok, Err}
 use Rattle.std.specs.FinMap.{len}
 use Rattle.station.specs.View.{View, Told, SaidTold, NothingPending, Rose, attached_by}
@@ -53,7 +53,7 @@ status_of_upgrade (Ok (TooMany records)) = REFUSED
 status_of_upgrade (Err Failed) = DISK_FAULT
 status_of_upgrade (Err (Damaged segment why)) = REFUSED
 
--- a store with this layout, this live copy and so many records has slot format 2 already, or in format 2 no room for a
+-- a store with this layout, this live copy and that many records has slot format 2 already, or in format 2 no room for a
 -- segment, or for fewer records than it has; and this line says so
 abbrev pub AnswersUpgrade : Layout → ℕ → ℕ → Reply → Type 0
 AnswersUpgrade l copy records line = ((l.format ≡ wide) × (line ≡ reply.NotStore (Format copy wide)))
@@ -107,7 +107,7 @@ pub record IsUpgradeRefused (a b : View) : Type 0 where
   -- 2, with the copy that is live at the return; or that its height limit is 0; or that it has more records than it may have
   -- then, and how many, with the items of an intent.
   pub why : Told a → (line : Reply) × IsUpgradeRefusal a.held b.held line × (SaidTold a → SaysLine line a.said a b)
-  -- A file that is no store recovers to what it recovered to; and if no page is to be laid over its region (below version 4: if
+  -- A file that is no store recovers to what it recovered to; and if no page is to be replayed over its region (below version 4: if
   -- its gate is even), every byte stays. But an odd clean gate may be closed besides, from version 3 on.
   pub recovers : Told a → (r : Reason) → opening_reason a.held ≡ Some r → IsButClosed a.held (recovered (layout_in a.held) a.held) (recovered (layout_in a.held) b.held)
   pub bare : Told a → (r : Reason) → opening_reason a.held ≡ Some r → IsBare (layout_in a.held) a.held → IsButClosed a.held a.held b.held
@@ -116,7 +116,7 @@ pub record IsUpgradeRefused (a b : View) : Type 0 where
   -- A file to which nothing is to be done keeps every byte, and nothing is written, but that an odd clean gate may be closed.
   pub kept : Told a → IsAllAtRest a.held → IsButClosed a.held a.held b.held × WritesGate a.held a.travel.written b.travel.written
 
--- at most so many bytes are written by the widening of a store of this layout and height: the other region's segments, and a flip
+-- at most that many bytes are written by the widening of a store of this layout and height: the other region's segments, and a flip
 abbrev pub widen_cost : Layout → ℕ → ℕ
 widen_cost l height = segment_size (widened l) * 2 ^ upgraded_height l height + 9
 
@@ -150,7 +150,7 @@ pub record UpgradesFile (status : ℕ) (a b : View) : Type 0 where
   -- height that an upgrade gives the file.
   pub written : Told a → b.travel.written ≤ a.travel.written + (reopening_cost a.held + upgrade_cost (layout_in a.held) (opened_height a.held))
 
--- what the upgrade of an open store came to, on whose station nothing is pending, where so many bytes may be written before it is
+-- the outcome of the upgrade of an open store, on whose station nothing is pending, where that many bytes may be written before it is
 -- widened; its file has no intent that is to be applied
 pub record UpgradesOpened (status : ℕ) (l : Layout) (height before : ℕ) (a b : View) : Type 0 where
   pub status_is : (status ≡ DONE) ⊎ ((status ≡ REFUSED) ⊎ (status ≡ DISK_FAULT))

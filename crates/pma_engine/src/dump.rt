@@ -7,13 +7,13 @@ ghost use Rattle.pma_store.specs.Store.{IsOpenOn};
 ghost use Rattle.pma_engine.specs.Dumping.{DumpsFile, DumpsOpened, IsDumpStatus};
 
 use crate::attaching::{end_unopened, open_file};
-use crate::piece::Piece;
+use crate::output_buffer::OutputBuffer;
 use crate::range::say_sweep;
 use crate::run::end_served;
 use crate::status::{DISK_FAULT, REPLY_FAULT};
 use bulk_load::sweep_all;
 use pma_store::Store;
-use range_scan::HeldPage;
+use range_scan::SegmentBuffer;
 use station::Station;
 use std::alloc::Global;
 
@@ -45,9 +45,9 @@ fn dump_opened<S: Station>(station: &mut S, store: Store) -> u8
     ensures { DumpsOpened result store (S.view station.old) (S.view station.new) }
 {
     let parts = store.into_parts();
-    let mut page = HeldPage::new();
-    let mut piece = Piece::new();
+    let mut page = SegmentBuffer::new();
+    let mut buffer = OutputBuffer::new();
     let mut sweep = sweep_all(&parts.place, &parts.tally, &mut page);
-    let said = say_sweep(&mut sweep, station, &mut piece);
+    let said = say_sweep(&mut sweep, station, &mut buffer);
     end_served(station, said)
 }

@@ -40,7 +40,7 @@ pub(crate) fn end_run<S: Station>(station: &mut S, store: Store, served: u8) -> 
     }
 }
 
-// Leaves nothing pending behind a store, and no page that is to be laid over its live region. A file with one journal has neither
+// Leaves nothing pending behind a store, and no page that is to be replayed over its live region. A file with one journal has neither
 // between two commands, so that it can't fail there.
 fn settle_store<S: Station>(station: &mut S, store: &mut Store) -> Result<(), StoreFault>
     requires open { IsOpenOn store.old (S.view station.old) }

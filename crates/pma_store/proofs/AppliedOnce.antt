@@ -1,4 +1,4 @@
--- What a batch comes to that was committed at once.
+-- The outcome of a batch that was committed at once.
 use Rattle.std.proofs.Common.{◌≡◌, inl, inr, ℕ, ◌+◌, ◌*◌, ◌^◌, ◌<◌, ◌≤◌, ◌&&◌, nat_le, cond, Bool, true, List, [], length, Option, Some, None, is_some, is_none, Ok, Err, refl, sym, ap, subst, ◌∙◌, arith}
 use Rattle.std.proofs.lemmas.Bool.Decides.{nat_tests}
 use Rattle.std.proofs.lemmas.List.{take_all}
@@ -32,15 +32,15 @@ use Rattle.veb_index.specs.Arrays.{IsIndexOf}
 use Rattle.veb_index.specs.View.{IndexView, fence_of}
 use Rattle.window_tally.specs.View.{TallyView}
 use Rattle.pma_store.specs.declared.answers.Batch.TheVariants.{Full, NoBatch}
-use Rattle.pma_store.specs.declared.judgement.Judged.{Judged}
-use Rattle.pma_store.specs.declared.batch_scan.Look.{Look}
+use Rattle.pma_store.specs.declared.validation.Validated.{Validated}
+use Rattle.pma_store.specs.declared.batch_scan.BatchScan.{BatchScan}
 use Rattle.pma_store.specs.Answers.{state_in}
 use Rattle.pma_store.specs.AtOnce.{CommitsEdits, CommitsFrames, CommitsPages}
 use Rattle.pma_store.specs.Batching.{AppliesBatch, MakesAtOnce, done_by, items_made, map_after_batch, version_of}
 use Rattle.pma_store.specs.BatchCalls.{CallsBatch, LooksOnce}
 use Rattle.pma_store.specs.Changing.{most_written}
 use Rattle.pma_store.specs.Costing.{updates_cost, WritesSome}
-use Rattle.pma_store.specs.Judging.{counts_of as counts_judged, edits_of, judged_of, total}
+use Rattle.pma_store.specs.Validating.{counts_of as counts_validated, edits_of, validated_of, total}
 use Rattle.pma_store.specs.Once.{edited_segments}
 use Rattle.pma_store.specs.Store.{StoreView, Stands, limit_of}
 use Rattle.pma_store.proofs.BatchCalls.{commit_behind, runs_few}
@@ -72,22 +72,22 @@ most_covers l height count n le =
 le_true : (m n : ℕ) → m ≤ n → nat_le m n ≡ true
 le_true m n le = grind (arith, nat_tests)
 
-module _ {a : View} (items : List Update) (s : StoreView) (numbers : List ℕ) (b : Batch) (look : Look) (judged : Judged) (changes : List ItemChange) (ready : IsReadyAtOnce items s numbers b look judged changes a)
-    (law : Lawful a) (version : INTENT_VERSION ≤ version_of s) (judged_is : Told a → Some (counts_judged judged) ≡ judged_of (limit_of s) (map_of a.held) items) (total_is : total judged ≡ length items) where
-  few : look.count ≤ edits_of judged
+module _ {a : View} (items : List Update) (s : StoreView) (numbers : List ℕ) (b : Batch) (look : BatchScan) (validated : Validated) (changes : List ItemChange) (ready : IsReadyAtOnce items s numbers b look validated changes a)
+    (law : Lawful a) (version : INTENT_VERSION ≤ version_of s) (validated_is : Told a → Some (counts_validated validated) ≡ validated_of (limit_of s) (map_of a.held) items) (total_is : total validated ≡ length items) where
+  few : look.count ≤ edits_of validated
   few = ready.fits.few
 
-  all : edits_of judged ≤ length items
+  all : edits_of validated ≤ length items
   all = omega (arith, total_is)
 
   module _ (told : Told a) where
     room : first_full (limit_of s) (map_of a.held) items ≡ None
-    room = (are items s numbers b look judged changes ready told).admitted
+    room = (are items s numbers b look validated changes ready told).admitted
 
-    counts_is : counts_judged judged ≡ count_items (limit_of s) (map_of a.held) items no_items
-    counts_is = some_is (judged_is told ∙ ap (λ (o : Option ℕ). cond (is_some o) None (Some (count_items (limit_of s) (map_of a.held) items no_items))) room)
+    counts_is : counts_validated validated ≡ count_items (limit_of s) (map_of a.held) items no_items
+    counts_is = some_is (validated_is told ∙ ap (λ (o : Option ℕ). cond (is_some o) None (Some (count_items (limit_of s) (map_of a.held) items no_items))) room)
       where
-        some_is : Some (counts_judged judged) ≡ Some (count_items (limit_of s) (map_of a.held) items no_items) → counts_judged judged ≡ count_items (limit_of s) (map_of a.held) items no_items
+        some_is : Some (counts_validated validated) ≡ Some (count_items (limit_of s) (map_of a.held) items no_items) → counts_validated validated ≡ count_items (limit_of s) (map_of a.held) items no_items
         some_is e = cc
 
     accepted : accepts (version_of s) (limit_of s) (map_of a.held) items ≡ true
@@ -99,17 +99,17 @@ module _ {a : View} (items : List Update) (s : StoreView) (numbers : List ℕ) (
     mapped : map_after_batch (version_of s) (limit_of s) (map_of a.held) items ≡ map_after_items (limit_of s) (map_of a.held) items
     mapped = ap (map_after_items (limit_of s) (map_of a.held)) all_items
 
-    charge_is : 2 * edits_of judged ≡ charge_after_items (limit_of s) (state_in s a.held) items
+    charge_is : 2 * edits_of validated ≡ charge_after_items (limit_of s) (state_in s a.held) items
     charge_is =
-        let edits : edits_of judged ≡ edits_in (count_items (limit_of s) (map_of a.held) items no_items) = ap edits_in counts_is in
-        let own = charges_edits (array_of a.held) (limit_of s) (map_of a.held) items no_items ready.intent.distinct (λ k d lt. sym (has_is s a.held (stands items s numbers b look judged changes ready told) _)) in
-        omega (arith, edits, own) ∙ sym (are items s numbers b look judged changes ready told).charge_is
+        let edits : edits_of validated ≡ edits_in (count_items (limit_of s) (map_of a.held) items no_items) = ap edits_in counts_is in
+        let own = charges_edits (array_of a.held) (limit_of s) (map_of a.held) items no_items ready.intent.distinct (λ k d lt. sym (has_is s a.held (stands items s numbers b look validated changes ready told) _)) in
+        omega (arith, edits, own) ∙ sym (are items s numbers b look validated changes ready told).charge_is
 
     cost_covers : 8196 * s.place.layout.format * look.count ≤ updates_cost s.place.layout (state_in s a.held) items
     cost_covers =
-        let edits : edits_of judged ≡ edits_in (count_items (limit_of s) (map_of a.held) items no_items) = ap edits_in counts_is in
-        let own = costs_edits s.place.layout (state_in s a.held) items no_items (holds items s numbers b look judged changes ready told) (balanced items s numbers b look judged changes ready told) room in
-        omega (arith, times_up (8196 * s.place.layout.format) look.count (edits_of judged) few, own, ap (λ (n : ℕ). 8196 * s.place.layout.format * n) edits)
+        let edits : edits_of validated ≡ edits_in (count_items (limit_of s) (map_of a.held) items no_items) = ap edits_in counts_is in
+        let own = costs_edits s.place.layout (state_in s a.held) items no_items (holds items s numbers b look validated changes ready told) (balanced items s numbers b look validated changes ready told) room in
+        omega (arith, times_up (8196 * s.place.layout.format) look.count (edits_of validated) few, own, ap (λ (n : ℕ). 8196 * s.place.layout.format * n) edits)
 
     writes : (c : View) → c.travel.written ≤ a.travel.written + (8196 * s.place.layout.format * look.count + 6) → WritesSome s.place.layout (state_in s a.held) (items_made (version_of s) (limit_of s) (map_of a.held) items) (a.travel.written + 514) c.travel.written
     writes c cost = subst (λ (us : List Update). WritesSome s.place.layout (state_in s a.held) us (a.travel.written + 514) c.travel.written) (sym all_items) (record {
@@ -133,15 +133,15 @@ module _ {a : View} (items : List Update) (s : StoreView) (numbers : List ℕ) (
   once_made steps cost none told =
       let edited = edited_segments (array_of a.held) items in
       record {
-        touched = commit_updates items s numbers b look judged changes ready steps;
+        touched = commit_updates items s numbers b look validated changes ready steps;
         written = omega (arith, cost, times_up (8196 * s.place.layout.format) look.count (length edited) (few_used told));
         unwritten = λ empty. none (omega (arith, few_used told, ap (length {A = ℕ}) empty));
       }
 
   pub not_committed : {c : View} → (fault : disk.Failed) (looked : LooksOnce items s.tally.height a a) → look.count ≤ length looked.looked → (turn : ℕ) → (frames : CommitsFrames s.place look.count (Err fault) b turn a c) → AppliesBatch items (Err Failed) s (record s { turn = turn }) a c
   not_committed {c} fault looked few_looked turn frames = fault_batch items Failed s (record s { turn = turn })
-      (commit_means items s numbers b look judged changes ready law frames.steps (map_after_batch (version_of s) (limit_of s) (map_of a.held) items) mapped)
-      (commit_touches items s numbers b look judged changes ready frames.steps)
+      (commit_means items s numbers b look validated changes ready law frames.steps (map_after_batch (version_of s) (limit_of s) (map_of a.held) items) mapped)
+      (commit_touches items s numbers b look validated changes ready frames.steps)
       refl refl
       (λ told. writes told c frames.cost)
       (omega (arith, frames.cost, most_covers s.place.layout (limit_of s) look.count (length items) (omega (arith, few, all)))) (once_looked looked few_looked few_used frames.calls) (λ told are. once_made frames.steps frames.cost frames.none told)
@@ -152,21 +152,21 @@ module _ {a : View} (items : List Update) (s : StoreView) (numbers : List ℕ) (
     t = record s { tally = tally; index = index; turn = turn }
 
     left : Told a → LeavesBy s.place look.count b a.held c.held
-    left told = leaves_held items s numbers b look judged changes ready law a.held (inl (told, refl)) c.held (commits.frames.steps.held told)
+    left told = leaves_held items s numbers b look validated changes ready law a.held (inl (told, refl)) c.held (commits.frames.steps.held told)
 
     module _ (told : Told a) where
       abbrev next : ArrayState
       next = next_states (limit_of s) (state_in s a.held) items
 
       has : HasState c.held (next_states (limit_of s) (state_in s a.held) items)
-      has = reached items s numbers b look judged changes ready told c.held (left told) (commits.frames.laid told)
+      has = reached items s numbers b look validated changes ready told c.held (left told) (commits.frames.laid told)
 
       header : KeepsHeader a.held c.held
-      header = batch_header a.held c.held (segments_in s.place.layout.format b.numbers) (frame_byte b.slots) (stands items s numbers b look judged changes ready told).balanced.stands.settled.represents.header
-          (lays items s numbers b look judged changes ready told c.held (left told) (commits.frames.laid told))
+      header = batch_header a.held c.held (segments_in s.place.layout.format b.numbers) (frame_byte b.slots) (stands items s numbers b look validated changes ready told).balanced.stands.settled.represents.header
+          (lays items s numbers b look validated changes ready told c.held (left told) (commits.frames.laid told))
 
       edited : AreEdits (limit_of s) (state_in s a.held) items (next_states (limit_of s) (state_in s a.held) items)
-      edited = are items s numbers b look judged changes ready told
+      edited = are items s numbers b look validated changes ready told
 
       map_is : map_of c.held ≡ next.map
       map_is = sym (determined c.held next.map next.height has.represents).0
@@ -180,7 +180,7 @@ module _ {a : View} (items : List Update) (s : StoreView) (numbers : List ℕ) (
       marks_are : tally.marks ≡ next.marks
       marks_are =
           ap (λ (t : TallyView). t.marks) commits.counted
-          ∙ (λ τ. marks_by_changes (sym (tall items s numbers b look judged changes ready told) τ) (changes_are items s numbers b look judged changes ready told τ) s.tally.marks)
+          ∙ (λ τ. marks_by_changes (sym (tall items s numbers b look validated changes ready told) τ) (changes_are items s numbers b look validated changes ready told τ) s.tally.marks)
           ∙ sym edited.marks_are
 
       state_is : state_in t c.held ≡ next
@@ -189,18 +189,18 @@ module _ {a : View} (items : List Update) (s : StoreView) (numbers : List ℕ) (
       counts_after_is : counts_of next.array ≡ tally.counts
       counts_after_is =
           edited.counts_are
-          ∙ (λ τ. counts_by (sym (changes_are items s numbers b look judged changes ready told) τ) (counts_are items s numbers b look judged changes ready told τ))
+          ∙ (λ τ. counts_by (sym (changes_are items s numbers b look validated changes ready told) τ) (counts_are items s numbers b look validated changes ready told τ))
           ∙ sym (ap (λ (t : TallyView). t.counts) commits.counted)
 
       tall_after : next.height ≡ tally.height
-      tall_after = edited.height_is ∙ tall items s numbers b look judged changes ready told ∙ sym commits.sizes.1
+      tall_after = edited.height_is ∙ tall items s numbers b look validated changes ready told ∙ sym commits.sizes.1
 
       -- the fences are those of the new array
       fences_are : IsIndexOf index next.array
       fences_are = record {
-        size = edited.size ∙ size items s numbers b look judged changes ready told ∙ ap (λ (h : ℕ). 2 ^ h) (sym ready.store.index_height ∙ sym commits.index_sizes.1);
+        size = edited.size ∙ size items s numbers b look validated changes ready told ∙ ap (λ (h : ℕ). 2 ^ h) (sym ready.store.index_height ∙ sym commits.index_sizes.1);
         fences = λ i some lt.
-            let old = (stands items s numbers b look judged changes ready told).index in
+            let old = (stands items s numbers b look validated changes ready told).index in
             let inside : i < 2 ^ s.index.height = subst (λ (h : ℕ). i < 2 ^ h) commits.index_sizes.1 lt in
             let there : i < length (array_of a.held) = omega (arith, inside, old.size) in
             elim (member (segments_in s.place.layout.format b.numbers) i) [
@@ -208,11 +208,11 @@ module _ {a : View} (items : List Update) (s : StoreView) (numbers : List ℕ) (
                   let k = named.0 in
                   ap (fence_of index) (sym named.2)
                   ∙ commits.fences.set k (omega (arith, named.1, ready.loaded.count_is)) (omega (arith, named.2, some))
-                  ∙ ap (λ (own : List Record). key_at own 0) ((loads items s numbers b look judged changes ready told).named k named.1 ∙ ap (λ (n : ℕ). edited_by (items_for (array_of a.held) n items) (segment_at (array_of a.held) n)) named.2 ∙ sym (edited.segments_are i there))
+                  ∙ ap (λ (own : List Record). key_at own 0) ((loads items s numbers b look validated changes ready told).named k named.1 ∙ ap (λ (n : ℕ). edited_by (items_for (array_of a.held) n items) (segment_at (array_of a.held) n)) named.2 ∙ sym (edited.segments_are i there))
               | inr none ↦
                   commits.fences.others i (λ k low same. none k (omega (arith, low, ready.loaded.count_is)) same)
                   ∙ old.fences i some inside
-                  ∙ ap (λ (own : List Record). key_at own 0) (sym (edited.segments_are i there ∙ ap (λ (us : List Update). edited_by us (segment_at (array_of a.held) i)) ((loads items s numbers b look judged changes ready told).unnamed i (omega (arith, there, size items s numbers b look judged changes ready told)) none)))
+                  ∙ ap (λ (own : List Record). key_at own 0) (sym (edited.segments_are i there ∙ ap (λ (us : List Update). edited_by us (segment_at (array_of a.held) i)) ((loads items s numbers b look validated changes ready told).unnamed i (omega (arith, there, size items s numbers b look validated changes ready told)) none)))
             ];
       }
 
@@ -223,8 +223,8 @@ module _ {a : View} (items : List Update) (s : StoreView) (numbers : List ℕ) (
             settled = record {
               represents = represents_own c.held next.map next.height has.represents;
               gate_even = λ single. (rests_settled s.place.layout turn c single commits.frames.rests).1 c.held (inl (told_on commits.frames.steps.frame told, refl));
-              layout_is = header.layout_is ∙ same_layout items s numbers b look judged changes ready told;
-              region_is = header.live_is ∙ (stands items s numbers b look judged changes ready told).balanced.stands.settled.region_is;
+              layout_is = header.layout_is ∙ same_layout items s numbers b look validated changes ready told;
+              region_is = header.live_is ∙ (stands items s numbers b look validated changes ready told).balanced.stands.settled.region_is;
             };
             height_is = height_is ∙ tall_after;
             counts_are = ap (λ (h : ℕ). counts_of (array_in c.held h)) (sym tall_after) ∙ ap counts_of has.array_is ∙ counts_after_is;
@@ -234,7 +234,7 @@ module _ {a : View} (items : List Update) (s : StoreView) (numbers : List ℕ) (
         index = subst (IsIndexOf index) (sym array_after) fences_are;
       }
 
-    pub committed : AppliesBatch items (Ok (done_by (counts_judged judged) (2 * edits_of judged))) s (record s { tally = tally; index = index; turn = turn }) a c
+    pub committed : AppliesBatch items (Ok (done_by (counts_validated validated) (2 * edits_of validated))) s (record s { tally = tally; index = index; turn = turn }) a c
     committed = record {
       batch = record {
         answer = λ told.
@@ -243,10 +243,10 @@ module _ {a : View} (items : List Update) (s : StoreView) (numbers : List ℕ) (
         state = λ told. state_is told ∙ sym (ap (λ (b : Bool). cond b (next_states (limit_of s) (state_in s a.held) items) (state_in s a.held)) (accepted told));
         refused = λ refusal. absurd refusal;
         unread = λ e. absurd cc;
-        meant = commit_means items s numbers b look judged changes ready law commits.frames.steps (map_after_batch (version_of s) (limit_of s) (map_of a.held) items) mapped;
-        touched = commit_touches items s numbers b look judged changes ready commits.frames.steps;
+        meant = commit_means items s numbers b look validated changes ready law commits.frames.steps (map_after_batch (version_of s) (limit_of s) (map_of a.held) items) mapped;
+        touched = commit_touches items s numbers b look validated changes ready commits.frames.steps;
         layout = refl;
-        images = omega (arith, commits.frames.cost, images_cover s.place.layout.format look.count (edits_of judged) few);
+        images = omega (arith, commits.frames.cost, images_cover s.place.layout.format look.count (edits_of validated) few);
         cost = λ told. omega (arith, commits.frames.cost, cost_covers told, ap (updates_cost s.place.layout (state_in s a.held)) (all_items told));
         most = λ told. writes told c commits.frames.cost;
         spent = omega (arith, commits.frames.cost, most_covers s.place.layout (limit_of s) look.count (length items) (omega (arith, few, all)));
@@ -259,9 +259,9 @@ module _ {a : View} (items : List Update) (s : StoreView) (numbers : List ℕ) (
       };
       store = stands_again s (record s { tally = tally; index = index; turn = turn }) ready.is.on refl commits.frames.steps.frame
           (each_rest (record s { tally = tally; index = index; turn = turn }) law_c commits.frames.rests (λ told_c. stands_after (told_back commits.frames.steps.frame told_c))) commits.frames.rests;
-      no_intent = commit_idle items s numbers b look judged changes ready commits.frames.steps;
+      no_intent = commit_idle items s numbers b look validated changes ready commits.frames.steps;
       closed = refl;
       damaged = tt;
       counted = tt;
-      failed = no_fault (done_by (counts_judged judged) (2 * edits_of judged));
+      failed = no_fault (done_by (counts_validated validated) (2 * edits_of validated));
     }

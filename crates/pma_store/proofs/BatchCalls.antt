@@ -155,7 +155,7 @@ are_from {a} {b} items s n on same are = record {
 
 -- Whole batches.
 
--- the pages of so many segments make no more runs
+-- the pages of that many segments make no more runs
 pub runs_few : (format : ℕ) (ns : List ℕ) → run_count (pages_of_all format ns) ≤ length ns
 runs_few format [] = omega arith
 runs_few format (n ∷ ns) = omega (arith, run_count_joined (format * n) format (pages_of_all format ns), runs_few format ns, call_few format)

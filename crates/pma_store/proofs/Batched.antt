@@ -1,4 +1,4 @@
--- What a batch comes to, at each way out of the calls that make it.
+-- The outcome of a batch, at each way out of the calls that make it.
 use Rattle.std.proofs.Common.{◌^◌, ◌⊎◌, ◌≡◌, inl, inr, ℕ, ◌+◌, ◌*◌, ◌<◌, ◌≤◌, ◌&&◌, nat_le, cond, Bool, true, false, T, List, [], length, Option, Some, None, is_some, is_none, Result, Ok, Err, refl, sym, ap, subst, ◌∙◌, arith}
 use Rattle.std.specs.Prelude.{IfOk, IsErrOf, IsOk}
 use Rattle.std.proofs.lemmas.Result.{IfOk-weaker, IfErr-weaker, on_ok_weaker}
@@ -28,7 +28,7 @@ use Rattle.pma_store.specs.Batching.{AppliesBatch, MakesAtOnce, IsBatchPlace, Is
 use Rattle.pma_store.specs.BatchCalls.{CallsBatch, CallsIntent, LooksOnce}
 use Rattle.pma_store.specs.Costing.{most_of, updates_cost, WritesSome}
 use Rattle.pma_store.specs.Items.{IsItemPlace, MakesItems}
-use Rattle.pma_store.specs.Judging.{JudgesItems, judged_of}
+use Rattle.pma_store.specs.Validating.{ValidatesItems, validated_of}
 use Rattle.pma_store.specs.Damaging.{IsMetLooking, IsMetMid}
 use Rattle.pma_store.specs.Looking.{TellsOther}
 use Rattle.pma_store.specs.Meaning.{BecomesMeant}
@@ -103,7 +103,7 @@ module _ {a c : View} (items : List Update) (s : StoreView) (law : Lawful a) (is
     unwritten = λ none. unwritten;
   }
 
-  -- the items were judged, and are refused
+  -- the items were validated, and are refused
   pub refused_batch : (done : Batch) → IsRefusal done → (done ≡ NoBatch → (c.travel ≡ a.travel) × (c.calls ≡ a.calls)) → (Told a → accepts (version_of s) (limit_of s) (map_of a.held) items ≡ false)
       → (Told a → done ≡ batch_answer (version_of s) (limit_of s) (state_in s a.held) items) → AppliesBatch items (Ok done) s s a c
   refused_batch done refusal unread refused answer = record {
@@ -150,7 +150,7 @@ no_batch {a} items s is law steps early =
     le_false : (m n : ℕ) → n < m → nat_le m n ≡ false
     le_false m n lt = grind (arith, nat_tests)
 
--- What the judgement tells.
+-- What the validation tells.
 
 le_true : (m n : ℕ) → m ≤ n → nat_le m n ≡ true
 le_true m n le = grind (arith, nat_tests)
@@ -171,30 +171,30 @@ not_none None e = absurd cc
 not_none (Some i) e = refl
 
 -- one of the items meets a full store
-pub full_batch : {a c : View} (items : List Update) (s t : StoreView) (most : ℕ) → IsOpenOn s a → Lawful a → INTENT_VERSION ≤ version_of s → most ≡ upper_of (limit_of s) → JudgesItems items (Ok None) s t a c → AppliesBatch items (Ok (Full most)) s t a c
-full_batch {a} {c} items s t most is law version most_is judges =
+pub full_batch : {a c : View} (items : List Update) (s t : StoreView) (most : ℕ) → IsOpenOn s a → Lawful a → INTENT_VERSION ≤ version_of s → most ≡ upper_of (limit_of s) → ValidatesItems items (Ok None) s t a c → AppliesBatch items (Ok (Full most)) s t a c
+full_batch {a} {c} items s t most is law version most_is validates =
     let at_version = le_true INTENT_VERSION (version_of s) version in
-    let full = λ (told : Told a). none_by (first_full (limit_of s) (map_of a.held) items) (count_items (limit_of s) (map_of a.held) items no_items) (judges.judged told) in
-    subst (λ (t : StoreView). AppliesBatch items (Ok (Full most)) s t a c) (sym judges.store)
-    (refused_batch items s law is judges.steps judges.unwritten judges.looks (Full most) tt (λ e. absurd cc)
+    let full = λ (told : Told a). none_by (first_full (limit_of s) (map_of a.held) items) (count_items (limit_of s) (map_of a.held) items no_items) (validates.validated told) in
+    subst (λ (t : StoreView). AppliesBatch items (Ok (Full most)) s t a c) (sym validates.store)
+    (refused_batch items s law is validates.steps validates.unwritten validates.looks (Full most) tt (λ e. absurd cc)
     (λ told. (λ τ. at_version τ && is_none (first_full (limit_of s) (map_of a.held) items)) ∙ not_none (first_full (limit_of s) (map_of a.held) items) (full told))
     (λ told. ap Full most_is ∙ sym (λ τ. cond (at_version τ) (cond (full told τ) (Full (upper_of (limit_of s))) (done_by (count_items (limit_of s) (map_of a.held) items no_items) (charge_after_items (limit_of s) (state_in s a.held) items))) NoBatch)))
 
 -- the disk failed while the keys were looked for
-pub judging_fails : {a c : View} (items : List Update) (fault : StoreFault) (s t : StoreView) → Lawful a → IsOpenOn s a → JudgesItems items (Err fault) s t a c → AppliesBatch items (Err fault) s t a c
-judging_fails {a} {c} items fault s t law is judges =
+pub validating_fails : {a c : View} (items : List Update) (fault : StoreFault) (s t : StoreView) → Lawful a → IsOpenOn s a → ValidatesItems items (Err fault) s t a c → AppliesBatch items (Err fault) s t a c
+validating_fails {a} {c} items fault s t law is validates =
     fault_batch items fault s t
-    (still_meant items s law is judges.steps judges.unwritten judges.looks (map_after_batch (version_of s) (limit_of s) (map_of a.held) items))
-    (still_touched items s law is judges.steps judges.unwritten judges.looks)
-    (ap (λ (s : StoreView). s.place.layout) judges.store) (ap (λ (s : StoreView). s.closed) judges.store)
-    (λ told. still_written items s law is judges.steps judges.unwritten judges.looks (items_made (version_of s) (limit_of s) (map_of a.held) items) (state_in s a.held))
-    (omega (arith, judges.unwritten)) (look_alone items s judges.looks) (still_once items s law is judges.steps judges.unwritten judges.looks)
-    judges.damaged judges.counted (inr (inl (judges.met, judges.unwritten))) (λ failed. judges.failed (same_fault fault (λ e. e) failed))
+    (still_meant items s law is validates.steps validates.unwritten validates.looks (map_after_batch (version_of s) (limit_of s) (map_of a.held) items))
+    (still_touched items s law is validates.steps validates.unwritten validates.looks)
+    (ap (λ (s : StoreView). s.place.layout) validates.store) (ap (λ (s : StoreView). s.closed) validates.store)
+    (λ told. still_written items s law is validates.steps validates.unwritten validates.looks (items_made (version_of s) (limit_of s) (map_of a.held) items) (state_in s a.held))
+    (omega (arith, validates.unwritten)) (look_alone items s validates.looks) (still_once items s law is validates.steps validates.unwritten validates.looks)
+    validates.damaged validates.counted (inr (inl (validates.met, validates.unwritten))) (λ failed. validates.failed (same_fault fault (λ e. e) failed))
 
--- it was judged, and then run
-pub judged_then : {a b c : View} (items : List Update) (r : Result Batch StoreFault) (s t : StoreView) → IsOpenOn s a → Lawful a → Steps Same a b → b.travel.written ≡ a.travel.written → LooksOnce items s.tally.height a b → CallsBatch items s a c
+-- it was validated, and then run
+pub validated_then : {a b c : View} (items : List Update) (r : Result Batch StoreFault) (s t : StoreView) → IsOpenOn s a → Lawful a → Steps Same a b → b.travel.written ≡ a.travel.written → LooksOnce items s.tally.height a b → CallsBatch items s a c
     → IfOk r (λ done. ¬ IsRefusal done) → AppliesBatch items r s t b c → AppliesBatch items r s t a c
-judged_then {a} {b} {c} items r s t is law first unwritten looks calls some applies =
+validated_then {a} {b} {c} items r s t is law first unwritten looks calls some applies =
     let made = applies.batch in
     let told_on_b = λ (told : Told a). told_on first.frame told in
     record {
@@ -236,11 +236,11 @@ judged_then {a} {b} {c} items r s t is law first unwritten looks calls some appl
       failed = λ is. omega (arith, applies.failed is, first.frame.disk_faults);
     }
 
--- A batch that was judged.
+-- A batch that was validated.
 
-module _ {a b : View} (items : List Update) (s : StoreView) (is : IsOpenOn s a) (law : Lawful a) (some : 1 ≤ length items) (intent : IsIntent items) (fit : T (list_all (fits_item s.place.layout.format) items)) (version : INTENT_VERSION ≤ version_of s) (counts : ItemCounts) (judged : Told a → Some counts ≡ judged_of (limit_of s) (map_of a.held) items) (unfit : Told a → ¬ AreOneCommit s.place.layout (state_in s a.held) items) (writes : Steps (Intends items) a b) where
+module _ {a b : View} (items : List Update) (s : StoreView) (is : IsOpenOn s a) (law : Lawful a) (some : 1 ≤ length items) (intent : IsIntent items) (fit : T (list_all (fits_item s.place.layout.format) items)) (version : INTENT_VERSION ≤ version_of s) (counts : ItemCounts) (validated : Told a → Some counts ≡ validated_of (limit_of s) (map_of a.held) items) (unfit : Told a → ¬ AreOneCommit s.place.layout (state_in s a.held) items) (writes : Steps (Intends items) a b) where
   facts : Told a → (first_full (limit_of s) (map_of a.held) items ≡ None) × (counts ≡ count_items (limit_of s) (map_of a.held) items no_items)
-  facts told = some_by (first_full (limit_of s) (map_of a.held) items) (count_items (limit_of s) (map_of a.held) items no_items) counts (judged told)
+  facts told = some_by (first_full (limit_of s) (map_of a.held) items) (count_items (limit_of s) (map_of a.held) items no_items) counts (validated told)
 
   at_version : nat_le INTENT_VERSION (version_of s) ≡ true
   at_version = le_true INTENT_VERSION (version_of s) version

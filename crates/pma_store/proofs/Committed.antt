@@ -1,4 +1,4 @@
--- A batch that was looked over and then committed, or was judged alone.
+-- A batch that was looked over and then committed, or was validated alone.
 use Rattle.std.proofs.Common.{◌≡◌, ◌⊎◌, inl, inr, ℕ, zero, suc, ◌*◌, ◌^◌, ◌<◌, ◌≤◌, true, false, List, [], ◌∷◌, length, sum, get_or, Option, Some, None, is_some, Ok, Err, refl, sym, ap, subst, ◌∙◌, arith}
 use Rattle.std.specs.Prelude.{is_ok, IfSome}
 use Rattle.std.specs.FinMap.{len}
@@ -20,7 +20,7 @@ use Rattle.header_gate.specs.declared.layout.Layout.{Layout}
 use Rattle.header_gate.specs.Header.{layout_in, IsGatePlace}
 use Rattle.header_gate.specs.Paged.{pages_of_all, segment_image}
 use Rattle.header_gate.specs.Places.{height_limit, pages_at, region_place}
-use Rattle.header_gate.specs.Recovered.{Ascends, IsBatch, IsJournalSound, is_laid, laid_over, live_table, recovered}
+use Rattle.header_gate.specs.Recovered.{Ascends, IsBatch, IsJournalSound, is_laid, replayed_over, live_table, recovered}
 use Rattle.header_gate.proofs.Journals.{sound_alike, sound_on}
 use Rattle.header_gate.proofs.PagedSegments.{length-pages_of_all, pages_batch, pages_fit}
 use Rattle.key_slot.specs.Segment.{segment_bytes}
@@ -53,17 +53,17 @@ use Rattle.redo_journal.proofs.Live.{rest_live, rest_recovers}
 use Rattle.station.specs.View.{View, Told, MayHold, EachHeld, Lawful}
 use Rattle.station.specs.Steps.{Steps}
 use Rattle.station.proofs.Composition.{told_of, weaken, each_on}
-use Rattle.pma_store.specs.declared.judgement.Judged.{Judged}
-use Rattle.pma_store.specs.declared.batch_scan.Look.{Look}
+use Rattle.pma_store.specs.declared.validation.Validated.{Validated}
+use Rattle.pma_store.specs.declared.batch_scan.BatchScan.{BatchScan}
 use Rattle.pma_store.specs.AtOnce.{CommitsPages, FitsCommit}
 use Rattle.pma_store.specs.Answers.{state_in}
 use Rattle.pma_store.specs.Batching.{IsBatchPlace}
-use Rattle.pma_store.specs.Judging.{AreAllFound, AreFoundAt, JudgesItems, counts_in, found_in, judged_of}
+use Rattle.pma_store.specs.Validating.{AreAllFound, AreFoundAt, ValidatesItems, counts_in, found_in, validated_of}
 use Rattle.pma_store.specs.Looked.{AreLoaded, BelongThere, HasLooked, LoadsEdits, LooksOver}
 use Rattle.pma_store.specs.Meaning.{BecomesMeant}
 use Rattle.pma_store.specs.Once.{AreUsed}
 use Rattle.pma_store.specs.Store.{StoreView, IsStore, Stands, StandsOn, IsOpenOn, limit_of}
-use Rattle.pma_store.proofs.LookLaws.{count_lists}
+use Rattle.pma_store.proofs.BatchScanLaws.{count_lists}
 use Rattle.pma_store.proofs.Making.{no_fault, same_fault, stands_there, found_within}
 use Rattle.pma_store.proofs.Moments.{keeps_idle, meant_idle, update_apart}
 use Rattle.pma_store.proofs.Outcomes.{records_are}
@@ -71,27 +71,27 @@ use Rattle.pma_store.proofs.Rewriting.{named_inside}
 use Rattle.pma_store.proofs.Standing.{array_is, rows_ascend, value_there, size_is}
 use Rattle.pma_store.proofs.Touching.{moves_layout, moves_touch, wider}
 
--- Judged alone.
+-- Validated alone.
 
 -- a key is found in its segment as the map has it
-pub found_at : (s : StoreView) (image : List ℕ) (numbers : List ℕ) (items : List Update) (b : Batch) (look : Look) (from : ℕ) → Stands s image → length numbers ≡ length items → BelongThere (array_of image) numbers items → ((k : ℕ) → k < length numbers → get_or numbers k 0 < from)
+pub found_at : (s : StoreView) (image : List ℕ) (numbers : List ℕ) (items : List Update) (b : Batch) (look : BatchScan) (from : ℕ) → Stands s image → length numbers ≡ length items → BelongThere (array_of image) numbers items → ((k : ℕ) → k < length numbers → get_or numbers k 0 < from)
     → HasLooked s.place.layout.format (array_of image) numbers items b look from → AreFoundAt look.found items (map_of image)
 found_at s image numbers items b look from stands size belong within looked k d lt =
     (looked.found k d lt (within k (omega (arith, lt, size)))).present
     ∙ ap (λ (i : ℕ). is_some (value_of (key_of (get_or items k d)) (segment_at (array_of image) i))) (belong k d lt)
     ∙ ap is_some (value_there s image stands (key_of (get_or items k d)))
 
--- what a look and its judgement come to
-module _ {a c : View} (items : List Update) (s : StoreView) (numbers : List ℕ) (b : Batch) (look : Look) (on : StandsOn s a) (size : length numbers ≡ length items) (belong : Told a → BelongThere (array_of a.held) numbers items)
+-- what a look and its validation come to
+module _ {a c : View} (items : List Update) (s : StoreView) (numbers : List ℕ) (b : Batch) (look : BatchScan) (on : StandsOn s a) (size : length numbers ≡ length items) (belong : Told a → BelongThere (array_of a.held) numbers items)
     (within : (k : ℕ) → k < length numbers → get_or numbers k 0 < 2 ^ s.tally.height) (looks : LooksOver s.place s.tally numbers items (Ok tt) b look a c) where
   pub found_before : Told a → AreFoundAt look.found items (map_of a.held)
   found_before told = found_at s a.held numbers items b look (2 ^ s.tally.height) (stands_there s on told) size (belong told) within (looks.looked told)
 
-  pub judges : (records most : ℕ) (o : Option Judged) → most ≡ upper_of (limit_of s) → records ≡ sum s.tally.counts
-      → ((hmax : ℕ) (m : Map) → most ≡ upper_of hmax → records ≡ len m → AreFoundAt look.found items m → counts_in o ≡ judged_of hmax m items)
-      → IfSome o (λ judged. (k : ℕ) → k < length items → get_or judged.found k false ≡ is_ok (get_or look.found k (Err 0))) → JudgesItems items (Ok o) s s a c
-  judges records most o most_is records_is judged found = record {
-    judged = λ told. judged (limit_of s) (map_of a.held) most_is (records_is ∙ records_are s a.held (stands_there s on told)) (found_before told);
+  pub validates : (records most : ℕ) (o : Option Validated) → most ≡ upper_of (limit_of s) → records ≡ sum s.tally.counts
+      → ((hmax : ℕ) (m : Map) → most ≡ upper_of hmax → records ≡ len m → AreFoundAt look.found items m → counts_in o ≡ validated_of hmax m items)
+      → IfSome o (λ validated. (k : ℕ) → k < length items → get_or validated.found k false ≡ is_ok (get_or look.found k (Err 0))) → ValidatesItems items (Ok o) s s a c
+  validates records most o most_is records_is validated found = record {
+    validated = λ told. validated (limit_of s) (map_of a.held) most_is (records_is ∙ records_are s a.held (stands_there s on told)) (found_before told);
     found = λ told. all_found o found told;
     store = refl;
     steps = looks.steps;
@@ -103,14 +103,14 @@ module _ {a c : View} (items : List Update) (s : StoreView) (numbers : List ℕ)
     failed = no_fault o;
   }
     where
-      all_found : (o : Option Judged) → IfSome o (λ judged. (k : ℕ) → k < length items → get_or judged.found k false ≡ is_ok (get_or look.found k (Err 0))) → Told a → AreAllFound (found_in o) items (map_of a.held)
+      all_found : (o : Option Validated) → IfSome o (λ validated. (k : ℕ) → k < length items → get_or validated.found k false ≡ is_ok (get_or look.found k (Err 0))) → Told a → AreAllFound (found_in o) items (map_of a.held)
       all_found None found told = tt
       all_found (Some j) found told = λ k lt d. found k lt ∙ found_before told k d lt
 
 -- the disk failed, or a segment was found damaged
-pub looks_fail : {a c : View} (items : List Update) (fault : StoreFault) (s : StoreView) (numbers : List ℕ) (b : Batch) (look : Look) → s.tally.height ≤ limit_of s → LooksOver s.place s.tally numbers items (Err fault) b look a c → JudgesItems items (Err fault) s s a c
+pub looks_fail : {a c : View} (items : List Update) (fault : StoreFault) (s : StoreView) (numbers : List ℕ) (b : Batch) (look : BatchScan) → s.tally.height ≤ limit_of s → LooksOver s.place s.tally numbers items (Err fault) b look a c → ValidatesItems items (Err fault) s s a c
 looks_fail items fault s numbers b look tall looks = record {
-  judged = tt;
+  validated = tt;
   found = tt;
   store = refl;
   steps = looks.steps;
@@ -125,7 +125,7 @@ looks_fail items fault s numbers b look tall looks = record {
 -- Committed.
 
 -- A file that was looked over for items which fit one commit. The view is that before the commit.
-pub record IsReadyAtOnce (items : List Update) (s : StoreView) (numbers : List ℕ) (b : Batch) (look : Look) (judged : Judged) (changes : List ItemChange) (a : View) : Type 0 where
+pub record IsReadyAtOnce (items : List Update) (s : StoreView) (numbers : List ℕ) (b : Batch) (look : BatchScan) (validated : Validated) (changes : List ItemChange) (a : View) : Type 0 where
   pub is : IsOpenOn s a
   pub store : IsStore s
   pub intent : IsIntent items
@@ -134,7 +134,7 @@ pub record IsReadyAtOnce (items : List Update) (s : StoreView) (numbers : List �
   pub used : Told a → AreUsed s.place.layout (array_of a.held) items b look.whole
   pub belong : Told a → BelongThere (array_of a.held) numbers items
   pub journal : b.journal ≡ s.place.layout.journal
-  pub fits : FitsCommit numbers items look judged s.tally changes
+  pub fits : FitsCommit numbers items look validated s.tally changes
 
 -- a store stands for an image without an intent
 abbrev Stood : StoreView → List ℕ → Type 0
@@ -156,7 +156,7 @@ member (n ∷ ns) i = elim (cases_eq n i) [
     none_of other none (suc k) lt same = none k (omega (arith, lt)) same
 
 -- the frames' segments, with the images that they hold, are the edits of the items
-lays_edits : (format : ℕ) (segments : Array) (items : List Update) (b : Batch) (look : Look) (from : ℕ) → AreLoaded format b look from → length segments ≡ from → LoadsEdits format segments items b from → LaysEdits format segments items (segments_in format b.numbers) (frame_byte b.slots)
+lays_edits : (format : ℕ) (segments : Array) (items : List Update) (b : Batch) (look : BatchScan) (from : ℕ) → AreLoaded format b look from → length segments ≡ from → LoadsEdits format segments items b from → LaysEdits format segments items (segments_in format b.numbers) (frame_byte b.slots)
 lays_edits format segments items b look from loaded size loads = record {
   inside = λ k lt. omega (arith, loaded.below k (omega (arith, lt, loaded.count_is)), size);
   named = λ k lt.
@@ -171,14 +171,14 @@ lays_edits format segments items b look from loaded size loads = record {
   unnamed = λ i lt none. loads.unnamed i (omega (arith, lt, size)) none;
 }
 
--- What the commit of the pages of so many segments leaves of an image: it recovers to all of the batch or to nothing of it, and
+-- What the commit of the pages of that many segments leaves of an image: it recovers to all of the batch or to nothing of it, and
 -- a journal that is to be laid is that of the batch, or what it was; where there are none, it is what it was.
 pub record LeavesBy (place : Place) (count : ℕ) (b : Batch) (start image : List ℕ) : Type 0 where
-  pub whole : (recovered place.layout image ≡ recovered place.layout start) ⊎ (recovered place.layout image ≡ laid_over place.layout place.region b.numbers (frame_byte b.slots) (recovered place.layout start))
+  pub whole : (recovered place.layout image ≡ recovered place.layout start) ⊎ (recovered place.layout image ≡ replayed_over place.layout place.region b.numbers (frame_byte b.slots) (recovered place.layout start))
   pub table : is_laid place.layout image ≡ true → (live_table place.layout image ≡ b.numbers) ⊎ ((is_laid place.layout start ≡ true) × (live_table place.layout image ≡ live_table place.layout start))
   pub none : count ≡ 0 → is_laid place.layout image ≡ true → (is_laid place.layout start ≡ true) × (live_table place.layout image ≡ live_table place.layout start)
 
-module _ {a : View} (items : List Update) (s : StoreView) (numbers : List ℕ) (b : Batch) (look : Look) (judged : Judged) (changes : List ItemChange) (ready : IsReadyAtOnce items s numbers b look judged changes a) where
+module _ {a : View} (items : List Update) (s : StoreView) (numbers : List ℕ) (b : Batch) (look : BatchScan) (validated : Validated) (changes : List ItemChange) (ready : IsReadyAtOnce items s numbers b look validated changes a) where
   abbrev l : Layout
   l = s.place.layout
 
@@ -237,7 +237,7 @@ module _ {a : View} (items : List Update) (s : StoreView) (numbers : List ℕ) (
       record {
         whole = elim step.commits.whole [
           | inl same ↦ inl (same ∙ recovers)
-          | inr laid ↦ inr (laid ∙ ap (laid_over s.place.layout s.place.region b.numbers (frame_byte b.slots)) recovers)
+          | inr laid ↦ inr (laid ∙ ap (replayed_over s.place.layout s.place.region b.numbers (frame_byte b.slots)) recovers)
         ];
         table = λ laid. elim (step.commits.table laid) [
           | inl is ↦ inl is
@@ -324,7 +324,7 @@ module _ {a : View} (items : List Update) (s : StoreView) (numbers : List ℕ) (
           ] in
           subst (λ (l : Layout). IsJournalSound l (height_of a.held) i) (sym same_layout) (subst (λ (h : ℕ). IsJournalSound s.place.layout h i) (sym tall) own)
 
-      module _ (laid : recovered s.place.layout i ≡ laid_over s.place.layout s.place.region b.numbers (frame_byte b.slots) (recovered s.place.layout a.held)) where
+      module _ (laid : recovered s.place.layout i ≡ replayed_over s.place.layout s.place.region b.numbers (frame_byte b.slots) (recovered s.place.layout a.held)) where
         pub lays : LaysBatch (segments_in s.place.layout.format b.numbers) (frame_byte b.slots) a.held i
         lays = record {
           ascends = ascends;
@@ -332,8 +332,8 @@ module _ {a : View} (items : List Update) (s : StoreView) (numbers : List ℕ) (
           recovers =
               ap (λ (l : Layout). recovered l i) same_layout
               ∙ laid
-              ∙ ap (λ (pages : List ℕ). laid_over s.place.layout s.place.region pages (frame_byte b.slots) (recovered s.place.layout a.held)) ready.loaded.held.pages
-              ∙ sym (λ t. laid_over (same_layout t) (stands.balanced.stands.settled.region_is t) (pages_of_all (same_layout t).format ns) (frame_byte b.slots) (recovered (same_layout t) a.held));
+              ∙ ap (λ (pages : List ℕ). replayed_over s.place.layout s.place.region pages (frame_byte b.slots) (recovered s.place.layout a.held)) ready.loaded.held.pages
+              ∙ sym (λ t. replayed_over (same_layout t) (stands.balanced.stands.settled.region_is t) (pages_of_all (same_layout t).format ns) (frame_byte b.slots) (recovered (same_layout t) a.held));
         }
 
         pub reached : HasState i (next_states (limit_of s) (state_in s a.held) items)

@@ -3,8 +3,8 @@ use Rattle.std.proofs.Common.{◌≡◌, ℕ, ◌+◌, ◌<◌, Bool, true, List
 use Rattle.std.proofs.lemmas.Bool.{cases_lt}
 use Rattle.std.proofs.lemmas.List.{ext_get_or}
 use Rattle.header_gate.specs.declared.layout.Layout.{Layout}
-use Rattle.header_gate.specs.Recovered.{Ascends, laid_over}
-use Rattle.header_gate.proofs.RecoveredBytes.{length-laid_over, byte-laid_over}
+use Rattle.header_gate.specs.Recovered.{Ascends, replayed_over}
+use Rattle.header_gate.proofs.RecoveredBytes.{length-replayed_over, byte-replayed_over}
 use Rattle.map_model.specs.Array.{segment_at}
 use Rattle.redo_journal.specs.Frames.{Batch}
 use Rattle.segment.specs.Rows.{key_at}
@@ -18,11 +18,11 @@ not_false b e = e
 pub fits_is : (a b : Bool) → a ≡ b → a ≡ true → b ≡ true
 fits_is a b same is = sym same ∙ is
 
--- no image is laid over a file
-pub laid_nothing : (l : Layout) (region : ℕ) (image : ℕ → ℕ → ℕ) (file : List ℕ) → laid_over l region [] image file ≡ file
+-- no image is replayed over a file
+pub laid_nothing : (l : Layout) (region : ℕ) (image : ℕ → ℕ → ℕ) (file : List ℕ) → replayed_over l region [] image file ≡ file
 laid_nothing l region image file =
-    let size = length-laid_over l region [] image file in
-    ext_get_or 0 (laid_over l region [] image file) file size (λ p lt. byte-laid_over l region [] image file p (omega (arith, lt, size)))
+    let size = length-replayed_over l region [] image file in
+    ext_get_or 0 (replayed_over l region [] image file) file size (λ p lt. byte-replayed_over l region [] image file p (omega (arith, lt, size)))
 
 -- One fence more.
 

@@ -1,4 +1,4 @@
--- What the making of one item comes to.
+-- The outcome of the making of one item.
 use Rattle.std.proofs.Common.{rules, ◌≡◌, ℕ, ◌+◌, ◌*◌, ◌≤◌, T, List, Result, Ok, Err, is_ok, sym, ap, subst, ◌∙◌, arith}
 use Rattle.std.specs.Prelude.{IsTrue}
 use Rattle.std.specs.FinMap.{contains_key}
@@ -14,13 +14,13 @@ use Rattle.map_model.specs.Image.{array_of, map_of}
 use Rattle.map_model.specs.Store.{Update, bind, unbind, key_of}
 use Rattle.segment.specs.declared.fault.StoreFault.{StoreFault}
 use Rattle.pma_store.specs.declared.answers.Report.{Report}
-use Rattle.pma_store.specs.declared.update.Spot.{Spot}
+use Rattle.pma_store.specs.declared.update.Location.{Location}
 use Rattle.pma_store.specs.declared.answers.Outcome.{Outcome}
 use Rattle.pma_store.specs.Changing.{update_cost}
 use Rattle.pma_store.specs.Charging.{changes, charge_told}
 use Rattle.pma_store.specs.Items.{MakesItem}
 use Rattle.pma_store.specs.Makes.{AppliesUpdate}
-use Rattle.pma_store.specs.Spots.{FindsSpot, IsSpot}
+use Rattle.pma_store.specs.Locations.{FindsLocation, IsLocation}
 use Rattle.pma_store.specs.Store.{StoreView, IsStore, StandsOn, limit_of}
 use Rattle.pma_store.specs.Updating.{FitsFormat}
 use Rattle.pma_store.proofs.Charged.{charged, cost_told, effect_is, unchanged_is, written_changed, written_images}
@@ -37,13 +37,13 @@ fits_format f (bind key value) fits = true_of (is_record f (key, value)) fits
     true_of b t = search rules
 fits_format f (unbind key) fits = tt
 
--- the key of a spot is there as the map has it
-pub looked : {a b c : View} (s t next : StoreView) (u : Update) (spot : Spot) (rows : List Record) → StandsOn s a → Lawful a → t ≡ s → Steps Same a b → FindsSpot u (Ok spot) t next rows b c → Told a → is_ok spot.found ≡ contains_key (map_of a.held) (key_of u)
-looked {a} {b} s t next u spot rows on law same ab found told =
+-- the key of a location is there as the map has it
+pub looked : {a b c : View} (s t next : StoreView) (u : Update) (location : Location) (rows : List Record) → StandsOn s a → Lawful a → t ≡ s → Steps Same a b → FindsLocation u (Ok location) t next rows b c → Told a → is_ok location.found ≡ contains_key (map_of a.held) (key_of u)
+looked {a} {b} s t next u location rows on law same ab found told =
     let told_b = told_on ab.frame told in
     let stands = stands_there s (stands_on s law on ab) told_b in
-    let is_spot : IsSpot u s spot rows = subst (λ (v : StoreView). IsSpot u v spot rows) (found.store ∙ same) found.spot in
-    sym (present_in s b.held stands u spot rows is_spot (found.own told_b)) ∙ has_is s b.held stands (key_of u) ∙ ap (λ (x : List ℕ). contains_key (map_of x) (key_of u)) (ab.held told)
+    let is_location : IsLocation u s location rows = subst (λ (v : StoreView). IsLocation u v location rows) (found.store ∙ same) found.location in
+    sym (present_in s b.held stands u location rows is_location (found.own told_b)) ∙ has_is s b.held stands (key_of u) ∙ ap (λ (x : List ℕ). contains_key (map_of x) (key_of u)) (ab.held told)
 
 -- a store is no higher than it may be
 pub tall_of : (s : StoreView) → IsStore s → s.tally.height ≤ limit_of s
@@ -99,8 +99,8 @@ failed_item u fault s t sound applied met = record {
   failed = λ failed. applied.failed (same_fault fault (λ e. e) failed);
 }
 
--- one whose spot wasn't found
-pub unfound_item : {a b : View} (u : Update) (fault : StoreFault) (s t : StoreView) (rows : List Record) → IsStore s → FindsSpot u (Err fault) s t rows a b → MakesItem u (Err fault) s t a b
+-- one whose location wasn't found
+pub unfound_item : {a b : View} (u : Update) (fault : StoreFault) (s t : StoreView) (rows : List Record) → IsStore s → FindsLocation u (Err fault) s t rows a b → MakesItem u (Err fault) s t a b
 unfound_item u fault s t rows sound found = record {
   state = tt;
   charge = tt;
@@ -120,6 +120,6 @@ unfound_item u fault s t rows sound found = record {
   failed = λ failed. found.failed (same_fault fault (λ e. e) failed);
 }
 
--- behind the finding of its spot
-pub applied_behind : {a b c : View} (u : Update) (spot : Spot) (r : Result (Outcome × Report) StoreFault) (s t next : StoreView) (rows : List Record) → FindsSpot u (Ok spot) s t rows a b → AppliesUpdate u r t next b c → AppliesUpdate u r s next a c
-applied_behind {a} {b} {c} u spot r s t next rows found applied = applies_behind u r s next found.steps found.unwritten (subst (λ (v : StoreView). AppliesUpdate u r v next b c) found.store applied)
+-- behind the finding of its location
+pub applied_behind : {a b c : View} (u : Update) (location : Location) (r : Result (Outcome × Report) StoreFault) (s t next : StoreView) (rows : List Record) → FindsLocation u (Ok location) s t rows a b → AppliesUpdate u r t next b c → AppliesUpdate u r s next a c
+applied_behind {a} {b} {c} u location r s t next rows found applied = applies_behind u r s next found.steps found.unwritten (subst (λ (v : StoreView). AppliesUpdate u r v next b c) found.store applied)

@@ -31,7 +31,7 @@ use Rattle.pma_store.specs.Calling.{asked_calls}
 use Rattle.pma_store.specs.Changing.{most_written}
 use Rattle.pma_store.specs.Costing.{most_of, update_cost_in, updates_cost, WritesSome}
 use Rattle.pma_store.specs.Items.{IsAsFound, IsItemPlace, MakesItem, MakesItems}
-use Rattle.pma_store.specs.Judging.{AreAllFound, found_at}
+use Rattle.pma_store.specs.Validating.{AreAllFound, found_at}
 use Rattle.pma_store.specs.Looking.{TellsOther}
 use Rattle.pma_store.specs.Meaning.{MeansNow}
 use Rattle.pma_store.specs.Store.{StoreView, Stands, StandsOn, limit_of}

@@ -13,7 +13,7 @@ use Rattle.one_commit.specs.Fitting.{change_before, changes_in, is_put, with_cha
 use Rattle.segment.specs.Rows.{key_at}
 use Rattle.pma_store.specs.Looked.{BelongThere, HasFound}
 use Rattle.pma_store.specs.Own.{FindsIn}
-use Rattle.pma_store.proofs.LookLaws.{before_last, last_there, one_longer}
+use Rattle.pma_store.proofs.BatchScanLaws.{before_last, last_there, one_longer}
 
 before_more : (b : Bool) (segments : Array) (u : Update) (more rest : List ItemChange) → change_before b segments u (more ++ rest) ≡ change_before b segments u more ++ rest
 before_more true segments (bind key value) more rest = refl

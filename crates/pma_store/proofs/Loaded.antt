@@ -22,7 +22,7 @@ use Rattle.segment_frames.proofs.Grouped.{frames_at, grouped_same, length-frames
 use Rattle.segment_frames.proofs.PageNumbers.{pages_back, whole_pages}
 use Rattle.segment_frames.proofs.Slots.{splice_before, splice_inside}
 use Rattle.raw_slots.proofs.Runs.{length-splice}
-use Rattle.pma_store.specs.declared.batch_scan.Look.{Look}
+use Rattle.pma_store.specs.declared.batch_scan.BatchScan.{BatchScan}
 use Rattle.pma_store.specs.Looked.{AreLoaded}
 
 -- The pages of the batch so far lie below those of a segment above its segments.
@@ -119,7 +119,7 @@ module _ (format : ℕ) (b : Batch) (f segment : ℕ) (rows : List Record) (writ
   }
 
 -- frames that note another gate hold the same
-pub loaded_turned : (format : ℕ) (b : Batch) (look : Look) (from turn : ℕ) → turn < 2 → AreLoaded format b look from → AreLoaded format (record b { turn = turn }) look from
+pub loaded_turned : (format : ℕ) (b : Batch) (look : BatchScan) (from turn : ℕ) → turn < 2 → AreLoaded format b look from → AreLoaded format (record b { turn = turn }) look from
 loaded_turned format b look from turn small is = record {
   held = held_turned format turn b small is.held;
   count_is = is.count_is;

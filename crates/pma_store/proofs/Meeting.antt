@@ -1,4 +1,4 @@
--- What an update meets, from the finding of its spot on.
+-- What an update meets, from the finding of its location on.
 use Rattle.std.proofs.Common.{◌≡◌, inl, inr, ℕ, zero, suc, ◌+◌, ◌^◌, ◌<◌, ◌≤◌, [], ◌∷◌, length, take, get_or, Bool, true, false, List, Result, Ok, Err, refl, sym, ap, subst, ◌∙◌, arith}
 use Rattle.std.specs.Prelude.{IfErr, IsSome}
 use Rattle.std.proofs.lemmas.List.{get_or_default}
@@ -14,7 +14,7 @@ use Rattle.header_gate.specs.Places.{segment_place, segment_size}
 use Rattle.redo_journal.specs.declared.place.Place.{Place}
 use Rattle.range_scan.specs.Faults.{IsDamageAt}
 use Rattle.pma_store.specs.declared.answers.Report.{Report}
-use Rattle.pma_store.specs.declared.update.Spot.{Spot}
+use Rattle.pma_store.specs.declared.update.Location.{Location}
 use Rattle.pma_store.specs.declared.update.Need.TheVariants as need
 use Rattle.pma_store.specs.declared.answers.Outcome.{Outcome}
 use Rattle.pma_store.specs.declared.answers.Outcome.TheVariants.{Unchanged, Replaced, Changed}
@@ -25,12 +25,12 @@ use Rattle.pma_store.specs.Calling.{commit_calls, update_calls}
 use Rattle.pma_store.specs.Damaging.{AreNextTallies, IsMetBehind, IsMetLate, IsMetMid, IsNextTally, IsOrderly, MeetsItem, UpdatesAt, UpdatesIn, change_in, moved, picked, report_at}
 use Rattle.pma_store.specs.Readying.{broken_in, readied, resizes}
 use Rattle.pma_store.specs.Rewrites.{commit_cost}
-use Rattle.pma_store.specs.Spots.{FindsSpot}
+use Rattle.pma_store.specs.Locations.{FindsLocation}
 use Rattle.pma_store.specs.Store.{StoreView}
 use Rattle.pma_store.specs.Touching.{place_after}
 
--- the spot is looked for again, once what was asked for is done
-pub found_behind : {a b : View} (change : Change) (i : ℕ) (s mid t : StoreView) (u : Update) (r : Result Spot StoreFault) (rows : List Record) → FindsSpot u r mid t rows a b
+-- the location is looked for again, once what was asked for is done
+pub found_behind : {a b : View} (change : Change) (i : ℕ) (s mid t : StoreView) (u : Update) (r : Result Location StoreFault) (rows : List Record) → FindsLocation u r mid t rows a b
     → IsSome (broken_in change i s.tally) → mid.tally ≡ readied change i s.tally → mid.place ≡ place_after (resizes (picked change i s.tally)) s.place → IfErr r (λ fault. IsMetLate change i s t fault b)
 found_behind {a} {b} change i s mid t u r rows found asks tally place = IfErr-weaker r _ _ (λ fault damage. inr (inr (subst (λ (v : StoreView). IsMetBehind change i s v fault b) (sym found.store) (record {
   asks = asks;
@@ -42,8 +42,8 @@ found_behind {a} {b} change i s mid t u r rows found asks tally place = IfErr-we
   last = ap (λ (t : Travel). t.next) found.read;
 })))) found.damage
 
--- the spot isn't found
-pub first_met : {T : Type 0} {a b : View} (u : Update) (fault : StoreFault) (changed_in : T → Bool) (report_in : T → Report) (s t : StoreView) (rows : List Record) → FindsSpot u (Err fault) s t rows a b → IsOrderly fault → UpdatesAt u (Err fault) changed_in report_in s t a b
+-- the location isn't found
+pub first_met : {T : Type 0} {a b : View} (u : Update) (fault : StoreFault) (changed_in : T → Bool) (report_in : T → Report) (s t : StoreView) (rows : List Record) → FindsLocation u (Err fault) s t rows a b → IsOrderly fault → UpdatesAt u (Err fault) changed_in report_in s t a b
 first_met u fault changed_in report_in s t rows found orderly = record {
   at = found.at;
   within = found.at_in;
@@ -58,7 +58,7 @@ first_met u fault changed_in report_in s t rows found orderly = record {
 }
 
 -- the update is made where it was found
-module _ {T : Type 0} {a b c : View} (u : Update) (spot : Spot) (r : Result T StoreFault) (changed_in : T → Bool) (report_in : T → Report) (s mid t : StoreView) (rows : List Record) (found : FindsSpot u (Ok spot) s mid rows a b) (updates : UpdatesIn (change_in u) spot.segment r changed_in report_in mid t b c) where
+module _ {T : Type 0} {a b c : View} (u : Update) (location : Location) (r : Result T StoreFault) (changed_in : T → Bool) (report_in : T → Report) (s mid t : StoreView) (rows : List Record) (found : FindsLocation u (Ok location) s mid rows a b) (updates : UpdatesIn (change_in u) location.segment r changed_in report_in mid t b c) where
   updates_at : UpdatesIn (change_in u) found.at r changed_in report_in s t b c
   updates_at = subst (λ (v : StoreView). UpdatesIn (change_in u) found.at r changed_in report_in v t b c) found.store (subst (λ (i : ℕ). UpdatesIn (change_in u) i r changed_in report_in mid t b c) found.at_is updates)
 
@@ -164,7 +164,7 @@ replaced_within u there i s t asks same few cost = record { report = ap (λ (b :
 
 -- An item.
 
-pub item_unfound : {T : Type 0} {a b : View} (u : Update) (fault : StoreFault) (s t : StoreView) (rows : List Record) → FindsSpot u (Err fault) s t rows a b → MeetsItem {T = T} u (Err fault) s t a b
+pub item_unfound : {T : Type 0} {a b : View} (u : Update) (fault : StoreFault) (s t : StoreView) (rows : List Record) → FindsLocation u (Err fault) s t rows a b → MeetsItem {T = T} u (Err fault) s t a b
 item_unfound u fault s t rows found = record {
   at = found.at;
   within = found.at_in;

@@ -25,12 +25,12 @@ use Rattle.segment_frames.specs.Lists.{most_segments, segments_in, IsHeld}
 use Rattle.segment_frames.proofs.PageNumbers.{segments_ascend}
 use Rattle.window_tally.specs.Choice.{adds}
 use Rattle.window_tally.specs.declared.Change.TheVariants.{Add, Take}
-use Rattle.pma_store.specs.declared.batch_scan.Look.{Look}
+use Rattle.pma_store.specs.declared.batch_scan.BatchScan.{BatchScan}
 use Rattle.pma_store.specs.Looked.{AreLoaded, BelongThere, LacksRoom}
 use Rattle.pma_store.specs.Once.{AreUsed, IsEdited, IsShort, edited_segments, stands_in, with_number}
 use Rattle.pma_store.specs.Own.{edits_by, own_items, FindsIn, HasEdit}
 use Rattle.pma_store.proofs.BatchCalls.{no_more}
-use Rattle.pma_store.proofs.LookLaws.{before_last, found_there, last_there, one_longer}
+use Rattle.pma_store.proofs.BatchScanLaws.{before_last, found_there, last_there, one_longer}
 use Rattle.pma_store.proofs.OwnEdits.{own_edits}
 use Rattle.pma_store.proofs.Written.{most_there, some_there, tall_by}
 
@@ -244,7 +244,7 @@ has_edited segments numbers items n own new some ascends distinct size belong ow
 }
 
 module _ (l : Layout) (segments : Array) (numbers : List ℕ) (items : List Update) (ascends : IsAscending (rows segments)) (distinct : are_distinct items ≡ true) (few : length items ≤ 16) (size : length numbers ≡ length items) (belong : BelongThere segments numbers items)
-    (n : ℕ) (inside : n < length segments) (own : List Record) (own_is : own ≡ segment_at segments n) (b : Batch) (look : Look) (loaded : AreLoaded l.format b look n) (edited : IsEdited segments items n) where
+    (n : ℕ) (inside : n < length segments) (own : List Record) (own_is : own ≡ segment_at segments n) (b : Batch) (look : BatchScan) (loaded : AreLoaded l.format b look n) (edited : IsEdited segments items n) where
   some : 0 < length segments
   some = omega (arith, inside)
 

@@ -1,4 +1,4 @@
--- Nothing is pending behind a store, and no page is to be laid over its live region.
+-- Nothing is pending behind a store, and no page is to be replayed over its live region.
 use Rattle.std.proofs.Common.{◌≡◌, inl, ℕ, ap, Result, Ok, Err, refl, sym, subst, ◌∙◌}
 use Rattle.std.specs.Prelude.{OnOk, IfErr, is_err}
 use Rattle.station.specs.Bytes.{Touched}

@@ -8,11 +8,11 @@ use Rattle.map_model.specs.Store.{Update}
 use Rattle.one_commit.specs.Editing.{charge_by}
 use Rattle.one_commit.specs.Fitting.{changes_in, fit_one_commit}
 use Rattle.redo_journal.specs.Frames.{Batch}
-use Rattle.pma_store.specs.declared.judgement.Judged.{Judged}
-use Rattle.pma_store.specs.declared.batch_scan.Look.{Look}
+use Rattle.pma_store.specs.declared.validation.Validated.{Validated}
+use Rattle.pma_store.specs.declared.batch_scan.BatchScan.{BatchScan}
 use Rattle.pma_store.specs.Answers.{state_in}
 use Rattle.pma_store.specs.AtOnce.{IsUnfit}
-use Rattle.pma_store.specs.Judging.{counts_of as counts_judged, edits_of, judged_of}
+use Rattle.pma_store.specs.Validating.{counts_of as counts_validated, edits_of, validated_of}
 use Rattle.pma_store.specs.Looked.{AreLoaded, BelongThere, HasLooked}
 use Rattle.pma_store.specs.Once.{AreOneCommit, AreUsed}
 use Rattle.pma_store.specs.Store.{StoreView, Stands, limit_of}
@@ -21,24 +21,24 @@ use Rattle.pma_store.proofs.OnceLaws.{are_all, edited_charge, not_short, used_fe
 use Rattle.pma_store.proofs.Outcomes.{balanced_array, counts_are, has_is, holds}
 use Rattle.pma_store.proofs.Standing.{rows_ascend, size_is}
 
-module _ (items : List Update) (s : StoreView) (image : List ℕ) (stands : Stands s image) (numbers : List ℕ) (b : Batch) (look : Look) (judged : Judged) (loaded : AreLoaded s.place.layout.format b look (2 ^ s.tally.height))
+module _ (items : List Update) (s : StoreView) (image : List ℕ) (stands : Stands s image) (numbers : List ℕ) (b : Batch) (look : BatchScan) (validated : Validated) (loaded : AreLoaded s.place.layout.format b look (2 ^ s.tally.height))
     (looked : HasLooked s.place.layout.format (array_of image) numbers items b look (2 ^ s.tally.height)) (used : AreUsed s.place.layout (array_of image) items b look.whole) (belong : BelongThere (array_of image) numbers items) (distinct : are_distinct items ≡ true)
-    (judged_is : Some (counts_judged judged) ≡ judged_of (limit_of s) (map_of image) items) (are : AreOneCommit s.place.layout (state_in s image) items) where
+    (validated_is : Some (counts_validated validated) ≡ validated_of (limit_of s) (map_of image) items) (are : AreOneCommit s.place.layout (state_in s image) items) where
   size : length (array_of image) ≡ 2 ^ (state_in s image).height
   size = size_is s image stands ∙ ap (λ (h : ℕ). 2 ^ h) (sym stands.balanced.stands.height_is)
 
-  -- as many items edit a segment as were judged to
-  edits_are : 2 * edits_of judged ≡ charge_by (array_of image) items
+  -- as many items edit a segment as were validated to
+  edits_are : 2 * edits_of validated ≡ charge_by (array_of image) items
   edits_are =
       let room : first_full (limit_of s) (map_of image) items ≡ None = (are_all (limit_of s) (state_in s image) items (holds s image stands) (balanced_array s image stands) size distinct are.fit).admitted in
-      let counts : counts_judged judged ≡ count_items (limit_of s) (map_of image) items no_items = some_is (judged_is ∙ ap (λ (o : Option ℕ). cond (is_some o) None (Some (count_items (limit_of s) (map_of image) items no_items))) room) in
-      let edits : edits_of judged ≡ edits_in (count_items (limit_of s) (map_of image) items no_items) = ap edits_in counts in
+      let counts : counts_validated validated ≡ count_items (limit_of s) (map_of image) items no_items = some_is (validated_is ∙ ap (λ (o : Option ℕ). cond (is_some o) None (Some (count_items (limit_of s) (map_of image) items no_items))) room) in
+      let edits : edits_of validated ≡ edits_in (count_items (limit_of s) (map_of image) items no_items) = ap edits_in counts in
       omega (arith, edits, charges_edits (array_of image) (limit_of s) (map_of image) items no_items distinct (λ k d lt. sym (has_is s image stands _)))
     where
-      some_is : Some (counts_judged judged) ≡ Some (count_items (limit_of s) (map_of image) items no_items) → counts_judged judged ≡ count_items (limit_of s) (map_of image) items no_items
+      some_is : Some (counts_validated validated) ≡ Some (count_items (limit_of s) (map_of image) items no_items) → counts_validated validated ≡ count_items (limit_of s) (map_of image) items no_items
       some_is e = cc
 
-  pub not_once : IsUnfit numbers items look judged s.tally → ⊥
+  pub not_once : IsUnfit numbers items look validated s.tally → ⊥
   not_once (inl short) = not_short (limit_of s) (state_in s image) items (holds s image stands) (balanced_array s image stands) size distinct are.fit s.place.layout are.room (used.short short)
   not_once (inr (inl many)) =
       omega (arith, many, loaded.count_is, used_few s.place.layout (array_of image) items b look.whole loaded.held used, edited_charge (array_of image) items, edits_are)

@@ -4,7 +4,7 @@ use Rattle.station.specs.View.{View, Told, Rose}
 use Rattle.station.specs.Steps.{Steps}
 use Rattle.cost_ledger.specs.Potential.{potential_of}
 use Rattle.density_rule.specs.Windows.{IsBalanced}
-use Rattle.header_gate.specs.Recovered.{recovered, laid_over}
+use Rattle.header_gate.specs.Recovered.{recovered, replayed_over}
 use Rattle.key_slot.specs.Record.{IsAscending}
 use Rattle.map_model.specs.Array.{Array, rows, segment_at}
 use Rattle.map_model.specs.Store.{Update}
@@ -22,13 +22,13 @@ use Rattle.segment_frames.specs.Lists.{held_lists, segments_in}
 use Rattle.station.specs.declared.station.Failed.{Failed}
 use Rattle.veb_index.specs.View.{IndexView, fence_of}
 use Rattle.window_tally.specs.View.{TallyView, IsTally}
-use Rattle.pma_store.specs.declared.batch.Tried.{Tried}
-use Rattle.pma_store.specs.declared.batch.Tried.TheVariants.{Full, Judged, Done}
-use Rattle.pma_store.specs.declared.judgement.Judged.{Judged as JudgedItems}
-use Rattle.pma_store.specs.declared.batch_scan.Look.{Look}
+use Rattle.pma_store.specs.declared.batch.Attempt.{Attempt}
+use Rattle.pma_store.specs.declared.batch.Attempt.TheVariants.{Full, Validated, Done}
+use Rattle.pma_store.specs.declared.validation.Validated.{Validated as ValidatedItems}
+use Rattle.pma_store.specs.declared.batch_scan.BatchScan.{BatchScan}
 use Rattle.pma_store.specs.Answers.{state_in}
 use Rattle.pma_store.specs.Batching.{AppliesBatch, done_by}
-use Rattle.pma_store.specs.Judging.{JudgesItems, counts_of, edits_of}
+use Rattle.pma_store.specs.Validating.{ValidatesItems, counts_of, edits_of}
 use Rattle.pma_store.specs.Looked.{BelongThere, HasFound}
 use Rattle.pma_store.specs.Once.{AreOneCommit}
 use Rattle.pma_store.specs.Store.{StoreView}
@@ -44,11 +44,11 @@ pub record RenewsFences (format : ℕ) (b : Batch) (n : ℕ) (old new : IndexVie
   pub set : (k : ℕ) → k < n → 0 < number_of format b k → fence_of new (number_of format b k) ≡ key_at (segment_at (held_lists format b) k) 0
   pub others : (i : ℕ) → ((k : ℕ) → k < n → number_of format b k ≡ i → ⊥) → fence_of new i ≡ fence_of old i
 
--- The items of a batch fit one commit, with so many changes: the frames hold each edited segment, and no more segments than
+-- The items of a batch fit one commit, with that many changes: the frames hold each edited segment, and no more segments than
 -- items edit one.
-pub record FitsCommit (numbers : List ℕ) (items : List Update) (look : Look) (judged : JudgedItems) (tally : TallyView) (changes : List ItemChange) : Type 0 where
+pub record FitsCommit (numbers : List ℕ) (items : List Update) (look : BatchScan) (validated : ValidatedItems) (tally : TallyView) (changes : List ItemChange) : Type 0 where
   pub whole : look.whole ≡ true
-  pub few : look.count ≤ edits_of judged
+  pub few : look.count ≤ edits_of validated
   pub listed : length changes ≤ length items
   pub in_store : All (λ c. c.segment < 2 ^ tally.height) changes
   pub changes_are : (array : Array) → 0 < length array → IsAscending (rows array) → BelongThere array numbers items →
@@ -56,15 +56,15 @@ pub record FitsCommit (numbers : List ℕ) (items : List Update) (look : Look) (
   pub fit : fit_one_commit tally.height tally.counts changes ≡ true
 
 -- Why they don't: not each segment that they edit is in frames, more are there than items edit one, or the changes don't fit.
-abbrev pub IsUnfit : List ℕ → List Update → Look → JudgedItems → TallyView → Type 0
-IsUnfit numbers items look judged tally =
+abbrev pub IsUnfit : List ℕ → List Update → BatchScan → ValidatedItems → TallyView → Type 0
+IsUnfit numbers items look validated tally =
     (look.whole ≡ false)
-    ⊎ ((edits_of judged < look.count)
+    ⊎ ((edits_of validated < look.count)
     ⊎ ((array : Array) → 0 < length array → IsAscending (rows array) → BelongThere array numbers items →
-        HasFound array numbers items look.found (2 ^ tally.height) →
-        fit_one_commit tally.height tally.counts (changes_in array items) ≡ false))
+    HasFound array numbers items look.found (2 ^ tally.height) →
+    fit_one_commit tally.height tally.counts (changes_in array items) ≡ false))
 
--- A commit of the pages of so many segments. Where there are none, nothing changes.
+-- A commit of the pages of that many segments. Where there are none, nothing changes.
 pub record CommitsPages (place : Place) (count : ℕ) (b : Batch) (old new : List ℕ) : Type 0 where
   pub commits : Commits place.layout place.region b.numbers (frame_byte b.slots) old new
   pub none : count ≡ 0 → new ≡ old
@@ -72,7 +72,7 @@ pub record CommitsPages (place : Place) (count : ℕ) (b : Batch) (old new : Lis
 -- The pages in frames were committed, or nothing was done where there are none. The frames note then what the gate says.
 pub record CommitsFrames (place : Place) (count : ℕ) (result : Result (Unit {0}) Failed) (b : Batch) (turn : ℕ) (a c : View) : Type 0 where
   pub steps : Steps (CommitsPages place count b) a c
-  pub laid : OnOk result (Told a → recovered place.layout c.held ≡ laid_over place.layout place.region b.numbers (frame_byte b.slots) (recovered place.layout a.held))
+  pub laid : OnOk result (Told a → recovered place.layout c.held ≡ replayed_over place.layout place.region b.numbers (frame_byte b.slots) (recovered place.layout a.held))
   pub rests : OnOk result (RestsAt place.layout turn c)
   pub none : count ≡ 0 → c.travel.written ≡ a.travel.written
   pub cost : c.travel.written ≤ a.travel.written + (8196 * place.layout.format * count + 6)
@@ -82,7 +82,7 @@ pub record CommitsFrames (place : Place) (count : ℕ) (result : Result (Unit {0
   pub cause : OnErr result (Rose a.disk_faults c.disk_faults)
 
 -- Besides, the fences of the edited segments were set, and the changes counted, but not where it failed.
-pub record CommitsEdits (place : Place) (look : Look) (changes : List ItemChange) (result : Result (Unit {0}) Failed) (b : Batch)
+pub record CommitsEdits (place : Place) (look : BatchScan) (changes : List ItemChange) (result : Result (Unit {0}) Failed) (b : Batch)
     (turn : ℕ) (index next_index : IndexView) (tally next_tally : TallyView) (a c : View) : Type 0 where
   pub frames : CommitsFrames place look.count result b turn a c
   pub fences : OnOk result (RenewsFences place.layout.format b look.count index next_index)
@@ -94,10 +94,10 @@ pub record CommitsEdits (place : Place) (look : Look) (changes : List ItemChange
   pub paid : OnOk result (potential_of next_tally ≤ potential_of tally + 512 * length changes)
   pub unchanged : OnErr result ((next_index ≡ index) × (next_tally ≡ tally))
 
--- What it came to that a batch was tried as one commit: it was judged alone, and its items meet a full store or aren't one
+-- What it came to that a batch was tried as one commit: it was validated alone, and its items meet a full store or aren't one
 -- commit; or it was made, with two images charged for each item that edits a segment.
-abbrev pub TriesOnce : List Update → Result Tried StoreFault → StoreView → StoreView → View → View → Type 0
-TriesOnce items (Ok Full) s t a b = JudgesItems items (Ok None) s t a b
-TriesOnce items (Ok (Judged judged)) s t a b = JudgesItems items (Ok (Some judged)) s t a b × (Told a → ¬ AreOneCommit s.place.layout (state_in s a.held) items)
-TriesOnce items (Ok (Done judged)) s t a b = AppliesBatch items (Ok (done_by (counts_of judged) (2 * edits_of judged))) s t a b
+abbrev pub TriesOnce : List Update → Result Attempt StoreFault → StoreView → StoreView → View → View → Type 0
+TriesOnce items (Ok Full) s t a b = ValidatesItems items (Ok None) s t a b
+TriesOnce items (Ok (Validated validated)) s t a b = ValidatesItems items (Ok (Some validated)) s t a b × (Told a → ¬ AreOneCommit s.place.layout (state_in s a.held) items)
+TriesOnce items (Ok (Done validated)) s t a b = AppliesBatch items (Ok (done_by (counts_of validated) (2 * edits_of validated))) s t a b
 TriesOnce items (Err fault) s t a b = AppliesBatch items (Err fault) s t a b

@@ -30,7 +30,7 @@ pub record LooksOnce (items : List Update) (height : ℕ) (a b : View) : Type 0 
   pub are_own : AreOwnSegments items height a looked
   pub most : b.calls ≤ a.calls + length looked
 
--- So many calls are those of an item in an array and with a tally, by what is asked for in one segment, to which its key belongs;
+-- That many calls are those of an item in an array and with a tally, by what is asked for in one segment, to which its key belongs;
 -- the first one reads that segment. What the tally is next is told as well.
 pub record IsForItem (l : Layout) (a : View) (x : ArrayState) (t : TallyView) (u : Update) (next : TallyView) (calls : ℕ) : Type 0 where
   pub at : ℕ
@@ -39,31 +39,31 @@ pub record IsForItem (l : Layout) (a : View) (x : ArrayState) (t : TallyView) (u
   pub nexts : IsNextTally u t next
   pub is : calls ≡ 1 + asked_calls l t.height (picked (change_in u) at t)
 
--- so many are those of items that are made in order, each behind those before it
+-- that many are those of items that are made in order, each behind those before it
 abbrev pub IsForItems : Layout → View → ArrayState → TallyView → List Update → TallyView → ℕ → Type 0
 IsForItems l a x t [] last calls = (last ≡ t) × (calls ≡ 0)
 IsForItems l a x t (u ∷ us) last calls = (one : ℕ) × (next : TallyView) × (more : ℕ) × IsForItem l a x t u next one × IsForItems l a (next_state (height_limit l) x u) next us last more × (calls ≡ one + more)
 
--- so many are those of some first items of a batch
+-- that many are those of some first items of a batch
 pub record AreForItems (items : List Update) (s : StoreView) (a : View) (calls : ℕ) : Type 0 where
   pub begun : ℕ
   pub some : begun ≤ length items
   pub last : TallyView
   pub are_for : IsForItems s.place.layout a (state_in s a.held) s.tally (take begun items) last calls
 
--- So many calls are those of one commit, which writes at most so many runs of neighbouring segments: eight, and one for each run.
+-- That many calls are those of one commit, which writes at most that many runs of neighbouring segments: eight, and one for each run.
 pub record IsForCommit (most calls : ℕ) : Type 0 where
   pub runs : ℕ
   pub few : runs ≤ most
   pub is : calls ≡ 8 + runs
 
--- So many are those of the intent, and of the items under it: four write it, and two close its gate.
+-- That many are those of the intent, and of the items under it: four write it, and two close its gate.
 pub record IsForIntent (items : List Update) (s : StoreView) (a : View) (calls : ℕ) : Type 0 where
   pub of_items : ℕ
   pub are_for : AreForItems items s a of_items
   pub is : calls ≡ 6 + of_items
 
--- So many calls are those of a batch: one for each segment to which its keys belong, and behind these one commit of such
+-- That many calls are those of a batch: one for each segment to which its keys belong, and behind these one commit of such
 -- segments, or the intent with the items.
 pub record IsForBatch (items : List Update) (s : StoreView) (a : View) (calls : ℕ) : Type 0 where
   pub looked : List ℕ
@@ -81,7 +81,7 @@ pub record CallsIntent (items : List Update) (s : StoreView) (a b : View) : Type
   pub is_for : IsForIntent items s a calls
   pub most : b.calls ≤ a.calls + calls
 
--- A batch makes at most so many calls.
+-- A batch makes at most that many calls.
 pub record CallsBatch (items : List Update) (s : StoreView) (a b : View) : Type 0 where
   pub calls : ℕ
   pub is_for : IsForBatch items s a calls

@@ -27,11 +27,11 @@ abbrev pub updates_cost : Layout → ArrayState → List Update → ℕ
 updates_cost l s [] = 0
 updates_cost l s (u ∷ us) = update_cost_in l s u + updates_cost l (next_state (height_limit l) s u) us
 
--- what so many updates write at most in a file with this layout, whatever they are and whatever is told
+-- what that many updates write at most in a file with this layout, whatever they are and whatever is told
 abbrev pub most_of : Layout → ℕ → ℕ
 most_of l updates = most_written l (height_limit l) * updates
 
--- Updates in order wrote no more, however many of them were made: so many were begun, and each of these has its own bound.
+-- Updates in order wrote no more, however many of them were made: that many were begun, and each of these has its own bound.
 pub record WritesSome (l : Layout) (s : ArrayState) (us : List Update) (before after : ℕ) : Type 0 where
   pub made : ℕ
   pub some : made ≤ length us

@@ -21,7 +21,7 @@ use Rattle.redo_journal.specs.declared.place.Place.{Place}
 use Rattle.segment.specs.declared.fault.StoreFault.{StoreFault}
 use Rattle.segment.specs.declared.fault.StoreFault.TheVariants.{Failed}
 use Rattle.segment_frames.specs.Lists.{held_lists, most_segments, segments_in, IsHeld}
-use Rattle.pma_store.specs.declared.batch_scan.Look.{Look}
+use Rattle.pma_store.specs.declared.batch_scan.BatchScan.{BatchScan}
 use Rattle.pma_store.specs.BatchCalls.{LooksOnce}
 use Rattle.pma_store.specs.Damaging.{IsMetLooking}
 use Rattle.window_tally.specs.View.{TallyView}
@@ -33,7 +33,7 @@ abbrev pub BelongThere : Array → List ℕ → List Update → Type 0
 BelongThere segments numbers items = (k : ℕ) (d : Update) → k < length items → get_or numbers k 0 ≡ segment_for segments (key_of (get_or items k d))
 
 -- a batch in frames has the segments that a look tells, all below one. From segment 1 on each has a row for its fence
-pub record AreLoaded (format : ℕ) (b : Batch) (look : Look) (from : ℕ) : Type 0 where
+pub record AreLoaded (format : ℕ) (b : Batch) (look : BatchScan) (from : ℕ) : Type 0 where
   pub held : IsHeld format b
   pub count_is : look.count ≡ length (segments_in format b.numbers)
   pub few : look.count ≤ 16
@@ -43,7 +43,7 @@ pub record AreLoaded (format : ℕ) (b : Batch) (look : Look) (from : ℕ) : Typ
   pub filled : (k : ℕ) → k < look.count → 0 < get_or (segments_in format b.numbers) k 0 → 0 < length (segment_at (held_lists format b) k)
 
 -- the items of a segment may be made in its rows, and these be added to a batch
-pub record MayLoad (l : Layout) (items : List Update) (numbers : List ℕ) (segment : ℕ) (b : Batch) (look : Look) (rows : List Record) : Type 0 where
+pub record MayLoad (l : Layout) (items : List Update) (numbers : List ℕ) (segment : ℕ) (b : Batch) (look : BatchScan) (rows : List Record) : Type 0 where
   pub sizes : length numbers ≡ length items
   pub layout : IsLayout l
   pub journal : b.journal ≡ l.journal
@@ -76,7 +76,7 @@ pub record LoadsEdits (format : ℕ) (segments : Array) (items : List Update) (b
   pub unnamed : (i : ℕ) → i < from → IsNone (segments_in format b.numbers) i → items_for segments i items ≡ []
 
 -- both, as far as a look is whole
-pub record HasLooked (format : ℕ) (segments : Array) (numbers : List ℕ) (items : List Update) (b : Batch) (look : Look) (from : ℕ) : Type 0 where
+pub record HasLooked (format : ℕ) (segments : Array) (numbers : List ℕ) (items : List Update) (b : Batch) (look : BatchScan) (from : ℕ) : Type 0 where
   pub found : HasFound segments numbers items look.found from
   pub edits : look.whole ≡ true → LoadsEdits format segments items b from
 
@@ -97,7 +97,7 @@ pub record ReadsOnce (place : Place) (numbers : List ℕ) (from : ℕ) (a c : Vi
 
 -- A batch was looked over, in a store with this tally: nothing was written.
 pub record LooksOver (place : Place) (tally : TallyView) (numbers : List ℕ) (items : List Update)
-    (result : Result (Unit {0}) StoreFault) (b : Batch) (look : Look) (a c : View) : Type 0 where
+    (result : Result (Unit {0}) StoreFault) (b : Batch) (look : BatchScan) (a c : View) : Type 0 where
   pub loaded : OnOk result (AreLoaded place.layout.format b look (2 ^ tally.height))
   pub looked : OnOk result (Told a → HasLooked place.layout.format (array_of a.held) numbers items b look (2 ^ tally.height))
   pub journal : b.journal ≡ place.layout.journal

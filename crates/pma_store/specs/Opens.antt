@@ -34,7 +34,7 @@ pub record OpensMeant (old new : List ℕ) : Type 0 where
   -- gate, journal and regions.
   pub idle : has_pending old ≡ false → Opens old new
 
--- Nothing is to be done to the file: no page is to be laid over its live region, every window is within its bounds, and no intent
+-- Nothing is to be done to the file: no page is to be replayed over its live region, every window is within its bounds, and no intent
 -- is to be applied.
 pub record IsAllAtRest (image : List ℕ) : Type 0 where
   pub rest : IsAtRest image
@@ -57,7 +57,7 @@ most_opening l = opening_cost l + (most_of l 16 + 1)
 abbrev pub opened_tally : List ℕ → TallyView
 opened_tally image = record { hmax = height_limit (layout_in image); height = (opened_state image).height; counts = counts_of (opened_state image).array; marks = (opened_state image).marks }
 
--- So many calls are those of some first items of those that are to be applied, from the state on that an opening makes
+-- That many calls are those of some first items of those that are to be applied, from the state on that an opening makes
 -- of the file.
 pub record AreForPending (a : View) (calls : ℕ) : Type 0 where
   pub begun : ℕ
@@ -65,7 +65,7 @@ pub record AreForPending (a : View) (calls : ℕ) : Type 0 where
   pub last : TallyView
   pub are_for : IsForItems (layout_in a.held) a (opened_state a.held) (opened_tally a.held) (take begun (pending a.held)) last calls
 
--- An opening makes so many calls at most; where items are to be applied, besides those of the items and two for the intent's gate.
+-- An opening makes that many calls at most; where items are to be applied, besides those of the items and two for the intent's gate.
 abbrev pub CallsOpening : ℕ → View → View → Type 0
 CallsOpening back a b = (b.calls ≤ a.calls + back) ⊎ ((items : ℕ) × (has_pending a.held ≡ true) × AreForPending a items × (b.calls ≤ a.calls + back + items + 2))
 

@@ -16,7 +16,7 @@ use Rattle.pma_store.specs.Touching.{IsClearPlace}
 
 -- A store was settled, or the disk failed.
 pub record SettlesStore {T : Type 0} (result : Result T StoreFault) (s t : StoreView) (a b : View) : Type 0 where
-  -- On Ok nothing is pending, no page is to be laid over the live region, and map, height, array and marks are as they were.
+  -- On Ok nothing is pending, no page is to be replayed over the live region, and map, height, array and marks are as they were.
   pub nothing : OnOk result (NothingPending b)
   pub bare : OnOk result (Told b → IsBare s.place.layout b.held)
   pub state : OnOk result (Told a → state_in t b.held ≡ state_in s a.held)

@@ -21,19 +21,19 @@ ghost use Rattle.pma_store.specs.Batching.{AppliesBatch, Batches, IsRefusal, ver
 ghost use Rattle.pma_store.specs.Charging.{changes, charge_told, work_by};
 ghost use Rattle.pma_store.specs.Damaging.{IsOrderly};
 ghost use Rattle.pma_store.specs.Items.{CountsAsFound, IsAsFound, IsContradicted, MakesItem, MakesItems};
-ghost use Rattle.pma_store.specs.Judging.{AreAllFound, counts_of, judged_of, found_at};
+ghost use Rattle.pma_store.specs.Validating.{AreAllFound, counts_of, validated_of, found_at};
 ghost use Rattle.pma_store.specs.Looking.{TellsOther};
 ghost use Rattle.pma_store.specs.Once.{AreOneCommit};
-ghost use Rattle.pma_store.specs.Spots.{FindsSpot};
+ghost use Rattle.pma_store.specs.Locations.{FindsLocation};
 ghost use Rattle.pma_store.specs.Store.{IsOpenOn, limit_of, IsStore, StandsOn};
 ghost use Rattle.pma_store.specs.Updating.{FitsFormat, update_of};
 
 use crate::answers::{Batch, Outcome, Report, has_changed, work_of};
-use crate::batch_scan::{Look, MOST, find_segments, look_over};
+use crate::batch_scan::{BatchScan, MOST, find_segments, look_over};
 use crate::commit::commit_edits;
-use crate::judgement::{Judged, judge_items, list_fitting};
 use crate::store::{OpenArray, Store};
-use crate::update::{Spot, Update, update_in};
+use crate::update::{Location, Update, update_in};
+use crate::validation::{Validated, list_fitting, validate_items};
 use batch_intent::{Intent, close_intent, write_intent};
 use cost_ledger::charge;
 use density_rule::upper;
@@ -59,7 +59,7 @@ impl Store {
         requires open { IsOpenOn self.old (S.view station.old) }
         requires some { 1 ≤ length intent.now }
         requires fit { T (list_all (fits_item self.old.place.layout.format) intent.now) }
-        // What a batch comes to is `Batches`. On Ok the store is open on its file.
+        // `Batches` says what a batch does. On Ok the store is open on its file.
         ensures batch { Batches intent.now result self.old self.new (S.view station.old) (S.view station.new) }
         ensures open { OnOk result (IsOpenOn self.new (S.view station.new)) }
         // The store is closed exactly after a fault.
@@ -97,14 +97,14 @@ impl Store {
     }
 }
 
-/// What a batch came to that was tried as one commit.
-pub(crate) enum Tried {
+/// The outcome of a batch that was tried as one commit.
+pub(crate) enum Attempt {
     /// One of its items meets a full store.
     Full,
-    /// It was judged, and does not fit one.
-    Judged(Judged),
+    /// It was validated, and does not fit one.
+    Validated(Validated),
     /// It was made.
-    Done(Judged),
+    Done(Validated),
 }
 
 // What stands in a list of changes behind its end.
@@ -132,9 +132,9 @@ impl OpenArray {
         }
         let most = upper(self.place.layout.height_limit());
         match self.try_at_once(station, intent, most, rows) {
-            Ok(Tried::Done(judged)) => Ok(judged.done()),
-            Ok(Tried::Judged(judged)) => self.run_batch(station, intent, &judged, rows),
-            Ok(Tried::Full) => Ok(Batch::Full { most }),
+            Ok(Attempt::Done(validated)) => Ok(validated.done()),
+            Ok(Attempt::Validated(validated)) => self.run_batch(station, intent, &validated, rows),
+            Ok(Attempt::Full) => Ok(Batch::Full { most }),
             Err(fault) => Err(fault),
         }
     }
@@ -146,7 +146,7 @@ impl OpenArray {
         intent: &Intent,
         most: u32,
         rows: &mut Segment,
-    ) -> Result<Tried, StoreFault>
+    ) -> Result<Attempt, StoreFault>
         requires open { IsOpenOn self.old (S.view station.old) }
         requires fit { T (list_all (fits_item self.old.place.layout.format) intent.now) }
         requires version { INTENT_VERSION ≤ version_of self.old }
@@ -157,7 +157,7 @@ impl OpenArray {
         let mut segments = [0; MOST];
         let segments = &mut segments[..len];
         find_segments(&self.index, intent, segments);
-        let mut look = Look::new();
+        let mut look = BatchScan::new();
         match look_over(
             station,
             &self.place,
@@ -172,13 +172,19 @@ impl OpenArray {
             Ok(()) => {}
             Err(fault) => return Err(fault),
         }
-        let Some(judged) = judge_items(intent, &look.found, self.records(), most) else {
-            return Ok(Tried::Full);
+        let Some(validated) = validate_items(intent, &look.found, self.records(), most) else {
+            return Ok(Attempt::Full);
         };
         let mut changes = [NO_CHANGE; MOST];
-        let Some(count) = list_fitting(&self.tally, intent, segments, &look, &judged, &mut changes)
-        else {
-            return Ok(Tried::Judged(judged));
+        let Some(count) = list_fitting(
+            &self.tally,
+            intent,
+            segments,
+            &look,
+            &validated,
+            &mut changes,
+        ) else {
+            return Ok(Attempt::Validated(validated));
         };
         match commit_edits(
             station,
@@ -189,37 +195,37 @@ impl OpenArray {
             &look,
             &changes[..count],
         ) {
-            Ok(()) => Ok(Tried::Done(judged)),
+            Ok(()) => Ok(Attempt::Done(validated)),
             Err(Failed) => Err(StoreFault::Failed),
         }
     }
 
-    // Makes a batch that was judged: its intent is written, its items are made, and the gate is closed.
+    // Makes a batch that was validated: its intent is written, its items are made, and the gate is closed.
     fn run_batch<S: Station>(
         &mut self,
         station: &mut S,
         intent: &Intent,
-        judged: &Judged,
+        validated: &Validated,
         rows: &mut Segment,
     ) -> Result<Batch, StoreFault>
         requires open { IsOpenOn self.old (S.view station.old) }
         requires some { 1 ≤ length intent.now }
         requires fit { T (list_all (fits_item self.old.place.layout.format) intent.now) }
         requires version { INTENT_VERSION ≤ version_of self.old }
-        requires judged { Told (S.view station.old) → Some (counts_of judged.now) ≡ judged_of (limit_of self.old) (map_of (S.view station.old).held) intent.now }
-        requires found { Told (S.view station.old) → AreAllFound (Some judged.now.found) intent.now (map_of (S.view station.old).held) }
+        requires validated { Told (S.view station.old) → Some (counts_of validated.now) ≡ validated_of (limit_of self.old) (map_of (S.view station.old).held) intent.now }
+        requires found { Told (S.view station.old) → AreAllFound (Some validated.now.found) intent.now (map_of (S.view station.old).held) }
         requires unfit { Told (S.view station.old) → ¬ AreOneCommit self.old.place.layout (state_in self.old (S.view station.old).held) intent.now }
         ensures made { IfOk result (λ done. ¬ IsRefusal done) }
         ensures intent { CallsIntent intent.now self.old (S.view station.old) (S.view station.new) }
         ensures applied { AppliesBatch intent.now result self.old self.new (S.view station.old) (S.view station.new) }
     {
         match write_intent(station, intent) {
-            Ok(()) => match self.make_items(station, intent, Some(judged.found), rows) {
+            Ok(()) => match self.make_items(station, intent, Some(validated.found), rows) {
                 Ok(charge) => Ok(Batch::Done {
-                    stored: judged.stored,
-                    replaced: judged.replaced,
-                    removed: judged.removed,
-                    absent: judged.absent,
+                    stored: validated.stored,
+                    replaced: validated.replaced,
+                    removed: validated.removed,
+                    absent: validated.absent,
                     charge,
                 }),
                 Err(fault) => Err(fault),
@@ -275,7 +281,7 @@ impl OpenArray {
         ensures as_found { OnOk result (CountsAsFound found (update_of update.now) self.old.tally self.new.tally) }
     {
         match self.find_as(station, update, found, rows) {
-            Ok(spot) => match self.apply_at(station, update, spot, rows) {
+            Ok(location) => match self.apply_at(station, update, location, rows) {
                 Ok((outcome, report)) => Ok(self.charge_of(outcome, &report)),
                 Err(fault) => Err(fault),
             },
@@ -292,27 +298,27 @@ impl OpenArray {
         charge(work_of(self.tally.height(), has_changed(outcome), report))
     }
 
-    // Finds the spot of an update. Where its key isn't as it was found before, its segment is out of order.
+    // Finds the location of an update. Where its key isn't as it was found before, its segment is out of order.
     fn find_as<S: Station>(
         &mut self,
         station: &mut S,
         update: &Update,
         found: Option<bool>,
         rows: &mut Segment,
-    ) -> Result<Spot, StoreFault>
+    ) -> Result<Location, StoreFault>
         requires on { StandsOn self.old (S.view station.old) }
         requires found { Told (S.view station.old) →
             IsAsFound found (is_some (value_of (key_of (update_of update.now))
             (segment_at (array_of (S.view station.old).held) (segment_for (array_of (S.view station.old).held) (key_of (update_of update.now)))))) }
-        ensures spot { FindsSpot (update_of update.now) result self.old self.new rows.new (S.view station.old) (S.view station.new) }
+        ensures location { FindsLocation (update_of update.now) result self.old self.new rows.new (S.view station.old) (S.view station.new) }
         ensures store { IsStore self.new }
-        ensures as_found { IfOk result (λ spot. IsAsFound found (is_ok spot.found)) }
+        ensures as_found { IfOk result (λ location. IsAsFound found (is_ok location.found)) }
         ensures contradicted { IfErr result (λ fault. ¬ IsOrderly fault → IsContradicted found (update_of update.now) rows.new) }
     {
-        match self.find_spot(station, update, rows) {
-            Ok(spot) if is_as_found(spot, found) => Ok(spot),
-            Ok(spot) => Err(StoreFault::Damaged {
-                segment: spot.segment,
+        match self.find_location(station, update, rows) {
+            Ok(location) if is_as_found(location, found) => Ok(location),
+            Ok(location) => Err(StoreFault::Damaged {
+                segment: location.segment,
                 why: Damage::OutOfOrder,
             }),
             Err(fault) => Err(fault),
@@ -321,11 +327,11 @@ impl OpenArray {
 }
 
 // Whether a key is there as it was found, if it was looked for.
-fn is_as_found(spot: Spot, found: Option<bool>) -> bool
-    ensures { IsTrue result ↔ IsAsFound found (is_ok spot.found) }
+fn is_as_found(location: Location, found: Option<bool>) -> bool
+    ensures { IsTrue result ↔ IsAsFound found (is_ok location.found) }
 {
     match found {
-        Some(found) => spot.found.is_ok() == found,
+        Some(found) => location.found.is_ok() == found,
         None => true,
     }
 }

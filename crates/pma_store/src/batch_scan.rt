@@ -37,7 +37,7 @@ use batch_intent::{Intent, Item, MOST_ITEMS};
 use header_gate::Layout;
 use key_slot::{Row, SEGMENT_SLOTS};
 use one_commit::least_from;
-use range_scan::HeldPage;
+use range_scan::SegmentBuffer;
 use redo_journal::{Frames, Place};
 use segment::{Segment, StoreFault};
 use segment_frames::batch_room;
@@ -50,7 +50,7 @@ pub(crate) const MOST: usize = MOST_ITEMS as usize;
 
 /// What was found of a batch.
 #[derive(Clone, Copy)]
-pub(crate) struct Look {
+pub(crate) struct BatchScan {
     /// The place of each key in its segment, or in `Err` the place where it would stand.
     pub(crate) found: [Result<u32, u32>; MOST],
     /// The segments whose rows, with their items made, are in frames.
@@ -61,13 +61,13 @@ pub(crate) struct Look {
     pub(crate) whole: bool,
 }
 
-impl Look {
+impl BatchScan {
     /// Before anything is looked for.
-    pub(crate) fn new() -> Look
+    pub(crate) fn new() -> BatchScan
         ensures count { result.count ≡ 0 }
         ensures whole { result.whole ≡ true }
     {
-        Look {
+        BatchScan {
             found: [Err(0); MOST],
             edited: [0; MOST],
             count: 0,
@@ -95,11 +95,11 @@ pub(crate) fn look_over<S: Station>(
     station: &mut S,
     place: &Place,
     tally: &Tally,
-    page: &mut HeldPage,
+    page: &mut SegmentBuffer,
     frames: &mut Frames,
     intent: &Intent,
     segments: &[u32],
-    look: &mut Look,
+    look: &mut BatchScan,
     rows: &mut Segment,
 ) -> Result<(), StoreFault>
     requires layout { IsLayout place.now.layout }
@@ -137,7 +137,7 @@ fn read_rows<S: Station>(
     station: &mut S,
     place: &Place,
     tally: &Tally,
-    page: &mut HeldPage,
+    page: &mut SegmentBuffer,
     segment: u32,
     rows: &mut Segment,
 ) -> Result<(), StoreFault>
@@ -173,7 +173,7 @@ fn take_in(
     intent: &Intent,
     segments: &[u32],
     segment: u32,
-    look: &mut Look,
+    look: &mut BatchScan,
     rows: &mut Segment,
 )
     requires intent { IsIntent intent.now }
@@ -203,7 +203,7 @@ fn load_edits(
     intent: &Intent,
     segments: &[u32],
     segment: u32,
-    look: &mut Look,
+    look: &mut BatchScan,
     rows: &mut Segment,
 ) -> bool
     requires may { MayLoad layout.now intent.now segments.now segment frames.old look.old rows.old }

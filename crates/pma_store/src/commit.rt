@@ -27,7 +27,7 @@ ghost use Rattle.pma_store.specs.Looked.{AreLoaded};
 ghost use Rattle.pma_store.specs.Rewrites.{Rewrites, HasRewritten, RewritesOne, commit_cost};
 ghost use Rattle.pma_store.specs.Store.{StandsOn};
 
-use crate::batch_scan::Look;
+use crate::batch_scan::BatchScan;
 use crate::store::OpenArray;
 use key_slot::SEGMENT_SLOTS;
 use one_commit::{ItemChange, count_changes};
@@ -156,7 +156,7 @@ pub(crate) fn commit_edits<S: Station>(
     frames: &mut Frames,
     index: &mut Index,
     tally: &mut Tally,
-    look: &Look,
+    look: &BatchScan,
     changes: &[ItemChange],
 ) -> Result<(), Failed>
     requires layout { IsLayout place.now.layout }
@@ -184,7 +184,7 @@ pub(crate) fn commit_edits<S: Station>(
     }
 }
 
-// Commits the pages in frames, which are those of so many segments. Where there is none, nothing is done.
+// Commits the pages in frames, which are those of that many segments. Where there is none, nothing is done.
 fn commit_frames<S: Station>(
     station: &mut S,
     place: &Place,
@@ -210,7 +210,7 @@ fn commit_frames<S: Station>(
 }
 
 // Sets the fences of the segments in frames to their first keys.
-fn renew_fences(index: &mut Index, frames: &Frames, format: u32, look: &Look)
+fn renew_fences(index: &mut Index, frames: &Frames, format: u32, look: &BatchScan)
     requires { AreLoaded format frames.now look.now (2 ^ index.old.height) }
     ensures { RenewsFences format frames.now look.now.count index.old index.new }
 {

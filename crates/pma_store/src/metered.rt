@@ -25,7 +25,7 @@ use batch_intent::Intent;
 use block_touch::Probe;
 use cost_ledger::{Cost, Ledger, charge};
 use key_slot::{Key, Value};
-use range_scan::{HeldPage, Sweep};
+use range_scan::{SegmentBuffer, Sweep};
 use segment::StoreFault;
 use station::Station;
 use std::marker::Model;
@@ -129,7 +129,7 @@ impl Metered {
         requires open { IsOpenOn self.old.store (S.view station.old) }
         requires fits { IsTrue (is_record self.old.store.place.layout.format (key.now, value.now)) }
         requires few { self.old.ledger.updates < 2 ^ 63 }
-        // What a put comes to is `Puts`. On Ok the store is open on its file.
+        // `Puts` says what a put does. On Ok the store is open on its file.
         ensures put { Puts key.now value.now result self.old.store self.new.store (S.view station.old) (S.view station.new) }
         ensures open { OnOk result (IsOpenOn self.new.store (S.view station.new)) }
         // The store is closed exactly after a fault.
@@ -173,7 +173,7 @@ impl Metered {
     ) -> Result<(bool, Report), StoreFault>
         requires open { IsOpenOn self.old.store (S.view station.old) }
         requires few { self.old.ledger.updates < 2 ^ 63 }
-        // What a removal comes to is `Removes`. On Ok the store is open on its file.
+        // `Removes` says what a removal does. On Ok the store is open on its file.
         ensures removed { Removes key.now result self.old.store self.new.store (S.view station.old) (S.view station.new) }
         ensures open { OnOk result (IsOpenOn self.new.store (S.view station.new)) }
         // The store is closed exactly after a fault.
@@ -218,7 +218,7 @@ impl Metered {
         requires some { 1 ≤ length intent.now }
         requires fit { T (list_all (fits_item self.old.store.place.layout.format) intent.now) }
         requires few { self.old.ledger.updates < 2 ^ 63 }
-        // What a batch comes to is `Batches`. On Ok the store is open on its file.
+        // `Batches` says what a batch does. On Ok the store is open on its file.
         ensures batch { Batches intent.now result self.old.store self.new.store (S.view station.old) (S.view station.new) }
         ensures open { OnOk result (IsOpenOn self.new.store (S.view station.new)) }
         // The store is closed exactly after a fault.
@@ -253,7 +253,7 @@ impl Metered {
         key: &Key,
     ) -> Result<Option<Value>, StoreFault>
         requires open { IsOpenOn self.old.store (S.view station.old) }
-        // What a get comes to is `Gets`. On Ok the store is open on its file.
+        // `Gets` says what a get does. On Ok the store is open on its file.
         ensures got { Gets key.now result self.old.store self.new.store (S.view station.old) (S.view station.new) }
         ensures open { OnOk result (IsOpenOn self.new.store (S.view station.new)) }
         // `Failed` comes only if the count of disk faults rose.
@@ -270,7 +270,7 @@ impl Metered {
     /// A scan of the records from `low` on and below `high`, as [`Store::scan`] begins it.
     pub fn scan<'a>(
         &'a self,
-        page: &'a mut HeldPage,
+        page: &'a mut SegmentBuffer,
         low: Option<Key>,
         high: Option<Key>,
         limit: u32,
@@ -284,7 +284,7 @@ impl Metered {
     /// Reads all segments in order, as [`Store::check`] does.
     pub fn check<S: Station>(&mut self, station: &mut S) -> Result<Checked, StoreFault>
         requires open { IsOpenOn self.old.store (S.view station.old) }
-        // What a check comes to is `Checks`. On Ok the store is open on its file.
+        // `Checks` says what a check does. On Ok the store is open on its file.
         ensures checked { Checks result self.old.store self.new.store (S.view station.old) (S.view station.new) }
         ensures open { OnOk result (IsOpenOn self.new.store (S.view station.new)) }
         // `Failed` comes only if the count of disk faults rose.

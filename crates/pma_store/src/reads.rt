@@ -18,7 +18,7 @@ use crate::store::Store;
 use block_touch::{Probe, bound};
 use density_rule::Window;
 use key_slot::{Key, Value};
-use range_scan::{HeldPage, Sweep, check_region};
+use range_scan::{SegmentBuffer, Sweep, check_region};
 use segment::StoreFault;
 use station::Station;
 use veb_index::{Index, search};
@@ -32,7 +32,7 @@ impl Store {
         key: &Key,
     ) -> Result<Option<Value>, StoreFault>
         requires open { IsOpenOn self.old (S.view station.old) }
-        // What a get comes to is `Gets`. On Ok the store is open on its file.
+        // `Gets` says what a get does. On Ok the store is open on its file.
         ensures got { Gets key.now result self.old self.new (S.view station.old) (S.view station.new) }
         ensures open { OnOk result (IsOpenOn self.new (S.view station.new)) }
         // `Failed` comes only if the count of disk faults rose.
@@ -63,7 +63,7 @@ impl Store {
     /// It reads into the page.
     pub fn scan<'a>(
         &'a self,
-        page: &'a mut HeldPage,
+        page: &'a mut SegmentBuffer,
         low: Option<Key>,
         high: Option<Key>,
         limit: u32,
@@ -89,7 +89,7 @@ impl Store {
     /// Reads all segments in order, and answers the number of records and the height.
     pub fn check<S: Station>(&mut self, station: &mut S) -> Result<Checked, StoreFault>
         requires open { IsOpenOn self.old (S.view station.old) }
-        // What a check comes to is `Checks`. On Ok the store is open on its file.
+        // `Checks` says what a check does. On Ok the store is open on its file.
         ensures checked { Checks result self.old self.new (S.view station.old) (S.view station.new) }
         ensures open { OnOk result (IsOpenOn self.new (S.view station.new)) }
         // `Failed` comes only if the count of disk faults rose.

@@ -1,6 +1,6 @@
 //! What an update asks for before it is made: a window is rebalanced, or the store grows or shrinks.
 //!
-//! The kept counts decide it, before anything is written. The spot of the update is then found anew, and is to lie in the
+//! The kept counts decide it, before anything is written. The location of the update is then found anew, and is to lie in the
 //! window.
 
 ghost use Rattle.std.specs.Prelude.{◌≡◌, ◌≢◌, ◌+◌, ◌-◌, ◌/◌, ◌^◌, ◌<◌, ◌≤◌, ◌↔◌, ◌⊎◌, ℕ, Some, sum, slice_index, IfOk, OnOk, OnErr, IfErr, IsSome, IsTrue, is_ok, false};
@@ -20,7 +20,7 @@ ghost use Rattle.pma_store.specs.Changing.{IsRested, picked_height, update_cost,
 ghost use Rattle.pma_store.specs.Damaging.{IsMetLate, IsOrderly, IsMetMaking, IsMetMoving};
 ghost use Rattle.pma_store.specs.Readying.{broken_in, ready_cost, resizes, KeepsStore, readied, readied_array, spread_cost};
 ghost use Rattle.pma_store.specs.Rewrites.{commit_cost};
-ghost use Rattle.pma_store.specs.Spots.{IsSpot, IsOwn, FindsSpot};
+ghost use Rattle.pma_store.specs.Locations.{IsLocation, IsOwn, FindsLocation};
 ghost use Rattle.pma_store.specs.Store.{IsStore, StandsOn};
 ghost use Rattle.pma_store.specs.Touching.{IsPlaceAfter};
 ghost use Rattle.pma_store.specs.Updating.{update_of, need_of};
@@ -28,7 +28,7 @@ ghost use Rattle.pma_store.specs.declared.update.Need.TheVariants as need;
 
 use crate::answers::{QUIET, Report};
 use crate::store::OpenArray;
-use crate::update::{Need, Spot, Update};
+use crate::update::{Location, Need, Update};
 use density_rule::{Window, window_of};
 use redistribute::rebalance;
 use segment::{Damage, Segment, StoreFault};
@@ -75,39 +75,39 @@ impl OpenArray {
         }
     }
 
-    // Does what a change asks for, and answers the spot in which it is then made. Where it asks for nothing, that is the
-    // spot that was found.
+    // Does what a change asks for, and answers the location in which it is then made. Where it asks for nothing, that is the
+    // location that was found.
     pub(crate) fn prepare<S: Station>(
         &mut self,
         station: &mut S,
         update: &Update,
-        spot: Spot,
+        location: Location,
         rows: &mut Segment,
         change: Change,
         pick: Pick,
-    ) -> Result<Spot, StoreFault>
+    ) -> Result<Location, StoreFault>
         requires on { StandsOn self.old (S.view station.old) }
         requires kept { IsStore self.old }
         requires few { change ≡ Change.Add → sum self.old.tally.counts < upper_of self.old.tally.hmax }
-        requires spot { IsSpot (update_of update.now) self.old spot rows.old }
-        requires own { Told (S.view station.old) → IsOwn (update_of update.now) spot rows.old (S.view station.old).held }
-        requires needs { need_of (update_of update.now) (is_ok spot.found) ≡ need.Change change }
-        requires pick { pick ≡ pick_of self.old.tally.hmax self.old.tally.height spot.segment change (broken_in change spot.segment self.old.tally) }
+        requires location { IsLocation (update_of update.now) self.old location rows.old }
+        requires own { Told (S.view station.old) → IsOwn (update_of update.now) location rows.old (S.view station.old).held }
+        requires needs { need_of (update_of update.now) (is_ok location.found) ≡ need.Change change }
+        requires pick { pick ≡ pick_of self.old.tally.hmax self.old.tally.height location.segment change (broken_in change location.segment self.old.tally) }
         requires possible { IsPossible self.old.tally pick }
         requires room { pick ≢ Pick.AtLimit }
         ensures kept { KeepsStore result (ready_cost self.old.place.layout self.old.tally.height pick)
             (ready_calls self.old.place.layout self.old.tally.height pick + again_calls pick)
             self.old self.new (S.view station.old) (S.view station.new) }
         ensures place { OnOk result (IsPlaceAfter (resizes pick) self.old self.new (S.view station.old) (S.view station.new)) }
-        ensures ready { IfOk result (λ next. IsReady (update_of update.now) change spot.segment self.old self.new next rows.new) }
-        ensures own { IfOk result (λ next. Told (S.view station.old) → HasReady (update_of update.now) change spot.segment self.old next rows.new (S.view station.old).held (S.view station.new).held) }
-        ensures asks { OnErr result (IsSome (broken_in change spot.segment self.old.tally)) }
-        ensures late { IfErr result (λ fault. IsMetLate change spot.segment self.old self.new fault (S.view station.new)) }
+        ensures ready { IfOk result (λ next. IsReady (update_of update.now) change location.segment self.old self.new next rows.new) }
+        ensures own { IfOk result (λ next. Told (S.view station.old) → HasReady (update_of update.now) change location.segment self.old next rows.new (S.view station.old).held (S.view station.new).held) }
+        ensures asks { OnErr result (IsSome (broken_in change location.segment self.old.tally)) }
+        ensures late { IfErr result (λ fault. IsMetLate change location.segment self.old self.new fault (S.view station.new)) }
     {
         if pick == Pick::Fits {
-            return Ok(spot);
+            return Ok(location);
         }
-        match self.make_ready(station, spot.segment, change, pick) {
+        match self.make_ready(station, location.segment, change, pick) {
             Ok(()) => self.find_again(station, update, rows, change, pick),
             Err(fault) => Err(fault),
         }
@@ -168,7 +168,7 @@ impl OpenArray {
         )
     }
 
-    // Finds the spot of an update anew. Where the segment lies out of the window that was picked, or its rows contradict
+    // Finds the location of an update anew. Where the segment lies out of the window that was picked, or its rows contradict
     // what was read before, it is out of order.
     fn find_again<S: Station>(
         &mut self,
@@ -177,20 +177,20 @@ impl OpenArray {
         rows: &mut Segment,
         change: Change,
         pick: Pick,
-    ) -> Result<Spot, StoreFault>
+    ) -> Result<Location, StoreFault>
         requires on { StandsOn self.old (S.view station.old) }
         requires again { Told (S.view station.old) → FindsAgain (update_of update.now) change pick (array_of (S.view station.old).held) }
         requires low { IsLow pick }
         ensures store { IsStore self.new }
-        ensures found { FindsSpot (update_of update.now) result self.old self.new rows.new (S.view station.old) (S.view station.new) }
-        ensures lies { IfOk result (λ spot. LiesIn pick spot.segment) }
-        ensures needs { IfOk result (λ spot. need_of (update_of update.now) (is_ok spot.found) ≡ need.Change change) }
+        ensures found { FindsLocation (update_of update.now) result self.old self.new rows.new (S.view station.old) (S.view station.new) }
+        ensures lies { IfOk result (λ location. LiesIn pick location.segment) }
+        ensures needs { IfOk result (λ location. need_of (update_of update.now) (is_ok location.found) ≡ need.Change change) }
         ensures out { IfErr result (λ fault. ¬ IsOrderly fault → LeavesWindow (update_of update.now) change pick self.new rows.new) }
     {
-        match self.find_spot(station, update, rows) {
-            Ok(spot) if fits_again(update, spot, change, pick) => Ok(spot),
-            Ok(spot) => Err(StoreFault::Damaged {
-                segment: spot.segment,
+        match self.find_location(station, update, rows) {
+            Ok(location) if fits_again(update, location, change, pick) => Ok(location),
+            Ok(location) => Err(StoreFault::Damaged {
+                segment: location.segment,
                 why: Damage::OutOfOrder,
             }),
             Err(fault) => Err(fault),
@@ -207,12 +207,12 @@ fn updates_in(tally: &Tally, window: Window) -> Option<u64>
     since.rested.then_some(since.updates)
 }
 
-// Whether a spot lies where it may, and the update asks for the same change there.
-fn fits_again(update: &Update, spot: Spot, change: Change, pick: Pick) -> bool
+// Whether a location lies where it may, and the update asks for the same change there.
+fn fits_again(update: &Update, location: Location, change: Change, pick: Pick) -> bool
     requires { IsLow pick }
-    ensures { IsTrue result ↔ (LiesIn pick spot.segment × (need_of (update_of update.now) (is_ok spot.found) ≡ need.Change change)) }
+    ensures { IsTrue result ↔ (LiesIn pick location.segment × (need_of (update_of update.now) (is_ok location.found) ≡ need.Change change)) }
 {
-    lies_in(pick, spot.segment) && update.need(spot.found.is_ok()) == Need::Change(change)
+    lies_in(pick, location.segment) && update.need(location.found.is_ok()) == Need::Change(change)
 }
 
 // Whether a segment lies in the window that was picked, where one was.

@@ -1,7 +1,7 @@
 //! The store grows and shrinks.
 //!
-//! The other region gets the records, and becomes the live one. A page that is still to be laid over the live region would then
-//! be laid over the new one: so the store is cleared of such first.
+//! The other region gets the records, and becomes the live one. A page that is still to be replayed over the live region would then
+//! be replayed over the new one: so the store is cleared of such first.
 
 ghost use Rattle.std.specs.Prelude.{◌≡◌, ◌≢◌, ◌+◌, ◌-◌, ◌<◌, ◌≤◌, ◌⊎◌, true, sum, OnOk, IfErr};
 ghost use Rattle.station.specs.Bytes.{Touched};
@@ -26,7 +26,7 @@ use segment::StoreFault;
 use station::Station;
 
 impl OpenArray {
-    // Sees to it that nothing is pending and no page is to be laid over the live region.
+    // Sees to it that nothing is pending and no page is to be replayed over the live region.
     pub(crate) fn clear<S: Station>(&mut self, station: &mut S) -> Result<(), StoreFault>
         requires on { StandsOn self.old (S.view station.old) }
         ensures kept { KeepsStore result (clear_cost self.old.place.layout) (clear_calls self.old.place.layout) self.old self.new (S.view station.old) (S.view station.new) }
@@ -65,7 +65,7 @@ impl OpenArray {
         }
     }
 
-    // The same, where no page is to be laid over the live region.
+    // The same, where no page is to be replayed over the live region.
     fn grow_cleared<S: Station>(&mut self, station: &mut S) -> Result<(), StoreFault>
         requires on { StandsOn self.old (S.view station.old) }
         requires nothing { NothingPending (S.view station.old) }
@@ -124,7 +124,7 @@ impl OpenArray {
         }
     }
 
-    // The same, where no page is to be laid over the live region.
+    // The same, where no page is to be replayed over the live region.
     fn shrink_cleared<S: Station>(&mut self, station: &mut S) -> Result<(), StoreFault>
         requires on { StandsOn self.old (S.view station.old) }
         requires nothing { NothingPending (S.view station.old) }

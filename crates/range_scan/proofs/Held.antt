@@ -21,9 +21,9 @@ use Rattle.map_model.specs.Reasons.{begins_above}
 use Rattle.segment.specs.declared.fault.Damage.TheVariants as damages
 use Rattle.segment.specs.declared.fault.StoreFault.{StoreFault}
 use Rattle.segment.specs.declared.fault.StoreFault.TheVariants as store
-use Rattle.segment.specs.Judged.{damage_by, damage_of}
+use Rattle.segment.specs.Validated.{damage_by, damage_of}
 use Rattle.segment.specs.Rows.{value_of}
-use Rattle.segment.specs.Viewed.{IsJudged}
+use Rattle.segment.specs.Viewed.{IsValidated}
 use Rattle.range_scan.specs.declared.reader.RegionFault.{RegionFault}
 use Rattle.range_scan.specs.declared.reader.RegionFault.TheVariants.{Failed, NotSegment, OutOfOrder}
 use Rattle.range_scan.specs.Faults.{fault_of}
@@ -63,8 +63,8 @@ module _ (bytes : Bytes) (format : HasFormat bytes) (zeros : bytes ≡ replicate
   pub zeros_rows : segment_of (format_of bytes) bytes ≡ []
   zeros_rows = segment_rows (format_of bytes) [] bytes zeros_read
 
-  pub zeros_judged : IsJudged 0 bytes
-  zeros_judged = record {
+  pub zeros_validated : IsValidated 0 bytes
+  zeros_validated = record {
     format = format;
     sound = subst (λ (rows : List Record). IsSegment (format_of bytes) rows bytes) (sym zeros_rows) zeros_read;
     count = ap length zeros_rows;
@@ -81,8 +81,8 @@ module _ (bytes : Bytes) (n size : ℕ) (zeros : bytes ≡ replicate n 0) (withi
   front_zeros : take size bytes ≡ replicate (length (take size bytes)) 0
   front_zeros = front ∙ ap (λ (k : ℕ). replicate k 0) (sym front_size)
 
-  pub front_judged : HasFormat (take size bytes) → IsJudged 0 (take size bytes)
-  front_judged format = zeros_judged (take size bytes) format front_zeros
+  pub front_validated : HasFormat (take size bytes) → IsValidated 0 (take size bytes)
+  front_validated format = zeros_validated (take size bytes) format front_zeros
 
   pub front_rows : HasFormat (take size bytes) → segment_of (format_of (take size bytes)) (take size bytes) ≡ []
   front_rows format = zeros_rows (take size bytes) format front_zeros
@@ -103,8 +103,8 @@ module _ (old new : Bytes) (start size n : ℕ) (zeros : new ≡ replicate n 0) 
   cleared_format : HasFormat (take size (drop start new))
   cleared_format = same_format (take size (drop start new)) (take size (drop start old)) one_size format
 
-  pub cleared_judged : IsJudged 0 (take size (drop start new))
-  cleared_judged = front_judged (drop start new) (n - start) size zeros_behind (omega (arith, whole, within)) cleared_format
+  pub cleared_validated : IsValidated 0 (take size (drop start new))
+  cleared_validated = front_validated (drop start new) (n - start) size zeros_behind (omega (arith, whole, within)) cleared_format
 
   pub cleared_rows : segment_of (format_of (take size (drop start new))) (take size (drop start new)) ≡ []
   cleared_rows = front_rows (drop start new) (n - start) size zeros_behind (omega (arith, whole, within)) cleared_format
@@ -116,8 +116,8 @@ module _ (layout : Layout) (format : IsFormat layout.hmax layout.format) (new : 
   none_format : HasFormat (take size new)
   none_format = has_format layout.hmax layout.format (take size new) format (front_size new n size zeros within ∙ size_is)
 
-  pub none_judged : IsJudged 0 (take size new)
-  none_judged = front_judged new n size zeros within none_format
+  pub none_validated : IsValidated 0 (take size new)
+  none_validated = front_validated new n size zeros within none_format
 
   pub none_rows : segment_of (format_of (take size new)) (take size new) ≡ []
   none_rows = front_rows new n size zeros within none_format
@@ -146,7 +146,7 @@ module _ (layout : Layout) (region segment kept : ℕ) (a b : View) where
     failed = λ failed. absurd cc;
   })
 
--- what is wrong with a segment of so many records
+-- what is wrong with a segment of that many records
 module _ (f kept : ℕ) (rows : List Record) (page : Bytes) (is : IsSegment f rows page) where
   by_rows : damage_of f page kept ≡ damage_by None (length rows) kept
   by_rows =
@@ -202,8 +202,8 @@ found_fits f (r ∷ rows) key value fits is = by_order (found_fits f rows key va
 new_format : HasFormat (take 4096 (replicate 16384 0))
 new_format = inl (front_size (replicate 16384 0) 16384 4096 refl (omega arith))
 
-pub new_judged : IsJudged 0 (take 4096 (replicate 16384 0))
-new_judged = front_judged (replicate 16384 0) 16384 4096 refl (omega arith) new_format
+pub new_validated : IsValidated 0 (take 4096 (replicate 16384 0))
+new_validated = front_validated (replicate 16384 0) 16384 4096 refl (omega arith) new_format
 
 pub new_page : page_of (take 4096 (replicate 16384 0)) [] ≡ record { format = 1; rows = []; along = [] }
 new_page = λ i. record { format = front_size (replicate 16384 0) 16384 4096 refl (omega arith) i / segment_length narrow; rows = front_rows (replicate 16384 0) 16384 4096 refl (omega arith) new_format i; along = [] }

@@ -51,13 +51,13 @@ less_of Greater e = absurd (true≢false (sym e))
 above_from : (key low past : Bytes) → key_cmp past low ≡ Less → is_lt (key_cmp key low) ≡ false → key_cmp key past ≡ Greater
 above_from key low past lt from = by_order (key_cmp key low) refl from
   where
-    turned : key_cmp past key ≡ Less → key_cmp key past ≡ Greater
-    turned e = order.antisymm key past ∙ ap ordering_reverse e
+    advanced : key_cmp past key ≡ Less → key_cmp key past ≡ Greater
+    advanced e = order.antisymm key past ∙ ap ordering_reverse e
 
     by_order : (o : Ordering) → key_cmp key low ≡ o → is_lt o ≡ false → key_cmp key past ≡ Greater
     by_order Less is e = absurd (true≢false e)
     by_order Equal is e = order.congr key low past is ∙ order.antisymm low past ∙ ap ordering_reverse lt
-    by_order Greater is e = turned (order.trans past low key lt (order.antisymm low key ∙ ap ordering_reverse is))
+    by_order Greater is e = advanced (order.trans past low key lt (order.antisymm low key ∙ ap ordering_reverse is))
 
 -- one that is above a key that isn't below another isn't below the other
 from_above : (key low past : Bytes) → is_lt (key_cmp past low) ≡ false → key_cmp key past ≡ Greater → is_lt (key_cmp key low) ≡ false

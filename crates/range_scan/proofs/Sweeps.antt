@@ -19,7 +19,7 @@ use Rattle.range_scan.specs.Bounds.{are_from, are_before, is_void}
 use Rattle.range_scan.specs.ReaderView.{ReaderView, IsReader}
 use Rattle.range_scan.specs.Running.{IsRun, StepsBy, read_for}
 use Rattle.range_scan.specs.SweepRuns.{IsSweepRun, ReadsRun, allowed, due}
-use Rattle.range_scan.specs.SweepView.{SweepView, IsSweep, GoesOn, judged}
+use Rattle.range_scan.specs.SweepView.{SweepView, IsSweep, GoesOn, validated}
 use Rattle.range_scan.specs.Sweeping.{IsSweeping, BeginsThere, between}
 use Rattle.range_scan.specs.SweepsOn.{SweepsOn}
 use Rattle.range_scan.specs.Taking.{Takes}
@@ -47,7 +47,7 @@ sweeps_still {A} x s t a b stays is unfaulted sweeping steps rests uncalled = su
   steps = steps;
   reads = rests ∙ sym (walk_none s.reader.layout s.reader.region s.reader.next s.reader.next a.travel refl);
   calls = omega (arith, uncalled);
-  needed = λ told. between_none s.low (cut s.tally.counts (entries (map_of a.held))) (judged s) (judged s - 1) (omega arith);
+  needed = λ told. between_none s.low (cut s.tally.counts (entries (map_of a.held))) (validated s) (validated s - 1) (omega arith);
   runs = λ more. absurd (omega (arith, more));
   few = λ told begins. (sweeping told).amid.few begins;
   idle = λ some. refl;
@@ -56,10 +56,10 @@ sweeps_still {A} x s t a b stays is unfaulted sweeping steps rests uncalled = su
 
 -- it met the next segment
 module _ (s : SweepView) (a b : View) (is : IsSweep s) (none : s.kept ≡ []) (room : is_void s.low s.high ≡ false) (sweeping : Told a → IsSweeping s a.held) (steps : Steps Same a b)
-    (count : ℕ) (reader : ReaderView) (along : List Bytes) (run : s.along ≡ [] → s.reader.next < s.reader.end → IsSweepRun s s.reader.next count) (lt : judged s < s.reader.end)
+    (count : ℕ) (reader : ReaderView) (along : List Bytes) (run : s.along ≡ [] → s.reader.next < s.reader.end → IsSweepRun s s.reader.next count) (lt : validated s < s.reader.end)
     (reads : IsReader reader) (step : StepsBy (read_for s.along count) s.reader reader) (others : length along + 1 ≡ length s.along + read_for s.along count) (walk : b.travel ≡ after_walk s.reader.layout s.reader.region s.reader.next reader.next a.travel)
     (calls : b.calls ≤ a.calls + min 1 (reader.next - s.reader.next)) where
-  further_on : reader.next - length along ≡ judged s + 1
+  further_on : reader.next - length along ≡ validated s + 1
   further_on = omega (arith, step.next_is, others, is.first_is)
 
   -- what was read was a run
@@ -68,7 +68,7 @@ module _ (s : SweepView) (a b : View) (is : IsSweep s) (none : s.kept ≡ []) (r
     where
       by_along : (before : List Bytes) → s.along ≡ before → ReadsRun s (record s { reader = reader; along = along })
       by_along [] alone =
-          let here : judged s ≡ s.reader.next = omega (arith, ap length alone) in
+          let here : validated s ≡ s.reader.next = omega (arith, ap length alone) in
           let read : read_for s.along count ≡ count = ap (λ (before : List Bytes). read_for before count) alone in
           record {
             from = s.reader.next;
@@ -90,7 +90,7 @@ module _ (s : SweepView) (a b : View) (is : IsSweep s) (none : s.kept ≡ []) (r
     steps = steps;
     reads = walk;
     calls = omega (arith, calls);
-    needed = λ told. between_none s.low (cut s.tally.counts (entries (map_of a.held))) (judged s) (reader.next - length along - 1) (omega (arith, further_on));
+    needed = λ told. between_none s.low (cut s.tally.counts (entries (map_of a.held))) (validated s) (reader.next - length along - 1) (omega (arith, further_on));
     runs = λ more. let r = ran more in record { from = r.from; onward = r.onward; met = r.met; run = r.run };
     few = λ told begins. few_read s a.held is (sweeping told) count reader along run lt step others none begins;
     idle = λ some. absurd (omega (arith, some, ap length none));
@@ -119,8 +119,8 @@ run_back s m from count same given is =
 pub sweeps_further : {A : Type 0} (result : Result A StoreFault) (s m t : SweepView) (a c b : View) → GoesOn s m → m.given ≡ s.given → Steps Same a c → c.travel ≡ after_walk s.reader.layout s.reader.region s.reader.next m.reader.next a.travel
     → c.calls ≤ a.calls + (m.reader.next - s.reader.next) → m.kept ≡ []
     → (0 < length s.kept → m ≡ s) → (is_void s.low s.high ≡ true → m.reader ≡ s.reader) → (s.reader.next < m.reader.next → ReadsRun s m)
-    → (Told a → T (are_before s.low (between (judged s) (judged m) (cut s.tally.counts (entries (map_of a.held))))))
-    → judged t ≤ judged m + 1 → SweepsOn result m t c b → SweepsOn result s t a b
+    → (Told a → T (are_before s.low (between (validated s) (validated m) (cut s.tally.counts (entries (map_of a.held))))))
+    → validated t ≤ validated m + 1 → SweepsOn result m t c b → SweepsOn result s t a b
 sweeps_further result s m t a c b same given steps walk calls none idle void ran used step on = record {
   same = goes_on s m t same on.same;
   is_sweep = on.is_sweep;
@@ -129,7 +129,7 @@ sweeps_further result s m t a c b same given steps walk calls none idle void ran
   steps = same_on steps on.steps;
   reads = walk_further s m t _ _ _ same on.same walk on.reads;
   calls = omega (arith, calls, on.calls, same.onward, on.same.onward);
-  needed = λ told. between_less s.low (cut s.tally.counts (entries (map_of a.held))) (judged s) (judged m) (judged t - 1) (omega (arith, step)) (used told);
+  needed = λ told. between_less s.low (cut s.tally.counts (entries (map_of a.held))) (validated s) (validated m) (validated t - 1) (omega (arith, step)) (used told);
   runs = λ more. elim (cases_lt m.reader.next t.reader.next) [
     | inl later ↦
         let r = on.runs later in
@@ -151,7 +151,7 @@ pub sweeps_taken : {A B : Type 0} (x : A) (y : B) (r : Record) (s t u : SweepVie
 sweeps_taken x y r s t u a b on takes is =
     let reader = ap (λ (v : SweepView). v.reader) takes.same in
     let next : u.reader.next ≡ t.reader.next = ap (λ (v : SweepView). v.reader.next) takes.same in
-    let met : judged u ≡ judged t = ap judged takes.same in
+    let met : validated u ≡ validated t = ap validated takes.same in
     record {
       same = goes_on s t u on.same (takes_goes_on takes);
       is_sweep = is;
@@ -160,7 +160,7 @@ sweeps_taken x y r s t u a b on takes is =
       steps = on.steps;
       reads = on.reads ∙ ap (λ (n : ℕ). after_walk s.reader.layout s.reader.region s.reader.next n a.travel) (sym next);
       calls = omega (arith, on.calls, next);
-      needed = λ told. subst (λ (n : ℕ). T (are_before s.low (between (judged s) (n - 1) (cut s.tally.counts (entries (map_of a.held)))))) (sym met) (on.needed told);
+      needed = λ told. subst (λ (n : ℕ). T (are_before s.low (between (validated s) (n - 1) (cut s.tally.counts (entries (map_of a.held)))))) (sym met) (on.needed told);
       runs = λ more.
           let r = on.runs (omega (arith, more, next)) in
           record { from = r.from; onward = r.onward; met = omega (arith, r.met, met); run = subst (λ (n : ℕ). IsSweepRun s r.from (n - r.from)) (sym next) r.run };

@@ -11,7 +11,7 @@ use Rattle.segment.specs.declared.fault.Damage.{Damage}
 use Rattle.segment.specs.declared.fault.Damage.TheVariants.{NotSegment, OtherCount, OutOfOrder}
 use Rattle.segment.specs.declared.fault.StoreFault.{StoreFault}
 use Rattle.segment.specs.declared.fault.StoreFault.TheVariants.{Failed, Damaged}
-use Rattle.segment.specs.Judged.{damage_of}
+use Rattle.segment.specs.Validated.{damage_of}
 use Rattle.range_scan.specs.declared.reader.RegionFault.{RegionFault}
 use Rattle.range_scan.specs.declared.reader.RegionFault.TheVariants as regions
 use Rattle.range_scan.specs.PageView.{PageView}
@@ -43,7 +43,7 @@ IsBadSlot layout region segment a b regions.Failed = Rose a.disk_faults b.disk_f
 IsBadSlot layout region segment a b (regions.NotSegment i slot) = (i ≡ segment) × (slot < SEGMENT_SLOTS) × (Told a → first_bad_slot layout.format (page_in layout region a.held segment) ≡ Some slot)
 IsBadSlot layout region segment a b (regions.OutOfOrder i) = ⊥
 
--- So many segments were read into a page, from one on, and the first was judged, whatever was answered.
+-- That many segments were read into a page, from one on, and the first was validated, whatever was answered.
 pub record ReadsInto {T E : Type 0} (layout : Layout) (region segment count : ℕ) (result : Result T E) (page : PageView) (a b : View) : Type 0 where
   -- also where no bytes are told, its records fit a segment of the format
   pub fits : FitsSegment layout.format page.rows
@@ -65,7 +65,7 @@ IsBadAlong layout region segment along a b (regions.OutOfOrder i) = ⊥
 
 -- The next segment of a run was met in a page, whatever was answered: the first that was read along, or else the first of so
 -- many that were read.
-pub record Meets {T E : Type 0} (layout : Layout) (region segment count : ℕ) (result : Result T E) (old new : PageView) (a b : View) : Type 0 where
+pub record TakesNext {T E : Type 0} (layout : Layout) (region segment count : ℕ) (result : Result T E) (old new : PageView) (a b : View) : Type 0 where
   -- its bytes are the segment of the records, and those read with it stand along
   pub segment_is : OnOk result (Told a → IsSegment layout.format new.rows (first_of old.along (page_in layout region a.held segment)))
   pub along_is : OnOk result (Told a → new.along ≡ rest_of old.along (pages_in layout region a.held (segment + 1) (count - 1)))

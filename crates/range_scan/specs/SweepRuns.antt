@@ -1,7 +1,7 @@
 -- How many segments a sweep reads at once.
 use Rattle.std.specs.Prelude.{◌⊎◌, ℕ, ◌+◌, ◌-◌, ◌/◌, ◌<◌, ◌≤◌, ◌==◌, ◌&&◌, is_some, max, take, sum, if◌then◌else◌}
 use Rattle.range_scan.specs.Running.{IsRun}
-use Rattle.range_scan.specs.SweepView.{SweepView, judged}
+use Rattle.range_scan.specs.SweepView.{SweepView, validated}
 
 -- the segments to which a sweep may have read: two besides one for each four records that it answered, and one more at least
 abbrev pub allowed : SweepView → ℕ → ℕ
@@ -25,9 +25,9 @@ pub record IsSweepRun (s : SweepView) (from count : ℕ) : Type 0 where
   -- there are no more that may be read, or these have all that is wanted
   pub whole : (¬ IsRun s.reader.layout from s.reader.end (count + 1)) ⊎ ((allowed s from ≤ from + count) ⊎ (s.limit - s.given ≤ due s from (from + count)))
 
--- The sweep read once or more; what it read last was such a run, and none of it was judged before all of the others.
+-- The sweep read once or more; what it read last was such a run, and none of it was validated before all of the others.
 pub record ReadsRun (s t : SweepView) : Type 0 where
   pub from : ℕ
   pub onward : s.reader.next ≤ from
-  pub met : from < judged t
+  pub met : from < validated t
   pub run : IsSweepRun s from (t.reader.next - from)

@@ -10,7 +10,7 @@ use Rattle.segment.specs.declared.fault.StoreFault.{StoreFault}
 use Rattle.segment.specs.declared.fault.StoreFault.TheVariants.{Failed}
 use Rattle.range_scan.specs.Bounds.{are_before, is_void}
 use Rattle.range_scan.specs.Faults.{IsDamageAt}
-use Rattle.range_scan.specs.SweepView.{SweepView, IsSweep, GoesOn, judged}
+use Rattle.range_scan.specs.SweepView.{SweepView, IsSweep, GoesOn, validated}
 use Rattle.range_scan.specs.Sweeping.{IsSweeping, BeginsThere, between}
 use Rattle.range_scan.specs.SweepRuns.{ReadsRun}
 use Rattle.range_scan.specs.Walk.{after_walk}
@@ -28,10 +28,10 @@ pub record SweepsOn {A : Type 0} (result : Result A StoreFault) (s t : SweepView
   pub reads : b.travel ≡ after_walk s.reader.layout s.reader.region s.reader.next t.reader.next a.travel
   -- at most one call is made for each segment that is read
   pub calls : b.calls ≤ a.calls + (t.reader.next - s.reader.next)
-  -- it judges a further segment only if those that it judged before it in the call have no record that isn't below the lower
+  -- it validates a further segment only if those that it validated before it in the call have no record that isn't below the lower
   -- bound
-  pub needed : Told a → T (are_before s.low (between (judged s) (judged t - 1) (cut s.tally.counts (entries (map_of a.held)))))
-  -- it reads only if it judged all that it read before, and then a run
+  pub needed : Told a → T (are_before s.low (between (validated s) (validated t - 1) (cut s.tally.counts (entries (map_of a.held)))))
+  -- it reads only if it validated all that it read before, and then a run
   pub runs : s.reader.next < t.reader.next → ReadsRun s t
   -- if the scan begins in its first segment, it reads at most two besides one for each four records that it answered
   pub few : Told a → BeginsThere s (entries (map_of a.held)) → t.reader.next - s.first ≤ t.given / 4 + 2
@@ -39,11 +39,11 @@ pub record SweepsOn {A : Type 0} (result : Result A StoreFault) (s t : SweepView
   pub idle : 0 < length s.kept → t.reader ≡ s.reader
   pub void : is_void s.low s.high ≡ true → t.reader ≡ s.reader
 
--- Why it stopped: at the segment that it judged last.
+-- Why it stopped: at the segment that it validated last.
 pub record StopsSweep (fault : StoreFault) (s t : SweepView) (a b : View) : Type 0 where
   -- where bytes are told only the disk stops it
   pub damaged : Told a → fault ≡ Failed
-  -- on any station damage is that of the segment that it judged last
-  pub causes : IsDamageAt (judged t - 1) s.tally.counts fault
+  -- on any station damage is that of the segment that it validated last
+  pub causes : IsDamageAt (validated t - 1) s.tally.counts fault
   -- `Failed` comes only if the count of disk faults rose
   pub failed : fault ≡ Failed → Rose a.disk_faults b.disk_faults

@@ -17,8 +17,8 @@ ghost use Rattle.range_scan.specs.Seeking.{later, first_below, PlacedPast, Reads
 ghost use Rattle.range_scan.specs.Sweeping.{first_for};
 
 use crate::counted::{next_counted, segment_count};
-use crate::held_page::HeldPage;
 use crate::reader::RegionReader;
+use crate::segment_buffer::SegmentBuffer;
 use crate::sweep::start_in;
 use header_gate::Layout;
 use key_slot::{Key, Row};
@@ -47,7 +47,7 @@ pub fn first_ahead_in<S: Station>(
     layout: Layout,
     region: u32,
     tally: &Tally,
-    page: &mut HeldPage,
+    page: &mut SegmentBuffer,
     first: u32,
     start: &Option<Key>,
     past: &Option<Key>,

@@ -21,7 +21,7 @@ ghost use Rattle.range_scan.specs.Sweeping.{last_for};
 ghost use Rattle.range_scan.specs.Walk.{after_walk};
 
 use crate::counted::kept_count;
-use crate::held_page::HeldPage;
+use crate::segment_buffer::SegmentBuffer;
 use header_gate::Layout;
 use key_slot::{Key, Row};
 use segment::{SegmentView, StoreFault};
@@ -48,7 +48,7 @@ pub fn last_behind_in<S: Station>(
     layout: Layout,
     region: u32,
     tally: &Tally,
-    page: &mut HeldPage,
+    page: &mut SegmentBuffer,
     last: u32,
     low: &Option<Key>,
     end: &Option<Key>,
@@ -90,7 +90,7 @@ fn read_below<S: Station>(
     layout: &Layout,
     region: u32,
     tally: &Tally,
-    page: &mut HeldPage,
+    page: &mut SegmentBuffer,
     segment: u32,
     end: &Option<Key>,
 ) -> Result<u32, StoreFault>

@@ -1,4 +1,4 @@
-//! How a sweep reads on: in runs, of which each segment is judged when its records are asked for.
+//! How a sweep reads on: in runs, of which each segment is validated when its records are asked for.
 
 ghost use Rattle.std.specs.Prelude.{◌≡◌, ◌+◌, ◌-◌, ◌<◌, ◌≤◌, ◌⊎◌, [], true, false, T, length, OnOk, IfOk, IfErr, is_some};
 ghost use Rattle.std.specs.FinMap.{entries};
@@ -10,19 +10,19 @@ ghost use Rattle.map_model.specs.Array.{cut, segment_at};
 ghost use Rattle.map_model.specs.Scan.{scanned};
 ghost use Rattle.range_scan.specs.Bounds.{are_before, is_void};
 
-use crate::counted::{kept_count, meet_counted};
+use crate::counted::{kept_count, take_counted};
 use crate::sweep::{Sweep, start_in};
 use segment::StoreFault;
 use station::Station;
 
 impl<'a> Sweep<'a> {
     ghost use Rattle.range_scan.specs.Running.{IsRun};
-    ghost use Rattle.range_scan.specs.SweepView.{IsSweep, IsAtHand, IsOver, judged, passed};
+    ghost use Rattle.range_scan.specs.SweepView.{IsSweep, IsAtHand, IsOver, validated, passed};
     ghost use Rattle.range_scan.specs.Sweeping.{IsSweeping, BeginsThere, StartsBy, EndsBy, first_for, last_for, ahead, scan_of};
     ghost use Rattle.range_scan.specs.SweepRuns.{IsSweepRun, allowed, due};
     ghost use Rattle.range_scan.specs.SweepsOn.{SweepsOn, StopsSweep};
     ghost use Rattle.range_scan.specs.Faults.{IsDamageAt};
-    ghost use Rattle.range_scan.specs.Taking.{Takes, Turns};
+    ghost use Rattle.range_scan.specs.Taking.{Takes, Advances};
 
     // Reads on until a record is kept, or none is left to be read.
     pub(crate) fn fill<S: Station>(&mut self, station: &mut S) -> Result<(), StoreFault>
@@ -45,7 +45,7 @@ impl<'a> Sweep<'a> {
         Ok(())
     }
 
-    // Judges the next segment, and answers whether there was one in which a record of the scan may stand. Where none was read
+    // Validates the next segment, and answers whether there was one in which a record of the scan may stand. Where none was read
     // along, it reads a run.
     fn read_on<S: Station>(&mut self, station: &mut S) -> Result<bool, StoreFault>
         requires open { self.old.faulted ≡ false }
@@ -54,10 +54,10 @@ impl<'a> Sweep<'a> {
         requires sweeping { Told (S.view station.old) → IsSweeping self.old (S.view station.old).held }
         requires readable { Told (S.view station.old) → IsRecovered self.old.reader.layout (S.view station.old).held }
         requires reach { file_length self.old.reader.layout ≤ (S.view station.old).fixed.reach }
-        ensures more { IfOk result (λ more. more ≡ true → judged self.new ≡ judged self.old + 1) }
-        ensures step { judged self.new ≤ judged self.old + 1 }
+        ensures more { IfOk result (λ more. more ≡ true → validated self.new ≡ validated self.old + 1) }
+        ensures step { validated self.new ≤ validated self.old + 1 }
         ensures all_below { IfOk result (λ more. more ≡ true → Told (S.view station.old) → self.new.kept ≡ [] →
-            T (are_before self.old.low (segment_at (cut self.old.tally.counts (entries (map_of (S.view station.old).held))) (judged self.old)))) }
+            T (are_before self.old.low (segment_at (cut self.old.tally.counts (entries (map_of (S.view station.old).held))) (validated self.old)))) }
         ensures no_more { IfOk result (λ more. more ≡ false → self.new ≡ self.old) }
         ensures used_up { IfOk result (λ more. more ≡ false → Told (S.view station.old) → scanned self.new.low self.new.high (self.new.limit - self.new.given) (ahead self.new (entries (map_of (S.view station.old).held))) ≡ []) }
         ensures given { self.new.given ≡ self.old.given }
@@ -68,7 +68,7 @@ impl<'a> Sweep<'a> {
             return Ok(false);
         }
         let count = self.run();
-        match meet_counted(&mut self.reader, self.tally, station, self.page, count) {
+        match take_counted(&mut self.reader, self.tally, station, self.page, count) {
             Ok(true) => {
                 self.place = start_in(&self.page.rows(), &self.low);
                 Ok(true)

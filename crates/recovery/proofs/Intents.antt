@@ -20,7 +20,7 @@ use Rattle.map_model.specs.Standing.{StandsWith}
 use Rattle.map_model.specs.Store.{Update}
 use Rattle.batch_intent.specs.declared.places.TheConstants.{INTENT_SIZE}
 use Rattle.batch_intent.specs.Spelling.{Spells, item_bytes, intent_bytes, items_in, place_from}
-use Rattle.batch_intent.specs.Judging.{wrong_place}
+use Rattle.batch_intent.specs.Validating.{wrong_place}
 use Rattle.batch_intent.specs.Gate.{has_intent, intent_area, reason_at, form_reason}
 use Rattle.batch_intent.specs.Means.{has_pending, pending, full_reason, fullness_reason, opening_reason, KeepsIntent}
 use Rattle.batch_intent.proofs.Gates.{length-intent_area}

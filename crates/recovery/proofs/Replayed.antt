@@ -29,7 +29,7 @@ paired_reads l is = grind (arith, nat_tests, is)
 pub paired_calls : (l : Layout) → l.version ≡ PAIRED → bare_calls l ≡ 2
 paired_calls l is = grind (arith, nat_tests, is)
 
--- a journal that names some page asks for so many calls
+-- a journal that names some page asks for that many calls
 pub named_calls : (l : Layout) (image : List ℕ) → layout_in image ≡ l → names_some l image ≡ true → laying_calls image ≡ 6 + run_count (live_table l image)
 named_calls l image is named =
     (λ t. if names_some (is t) image then 6 + run_count (live_table (is t) image) else 0)

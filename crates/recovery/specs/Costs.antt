@@ -9,7 +9,7 @@ use Rattle.header_gate.specs.Places.{page_size, height_limit, segment_size}
 use Rattle.header_gate.specs.Recovered.{live_table, names_some}
 use Rattle.map_model.specs.Array.{counts_of}
 use Rattle.map_model.specs.Image.{array_of, height_of}
-use Rattle.range_scan.specs.declared.held_page.TheConstants.{RUN_SIZE}
+use Rattle.range_scan.specs.declared.segment_buffer.TheConstants.{RUN_SIZE}
 use Rattle.redo_journal.specs.Neighbours.{run_count}
 use Rattle.segment_frames.specs.Lists.{most_segments}
 use Rattle.segment_frames.specs.Parts.{parts}
@@ -31,7 +31,7 @@ opening_cost l = replay_cost l + repair_cost l.format (height_limit l)
 abbrev pub replay_calls : Layout → ℕ
 replay_calls l = 6 + l.journal
 
--- a repair of a store of this height, with frames for so many segments: one batch where they are room for all, and else those
+-- a repair of a store of this height, with frames for that many segments: one batch where they are room for all, and else those
 -- of a window's moves and fences
 abbrev pub repair_calls : ℕ → ℕ → ℕ
 repair_calls frames height = if nat_le (2 ^ height) frames then 10 else 12 * (4 * 2 ^ height - 2) + parts frames (2 ^ height)
@@ -56,12 +56,12 @@ bare_calls l = if l.version == PAIRED then 2 else 0
 abbrev pub back_calls : List ℕ → ℕ
 back_calls image = bare_calls (layout_in image) + region_calls (layout_in image) (height_of image) + intent_calls image
 
--- The calls that a file asks for. A journal that is to be laid over the live region, and names some page: those of a replay, a
+-- The calls that a file asks for. A journal that is to be replayed over the live region, and names some page: those of a replay, a
 -- write for each run of neighbouring pages that its table names
 abbrev pub laying_calls : List ℕ → ℕ
 laying_calls image = if names_some (layout_in image) image then 6 + run_count (live_table (layout_in image) image) else 0
 
--- a repair, with frames for so many segments: those of the window that is spread, if one is
+-- a repair, with frames for that many segments: those of the window that is spread, if one is
 abbrev pub mending_calls : ℕ → Option Window → ℕ
 mending_calls frames None = 0
 mending_calls frames (Some w) = repair_calls frames w.height

@@ -1,4 +1,4 @@
--- What an opening comes to, and what is known of parts and file between its steps.
+-- The outcome of an opening, and what is known of parts and file between its steps.
 use Rattle.std.specs.Prelude.{◌≡◌, ◌≢◌, ◌⊎◌, ℕ, ◌+◌, ◌^◌, ◌<◌, ◌≤◌, List, sum, Some, None, Result, IsOk, OnOk, IfErr, IsErrOf}
 use Rattle.station.specs.View.{View, Told, Honest, EachHeld, NothingPending, Rose, up}
 use Rattle.station.specs.Steps.{Steps}
@@ -31,7 +31,7 @@ use Rattle.recovery.specs.declared.fault.OpenFault.{OpenFault}
 use Rattle.recovery.specs.declared.fault.OpenFault.TheVariants.{Memory, Failed, NotStore}
 use Rattle.recovery.specs.declared.parts.Parts.{Parts}
 
--- What an opening comes to: which files it opens, why it refuses the others, and what becomes of the file. At each moment
+-- The outcome of an opening: which files it opens, why it refuses the others, and what becomes of the file. At each moment
 -- `opens` relates it to the file at entry; a file that `rests` says nothing is to be done to is read, and no more than `reads`.
 pub record OpensFile {T : Type 0} (opens : List ℕ → List ℕ → Type 0) (rests : List ℕ → Type 0) (reads : List ℕ → ℕ)
     (result : Result T OpenFault) (a b : View) : Type 0 where
@@ -46,7 +46,7 @@ pub record OpensFile {T : Type 0} (opens : List ℕ → List ℕ → Type 0) (re
   -- a refused file represents at every moment what it did and recovers to what it recovered to, and no byte of it differs but
   -- those of the journal's gate and the regions
   pub late : IfErr result (λ e. (r : Reason) → e ≡ NotStore r → Steps Restores a b)
-  -- a refusal for the header or the journal leaves every byte, and so does any refusal if no page is to be laid over the live
+  -- a refusal for the header or the journal leaves every byte, and so does any refusal if no page is to be replayed over the live
   -- region; nothing is written then
   pub early : IfErr result (λ e. (r : Reason) → e ≡ NotStore r → IsEarly r → LeavesFile a b)
   pub bare : IfErr result (λ e. (r : Reason) → e ≡ NotStore r → Told a → IsBare (layout_in a.held) a.held → LeavesFile a b)
@@ -138,7 +138,7 @@ pub record ReadsBack (head : Header) (result : Result (Unit {0}) OpenFault) (old
   pub damaged : IfErr result (λ e. Told a → IsNoDamage e)
   pub causes : IfErr result IsReadFault
 
--- What a repair came to.
+-- The outcome of a repair.
 pub record Repairs (result : Result (Unit {0}) OpenFault) (old new : Parts) (a b : View) : Type 0 where
   pub agrees : OnOk result (EachHeld (AgreesWith new.place new.tally new.index) b)
   pub fits : OnOk result (Fits new.place new.tally new.index new.frames.journal)

@@ -1,4 +1,4 @@
-//! The intent of a file: read, and judged by the records of the live region.
+//! The intent of a file: read, and validated by the records of the live region.
 
 ghost use Rattle.std.specs.Prelude.{◌≡◌, ◌+◌, ◌*◌, ◌≤◌, ◌^◌, false, sum, OnOk, IfOk, IfErr, IsErrOf, Some, None};
 ghost use Rattle.station.specs.Bytes.{Same};

@@ -15,7 +15,7 @@ use key_slot::Key;
 pub(crate) const FLAGS: usize = MOST_ITEMS as usize;
 
 /// The place in the intent of the first item that meets a full store of `most` records, if one does, by which of the items
-/// find their keys in a store of so many records. No item changes another's key.
+/// find their keys in a store of that many records. No item changes another's key.
 pub(crate) fn full_place(
     intent: &Intent,
     there: &[bool; FLAGS],

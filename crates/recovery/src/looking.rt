@@ -24,7 +24,7 @@ use segment::{SegmentView, StoreFault};
 use slot_wide::WIDE_SEGMENT_SIZE;
 use station::Station;
 
-/// Which of the items find their keys: the live region is read from its start to its end, and each of its segments is judged
+/// Which of the items find their keys: the live region is read from its start to its end, and each of its segments is validated
 /// and searched.
 pub(crate) fn find_keys<S: Station>(
     station: &mut S,
@@ -91,7 +91,7 @@ fn look_in<S: Station>(
         height: 0,
         number: segment,
     });
-    match SegmentView::judge(page, segment, kept) {
+    match SegmentView::validate(page, segment, kept) {
         Ok(rows) => {
             mark_keys(intent, &rows, there);
             Ok(())

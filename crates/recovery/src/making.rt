@@ -7,7 +7,7 @@ ghost use Rattle.window_tally.specs.View.{empty_tally};
 
 use crate::parts::Parts;
 use header_gate::Header;
-use range_scan::HeldPage;
+use range_scan::SegmentBuffer;
 use redo_journal::{Frames, Place};
 use segment::Segment;
 use std::alloc::{AllocError, Global};
@@ -35,7 +35,7 @@ pub fn make_parts(alloc: Global, header: &Header) -> Result<Parts, AllocError>
     let mut tally = Tally::new(alloc, limit)?;
     let mut index = Index::new(alloc, limit)?;
     let frames = Frames::new(alloc, header.layout.journal)?;
-    let page = Box::new(alloc, HeldPage::new())?;
+    let page = Box::new(alloc, SegmentBuffer::new())?;
     let rows = Box::new(alloc, Segment::empty())?;
     tally.clear(header.height);
     index.reset(header.height);

@@ -14,7 +14,7 @@ use Rattle.segment.specs.Rows.{key_at}
 use Rattle.redistribute.specs.Moves.{IsPlaceOn}
 use Rattle.redistribute.specs.Windows.{HasWindow}
 
--- a window whose segments have these counts, none of them 0, in an index with so many segments
+-- a window whose segments have these counts, none of them 0, in an index with that many segments
 pub record IsFencing (place : Place) (first : ℕ) (counts : List ℕ) (segments : ℕ) (frames : Batch) (v : View) : Type 0 where
   pub on : IsPlaceOn place frames v
   pub inside : first + length counts ≤ 2 ^ height_limit place.layout
@@ -22,13 +22,13 @@ pub record IsFencing (place : Place) (first : ℕ) (counts : List ℕ) (segments
   pub fences : first + length counts ≤ segments
   pub window : EachHeld (HasWindow place first counts) v
 
--- the fences of so many segments from `low` on were set to their first keys, but that of segment 0, and no other
+-- the fences of that many segments from `low` on were set to their first keys, but that of segment 0, and no other
 pub record SetsFences {T : Type 0} (result : Result T StoreFault) (low count : ℕ) (f g : ℕ → Option Bytes) (a : View) : Type 0 where
   pub set : OnOk result ((i : ℕ) → i < count → 0 < low + i → IsSome (g (low + i)))
   pub agree : OnOk result (Told a → (i : ℕ) → i < count → 0 < low + i → g (low + i) ≡ key_at (segment_at (array_of a.held) (low + i)) 0)
   pub others : (i : ℕ) → (i < low) ⊎ (low + count ≤ i) → g i ≡ f i
 
--- at most so many bytes were read into frames, whose room stays, in at most so many pieces, each by one call; none was written or
+-- at most that many bytes were read into frames, whose room stays, in at most that many pieces, each by one call; none was written or
 -- changed
 pub record ReadsOnly (most pieces : ℕ) (f g : Batch) (a b : View) : Type 0 where
   pub steps : Steps Same a b

@@ -31,7 +31,7 @@ pub record IsWindowFor (place : Place) (first : ℕ) (counts : List ℕ) (total 
   pub records : total ≡ sum counts
   pub window : EachHeld (HasWindow place first counts) v
 
--- What moves in place came to: the same records at every moment, and on Ok the array that `arranged` makes of the old one.
+-- The outcome of moves in place: the same records at every moment, and on Ok the array that `arranged` makes of the old one.
 -- The frames keep their room.
 pub record MovesRecords {T : Type 0} (result : Result T StoreFault) (place : Place) (arranged : Array → Array) (f g : Batch) (a b : View) : Type 0 where
   pub steps : Steps (Rearranges place) a b

@@ -1,4 +1,4 @@
-//! The segments of a batch are read and judged.
+//! The segments of a batch are read and validated.
 
 ghost use Rattle.std.specs.Prelude.{◌≡◌, ◌+◌, ◌*◌, ◌^◌, ◌<◌, ◌≤◌, [], length, OnOk, IfErr, IsErrOf};
 ghost use Rattle.station.specs.Bytes.{Same};
@@ -19,7 +19,7 @@ ghost use Rattle.redistribute.specs.Stages.{IsShown};
 use crate::plan::Plan;
 use redo_journal::{Frames, Place};
 use segment::StoreFault;
-use segment_frames::{Runs, judge_frame, read_batch};
+use segment_frames::{Runs, read_batch, validate_frame};
 use station::{Failed, Station};
 
 /// Makes the segments of the runs a new batch, reads them into its frames, and sees that they are segments and have as
@@ -57,13 +57,13 @@ pub(crate) fn load<S: Station, P: Plan>(
     ensures failed { IsErrOf result StoreFault.Failed → Rose (S.view station.old).disk_faults (S.view station.new).disk_faults }
 {
     match read_batch(station, place, frames, runs) {
-        Ok(()) => judge_frames(frames, place.layout.format, runs, first, plan),
+        Ok(()) => validate_frames(frames, place.layout.format, runs, first, plan),
         Err(Failed) => Err(StoreFault::Failed),
     }
 }
 
 // Sees that each frame of the batch holds a segment, with as many records as the plan knows of.
-fn judge_frames<P: Plan>(
+fn validate_frames<P: Plan>(
     frames: &Frames,
     format: u32,
     runs: Runs,
@@ -82,7 +82,7 @@ fn judge_frames<P: Plan>(
 {
     for f in 0..runs.count() {
         let segment = runs.segment(f);
-        judge_frame(frames, format, f, segment, plan.records_in(segment - first))?;
+        validate_frame(frames, format, f, segment, plan.records_in(segment - first))?;
     }
     Ok(())
 }

@@ -6,7 +6,7 @@ use Rattle.header_gate.specs.declared.layout.Layout.{Layout}
 use Rattle.header_gate.specs.Header.{live_copy, IsGatePlace}
 use Rattle.header_gate.specs.declared.layout.TheConstants.{PAIRED}
 use Rattle.header_gate.specs.Places.{page_size, table_place, image_place, journal_shift, journal_end, region_place, area_place, file_length}
-use Rattle.header_gate.specs.Recovered.{recovered, laid_over, live_table, is_laid}
+use Rattle.header_gate.specs.Recovered.{recovered, replayed_over, live_table, is_laid}
 use Rattle.redo_journal.specs.declared.place.Place.{Place}
 
 -- the image of a file stands at this place
@@ -44,8 +44,8 @@ frame_byte slots k o = image_byte (bytes_of slots) k o
 -- A commit of a batch: it is in the recovered image wholly or not at all; a journal that is to be laid is that of the
 -- batch, or has the table of one that was to be laid before; nothing changed but journals, gate and the batch's pages.
 pub record Commits (l : Layout) (region : ℕ) (numbers : List ℕ) (image : ℕ → ℕ → ℕ) (old new : List ℕ) : Type 0 where
-  -- the recovered image is that of before, or that with the whole batch laid over the region
-  pub whole : (recovered l new ≡ recovered l old) ⊎ (recovered l new ≡ laid_over l region numbers image (recovered l old))
+  -- the recovered image is that of before, or that with the whole batch replayed over the region
+  pub whole : (recovered l new ≡ recovered l old) ⊎ (recovered l new ≡ replayed_over l region numbers image (recovered l old))
   -- a journal that is to be laid has the batch's table, or that of one that was to be laid before: behind an even gate of one
   -- journal an odd one has the batch's
   pub table : is_laid l new ≡ true → (live_table l new ≡ numbers) ⊎ ((is_laid l old ≡ true) × (live_table l new ≡ live_table l old))

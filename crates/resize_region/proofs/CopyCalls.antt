@@ -4,7 +4,7 @@ use Rattle.segment_frames.specs.Parts.{parts, InParts, GoesInParts}
 use Rattle.resize_region.specs.Source.{copy_calls}
 use Rattle.segment_frames.proofs.PartLaws.{parts_none, parts_more}
 
--- the calls between two counts of calls: so many reads, and so many writes
+-- the calls between two counts of calls: that many reads, and that many writes
 pub record CopyCalls (half counts upto first segments done before now : ℕ) : Type 0 where
   pub read : ℕ
   pub written : ℕ

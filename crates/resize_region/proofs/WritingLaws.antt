@@ -18,7 +18,7 @@ use Rattle.segment.specs.declared.fault.StoreFault.{StoreFault}
 use Rattle.segment.specs.declared.fault.StoreFault.TheVariants.{Failed}
 use Rattle.window_tally.specs.View.{TallyView}
 use Rattle.resize_region.specs.declared.old_rows.OldRows.{OldRows}
-use Rattle.resize_region.specs.Aside.{HasWritten}
+use Rattle.resize_region.specs.Spare.{HasWritten}
 use Rattle.resize_region.specs.OldRows.{IsDamageIn, ReadsRows}
 use Rattle.resize_region.specs.Source.{Walks}
 use Rattle.resize_region.specs.Upgraded.{widened, in_wide}
@@ -26,7 +26,7 @@ use Rattle.resize_region.specs.Widening.{WritesWide}
 use Rattle.resize_region.proofs.WalkLaws.{walks_on}
 use Rattle.resize_region.proofs.OldRowLaws.{rose_on, failed_is, failed_as}
 
--- what is written for so many segments
+-- what is written for that many segments
 pub spent : (n t f : ℕ) → f ≤ t → n * (t - f) + n * (f + 1) ≡ n * (t + 1 - 0)
 spent n t f le =
     let parts : n * (t - f) + n * (f + 1) ≡ n * (t - f + (f + 1)) = omega arith in

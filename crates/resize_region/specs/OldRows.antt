@@ -16,7 +16,7 @@ use Rattle.window_tally.specs.View.{TallyView}
 use Rattle.resize_region.specs.Source.{Walks}
 use Rattle.resize_region.specs.declared.old_rows.OldRows.{OldRows}
 
--- the reader is amid the segments of the place, whose counts a tally has, and so many records of the last one were taken
+-- the reader is amid the segments of the place, whose counts a tally has, and that many records of the last one were taken
 pub record IsAmongRows (place : Place) (t : TallyView) (r : OldRows) : Type 0 where
   pub counts : length t.counts ≡ 2 ^ t.height
   pub layout_is : r.reader.layout ≡ place.layout

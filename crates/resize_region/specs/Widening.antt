@@ -16,7 +16,7 @@ use Rattle.redo_journal.specs.Rest.{RestsAt}
 use Rattle.segment.specs.declared.fault.StoreFault.{StoreFault}
 use Rattle.segment.specs.declared.fault.StoreFault.TheVariants.{Failed}
 use Rattle.window_tally.specs.View.{TallyView}
-use Rattle.resize_region.specs.Aside.{HasWritten}
+use Rattle.resize_region.specs.Spare.{HasWritten}
 use Rattle.resize_region.specs.OldRows.{IsDamageIn}
 use Rattle.resize_region.specs.Shares.{StandsBare}
 use Rattle.resize_region.specs.Source.{Walks}
@@ -24,7 +24,7 @@ use Rattle.resize_region.specs.Upgraded.{Upgrades, widened, in_wide, upgraded, u
 use Rattle.segment_frames.specs.Lists.{most_segments}
 use Rattle.segment_frames.specs.Parts.{parts}
 
--- a store of format 1 on a station, over whose file nothing is to be laid, frames for its journal, and so many segments of
+-- a store of format 1 on a station, over whose file nothing is to be laid, frames for its journal, and that many segments of
 -- format 2 with room for its records
 pub record CanWiden (place : Place) (t : TallyView) (segments : ℕ) (frames : Batch) (v : View) : Type 0 where
   pub layout : IsLayout place.layout
@@ -38,7 +38,7 @@ pub record CanWiden (place : Place) (t : TallyView) (segments : ℕ) (frames : B
   pub room : sum t.counts ≤ SEGMENT_SLOTS * segments
   pub fits : segments ≤ 2 ^ height_limit (widened place.layout)
 
--- The records were written at format 2 into so many segments of the other region, while old segments were read.
+-- The records were written at format 2 into that many segments of the other region, while old segments were read.
 pub record WritesWide {T : Type 0} (result : Result T StoreFault) (place : Place) (t : TallyView) (segments : ℕ) (f g : Batch) (a b : View) : Type 0 where
   pub steps : Steps (Spares place.layout place.region) a b
   pub written : OnOk result (Told a → HasWritten (in_wide place) (spread_over segments (rows (array_of a.held))) segments b.held)
@@ -56,7 +56,7 @@ pub record WritesWide {T : Type 0} (result : Result T StoreFault) (place : Place
 abbrev pub widen_calls : Place → ℕ → ℕ
 widen_calls place height = 2 ^ height + parts (most_segments (widened place.layout)) (2 ^ upgraded_height place.layout height) + 4
 
--- What an upgrade comes to that isn't refused, whatever is answered.
+-- The outcome of an upgrade that isn't refused, whatever is answered.
 pub record SpreadsWide {T : Type 0} (result : Result T StoreFault) (place after : Place) (t : TallyView) (a b : View) : Type 0 where
   pub steps : Steps (Upgrades place (upgraded_height place.layout t.height)) a b
   pub settled : OnOk result (NothingPending b)

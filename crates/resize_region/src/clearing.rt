@@ -16,7 +16,7 @@ use redo_journal::{Frames, Place, clear};
 use segment::StoreFault;
 use station::{Failed, Station};
 
-/// Leaves nothing pending, and no page that is to be laid over the live region, so that [`crate::grow`], [`crate::shrink`]
+/// Leaves nothing pending, and no page that is to be replayed over the live region, so that [`crate::grow`], [`crate::shrink`]
 /// or [`crate::upgrade`] may follow. Where the file has one journal no call is made.
 pub fn clear_store<S: Station>(
     station: &mut S,
@@ -36,7 +36,7 @@ pub fn clear_store<S: Station>(
     // On Ok the array stays, and a tally that stood for the file still does.
     ensures stands { OnOk result ((tally : TallyView) → EachHeld (StandsFor place.now tally) (S.view station.old) → EachHeld (StandsFor place.now tally) (S.view station.new)) }
     ensures array { OnOk result (Told (S.view station.old) → array_of (S.view station.new).held ≡ array_of (S.view station.old).held) }
-    // On Ok nothing is pending, no page is to be laid over the live region, and the station is at rest.
+    // On Ok nothing is pending, no page is to be replayed over the live region, and the station is at rest.
     ensures nothing { OnOk result (NothingPending (S.view station.new)) }
     ensures bare { OnOk result (Told (S.view station.new) → IsBare place.now.layout (S.view station.new).held) }
     ensures rests { OnOk result (RestsAt place.now.layout frames.new.turn (S.view station.new)) }

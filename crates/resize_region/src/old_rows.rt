@@ -11,7 +11,7 @@ ghost use Rattle.resize_region.specs.OldRows.{IsAmongRows, IsInOrder, ReadsRows,
 
 use crate::putting::put_row;
 use crate::widening::WIDE;
-use range_scan::{HeldPage, RegionReader, next_counted};
+use range_scan::{RegionReader, SegmentBuffer, next_counted};
 use redo_journal::{Frames, Place};
 use segment::StoreFault;
 use station::Station;
@@ -23,7 +23,7 @@ pub(crate) struct OldRows {
     /// The segments that are still to be read.
     pub reader: RegionReader,
     /// The segment that was read last.
-    pub page: HeldPage,
+    pub page: SegmentBuffer,
     /// Its records from this place on weren't taken.
     pub place: u32,
 }

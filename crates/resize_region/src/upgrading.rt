@@ -34,7 +34,7 @@ use window_tally::Tally;
 /// greatest that these can have.
 ///
 /// The other region is written first, and then a flip names it with its format. So whatever a crash leaves represents the
-/// same map, by the old array or by the new one. Each segment of the live region is read once, in order, and judged.
+/// same map, by the old array or by the new one. Each segment of the live region is read once, in order, and validated.
 ///
 /// On `Done` the place names the other region and format 2; no other answer changes it. `Already`, `OneSegment` and
 /// `TooMany` come of layout and tally alone, and no call of the station is made. `Damaged` is never answered where the

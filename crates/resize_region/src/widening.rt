@@ -10,7 +10,7 @@ ghost use Rattle.map_model.specs.Array.{rows};
 ghost use Rattle.map_model.specs.Image.{array_of};
 ghost use Rattle.map_model.specs.Regions.{Spares};
 ghost use Rattle.redo_journal.specs.Commit.{IsAt};
-ghost use Rattle.resize_region.specs.Aside.{WritesAside, aside_bytes};
+ghost use Rattle.resize_region.specs.Spare.{WritesSpare, spare_bytes};
 ghost use Rattle.resize_region.specs.OldRows.{IsAmongRows, IsInOrder, rows_left};
 ghost use Rattle.resize_region.specs.Shares.{places, HasShares, share_in};
 ghost use Rattle.resize_region.specs.Source.{Walks};
@@ -24,7 +24,7 @@ use crate::old_rows::{OldRows, gather, read_rest};
 use crate::resizing::segments_at;
 use crate::shares::{clear_shares, start_shares};
 use header_gate::Layout;
-use range_scan::{HeldPage, RegionReader};
+use range_scan::{RegionReader, SegmentBuffer};
 use redo_journal::{Frames, Place};
 use segment::StoreFault;
 use spread_plan::share;
@@ -35,7 +35,7 @@ use window_tally::Tally;
 pub(crate) const WIDE: u32 = 2;
 
 /// Writes the records of a store of format 1 into `segments` segments of format 2 of the other region. Each old segment is
-/// read once and judged.
+/// read once and validated.
 pub(crate) fn copy_wide<S: Station>(
     station: &mut S,
     place: &Place,
@@ -54,7 +54,7 @@ pub(crate) fn copy_wide<S: Station>(
 {
     let mut rows = OldRows {
         reader: RegionReader::new(place.layout, place.region, 0, segments_at(tally.height())),
-        page: HeldPage::new(),
+        page: SegmentBuffer::new(),
         place: 0,
     };
     write_wide(station, place, frames, tally, &mut rows, records, segments)?;
@@ -128,9 +128,9 @@ fn write_places<S: Station>(
     requires live { EachHeld (IsAt place.now) (S.view station.old) }
     ensures steps { Steps (Spares place.now.layout place.now.region) (S.view station.old) (S.view station.new) }
     ensures written { OnOk result (Told (S.view station.old) → (i : ℕ) → i < count → FitsSegment wide (share_in wide i frames.now) →
-        IsSegment wide (share_in wide i frames.now) (aside_bytes (in_wide place.now) (first + i) (S.view station.new).held)) }
-    ensures others { Told (S.view station.old) → (i : ℕ) → i < first → aside_bytes (in_wide place.now) i (S.view station.new).held ≡ aside_bytes (in_wide place.now) i (S.view station.old).held }
-    ensures writes { WritesAside (segment_size (widened place.now.layout) * count) (S.view station.old) (S.view station.new) }
+        IsSegment wide (share_in wide i frames.now) (spare_bytes (in_wide place.now) (first + i) (S.view station.new).held)) }
+    ensures others { Told (S.view station.old) → (i : ℕ) → i < first → spare_bytes (in_wide place.now) i (S.view station.new).held ≡ spare_bytes (in_wide place.now) i (S.view station.old).held }
+    ensures writes { WritesSpare (segment_size (widened place.now.layout) * count) (S.view station.old) (S.view station.new) }
     ensures fault { IfErr result (λ fault. fault ≡ StoreFault.Failed) }
     ensures failed { IsErrOf result StoreFault.Failed → Rose (S.view station.old).disk_faults (S.view station.new).disk_faults }
 {

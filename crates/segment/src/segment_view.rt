@@ -1,4 +1,4 @@
-//! The rows of a segment where they lie: bytes that were judged, neither copied nor zeroed.
+//! The rows of a segment where they lie: bytes that were validated, neither copied nor zeroed.
 
 ghost use Rattle.std.specs.Prelude.{◌≡◌, ◌≢◌, ℕ, ◌-◌, ◌<◌, ◌≤◌, ◌↔◌, Some, None, length, slice_get, IfOk, IfErr, IfSome, IfNone, IsOk, IsNone, IsSome};
 ghost use Rattle.std.specs.Option.{option_map};
@@ -6,15 +6,15 @@ ghost use Rattle.key_slot.specs.Format.{HasFormat, format_of};
 ghost use Rattle.key_slot.specs.Record.{Bytes, key_cmp, IsAscending};
 ghost use Rattle.key_slot.specs.Row.{record_of};
 ghost use Rattle.key_slot.specs.Segment.{IsSegment, first_bad_slot, segment_of};
-ghost use Rattle.segment.specs.Judged.{damage_of};
+ghost use Rattle.segment.specs.Validated.{damage_of};
 ghost use Rattle.segment.specs.Fields.{IsWhole, row_in};
 ghost use Rattle.segment.specs.Rows.{key_at, value_at, value_of, IsGap, BeginsAt};
 
 use super::counted::count_rows;
 use super::fault::{BadSegment, Damage, StoreFault};
-use super::judging::judge_kept;
 use super::segment::Segment;
 use super::slot::{Slot, narrow_fields, wide_fields};
+use super::validating::validate_kept;
 use key_slot::{
     Key, Row, SEGMENT_SIZE, SEGMENT_SLOTS, SLOT_SIZE, compare_key, key_of, row_of, value_bytes,
 };
@@ -22,7 +22,7 @@ use slot_wide::{WIDE_SIZE, compare_wide_key, wide_key_of, wide_row_of, wide_valu
 use std::cmp::Ordering;
 use std::marker::Model;
 
-/// The bytes of a segment of either format, which were judged, with the number of its rows. A place counts rows from 0.
+/// The bytes of a segment of either format, which were validated, with the number of its rows. A place counts rows from 0.
 #[derive(Drop)]
 pub struct SegmentView<'a> {
     bytes: &'a [u8],
@@ -34,13 +34,13 @@ impl<'a> Model for SegmentView<'a> {
     ghost use Rattle.key_slot.specs.Format.{format_of};
     ghost use Rattle.key_slot.specs.Record.{Record};
     ghost use Rattle.key_slot.specs.Segment.{segment_of};
-    ghost use Rattle.segment.specs.Viewed.{IsJudged};
+    ghost use Rattle.segment.specs.Viewed.{IsValidated};
 
     ghost Value = { List Record };
 
     ghost view = { λ v. segment_of (format_of v.bytes.now) v.bytes.now };
 
-    ghost invariant = { λ v. IsJudged v.len v.bytes.now };
+    ghost invariant = { λ v. IsValidated v.len v.bytes.now };
 }
 
 impl<'a> SegmentView<'a> {
@@ -61,7 +61,7 @@ impl<'a> SegmentView<'a> {
     ///
     /// It fails if the bytes are no segment, and names the first bad slot; else if they have another number of
     /// rows, and names both numbers.
-    pub fn judge(bytes: &'a [u8], segment: u32, kept: u32) -> Result<SegmentView<'a>, StoreFault>
+    pub fn validate(bytes: &'a [u8], segment: u32, kept: u32) -> Result<SegmentView<'a>, StoreFault>
         requires { HasFormat bytes.now }
         // On Ok the bytes are the one spelling of the rows that it answers, in the format of their length, `kept` in number.
         ensures rows { IfOk result (λ rows. IsSegment (format_of bytes.now) rows bytes.now) }
@@ -72,11 +72,11 @@ impl<'a> SegmentView<'a> {
         // If it names two numbers of rows, the second one is `kept`, and the first differs.
         ensures other { (found other : ℕ) → result ≡ Err (StoreFault.Damaged segment (Damage.OtherCount found other)) → (other ≡ kept) × (found ≢ kept) }
     {
-        judge_kept(bytes, segment, kept)?;
+        validate_kept(bytes, segment, kept)?;
         Ok(SegmentView::again(bytes, kept))
     }
 
-    /// The rows of bytes that were judged before, with their number, for a caller that keeps both. Nothing is read.
+    /// The rows of bytes that were validated before, with their number, for a caller that keeps both. Nothing is read.
     #[inline(always)]
     pub fn again(bytes: &'a [u8], count: u32) -> SegmentView<'a>
         requires format { HasFormat bytes.now }
@@ -90,7 +90,7 @@ impl<'a> SegmentView<'a> {
         }
     }
 
-    /// Puts the rows in place of those of a segment, which may be edited then. They aren't judged again.
+    /// Puts the rows in place of those of a segment, which may be edited then. They aren't validated again.
     pub fn copy_into(&self, rows: &mut Segment)
         ensures { rows.new ≡ self.now }
     {

@@ -87,7 +87,7 @@ segments_ascend format numbers some ascends i j lt below =
       | inr le ↦ absurd (omega (arith, first, second, less, times_up format (get_or numbers j 0) (get_or numbers i 0) le))
     ]
 
--- the pages of so many segments go into the journal
+-- the pages of that many segments go into the journal
 pub fits_journal : (l : Layout) (n : ℕ) → n ≤ most_segments l → l.format * n ≤ l.journal
 fits_journal l n le = omega (arith, times_up l.format n (l.journal / l.format) le, mul-div-le l.journal l.format)
 

@@ -7,7 +7,7 @@ use Rattle.key_slot.specs.declared.sizes.TheConstants.{SEGMENT_SLOTS}
 use Rattle.raw_slots.specs.Groups.{groups}
 use Rattle.map_model.specs.Array.{Array, segment_at}
 
--- the slots of a format, each of which is so many slots of the frames
+-- the slots of a format, each of which is that many slots of the frames
 abbrev pub grouped : ℕ → List (List ℕ) → List (List ℕ)
 grouped format slots = groups format (length slots / format) slots
 

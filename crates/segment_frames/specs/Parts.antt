@@ -1,11 +1,11 @@
 -- Segments that are read or written in parts, each by one call of the device.
 use Rattle.std.specs.Prelude.{ℕ, ◌+◌, ◌-◌, ◌*◌, ◌/◌, ◌<◌, ◌≤◌}
 
--- how many parts so many segments come to, where a part has room for so many
+-- how many parts that many segments come to, where a part has room for that many
 abbrev pub parts : ℕ → ℕ → ℕ
 parts room count = (count + (room - 1)) / room
 
--- so many parts were made of the first segments, and each of them is a whole one but the last of all
+-- that many parts were made of the first segments, and each of them is a whole one but the last of all
 pub record InParts (room count done made : ℕ) : Type 0 where
   pub whole : done < count → room * made ≤ done
   pub few : made ≤ parts room count

@@ -20,7 +20,7 @@ moves_between from a b =
     let to = a / SEGMENT_RECORDS in let edge = (to + 1) * SEGMENT_RECORDS in
     move_of from to (min b edge - a) ++ move_of from (to + 1) (b - edge)
 
--- the moves to the left from the segments with these counts, of which this one is the first and has so many records
+-- the moves to the left from the segments with these counts, of which this one is the first and has that many records
 -- before it. Records whose numbers fall in the room of the segment that has them stay
 abbrev pub pack_from : ℕ → ℕ → List ℕ → List Move
 pack_from segment before [] = []

@@ -6,7 +6,7 @@ ghost use Rattle.veb_layout.specs.Tables.{cut_above as cut_above_of, positions};
 
 use std::marker::Model;
 
-/// The most levels of an index.
+/// The most levels of an index: one for each height up to the greatest.
 const MOST: usize = 16;
 
 /// The positions of the nodes on the way down to a node, from the root on: at most 16.

@@ -4,7 +4,7 @@ ghost use Rattle.std.specs.Prelude.{◌≡◌, ℕ, ◌<◌, ◌≤◌, length, 
 
 use std::alloc::{AllocError, Global};
 
-/// So many counts of 0, with memory for `most`.
+/// That many counts of 0, with memory for `most`.
 pub fn no_counts(alloc: Global, most: usize, places: usize) -> Result<Vec<u32>, AllocError>
     requires { places ≤ most }
     ensures size { IfOk result (λ v. length v.items ≡ places) }
@@ -16,7 +16,7 @@ pub fn no_counts(alloc: Global, most: usize, places: usize) -> Result<Vec<u32>, 
     Ok(counts)
 }
 
-/// So many marks of windows that aren't rested, with memory for `most`.
+/// That many marks of windows that aren't rested, with memory for `most`.
 pub fn no_marks_yet(
     alloc: Global,
     most: usize,
@@ -32,7 +32,7 @@ pub fn no_marks_yet(
     Ok(marks)
 }
 
-/// Makes them so many counts of 0, and keeps their memory: none is taken, and this can't fail.
+/// Makes them that many counts of 0, and keeps their memory: none is taken, and this can't fail.
 pub fn clear_counts(counts: &mut Vec<u32>, places: usize)
     requires { places ≤ vec_capacity counts.old }
     ensures size { length counts.new.items ≡ places }
@@ -43,7 +43,7 @@ pub fn clear_counts(counts: &mut Vec<u32>, places: usize)
     let _ = counts.resize(places, 0);
 }
 
-/// Makes them so many marks of windows that aren't rested, and keeps their memory, likewise.
+/// Makes them that many marks of windows that aren't rested, and keeps their memory, likewise.
 pub fn clear_marks(marks: &mut Vec<Option<u64>>, places: usize)
     requires { places ≤ vec_capacity marks.old }
     ensures size { length marks.new.items ≡ places }
@@ -54,7 +54,7 @@ pub fn clear_marks(marks: &mut Vec<Option<u64>>, places: usize)
     let _ = marks.resize(places, None);
 }
 
-/// Makes them so many counts, of which those that were there stay, and keeps their memory: none is taken, and this
+/// Makes them that many counts, of which those that were there stay, and keeps their memory: none is taken, and this
 /// can't fail.
 pub fn fit_counts(counts: &mut Vec<u32>, places: usize)
     requires { places ≤ vec_capacity counts.old }
@@ -65,7 +65,7 @@ pub fn fit_counts(counts: &mut Vec<u32>, places: usize)
     let _ = counts.resize(places, 0);
 }
 
-/// Makes them so many marks, and keeps their memory: none is taken, and this can't fail.
+/// Makes them that many marks, and keeps their memory: none is taken, and this can't fail.
 pub fn fit_marks(marks: &mut Vec<Option<u64>>, places: usize)
     requires { places ≤ vec_capacity marks.old }
     ensures size { length marks.new.items ≡ places }

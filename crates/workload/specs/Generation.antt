@@ -31,7 +31,7 @@ abbrev pub lines_to : Layout → ArrayState → List Command → List Reply
 lines_to l s [] = []
 lines_to l s (c ∷ cs) = answers l s c ++ lines_to l (array_step l s c) cs
 
--- the state after the first so many commands of a seed
+-- the state after the first that many commands of a seed
 abbrev pub gen_state : ℕ → ℕ → ArrayState
 gen_state count seed = array_state_after gen_layout empty_state (generated count seed)
 

@@ -9,7 +9,7 @@ use Rattle.command_text.specs.declared.command.Command.TheVariants.{Nothing, Put
 unfoldable pub next_draw : ℕ → ℕ
 next_draw x = (x * 6364136223846793005 + 1442695040888963407) % 2 ^ 64
 
--- the number that it holds after so many steps from a seed
+-- the number that it holds after that many steps from a seed
 abbrev pub draw : ℕ → ℕ → ℕ
 draw seed zero = seed
 draw seed (suc steps) = next_draw (draw seed steps)
@@ -37,7 +37,7 @@ command_by x i = command_chosen (x / 2 ^ 33) i
 abbrev pub command_numbered : ℕ → ℕ → Command
 command_numbered seed i = command_by (draw seed i) i
 
--- the first so many commands of a seed
+-- the first that many commands of a seed
 abbrev pub generated : ℕ → ℕ → List Command
 generated zero seed = []
 generated (suc count) seed = generated count seed ++ command_numbered seed (suc count) ∷ []

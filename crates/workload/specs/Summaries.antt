@@ -33,7 +33,7 @@ abbrev pub rows_ended : Reply → ℕ
 rows_ended (End rows) = rows
 rows_ended _ = 0
 
--- so many commands, counted by all lines of their replies; of no size
+-- that many commands, counted by all lines of their replies; of no size
 abbrev pub summary_of : ℕ → List Reply → Summary
 summary_of commands lines = record {
   commands = commands;

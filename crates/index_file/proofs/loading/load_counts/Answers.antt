@@ -4,10 +4,10 @@ use Rattle.header_gate.specs.declared.reason.Reason.TheVariants.{Index}
 use Rattle.map_model.specs.Reasons.{first_reason}
 use Rattle.window_tally.specs.View.{TallyView}
 use Rattle.index_file.specs.Area.{count_place}
-use Rattle.index_file.specs.Judging.{windows_reason, counts_read, row_reason}
+use Rattle.index_file.specs.Validating.{windows_reason, counts_read, row_reason}
 use Rattle.index_file.specs.declared.fault.AreaFault.TheVariants.{Wrong}
 use Rattle.index_file.proofs.Answering.{never_wrong}
-use Rattle.index_file.proofs.JudgingLaws.{counts_are_read, count_fails_reason}
+use Rattle.index_file.proofs.ValidatingLaws.{counts_are_read, count_fails_reason}
 use Rattle.index_file.proofs.loading.load_counts.Goals as goal
 
 wrong_one : (p q : ℕ) → Wrong p ≡ Wrong q → p ≡ q

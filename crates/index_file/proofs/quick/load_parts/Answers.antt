@@ -17,7 +17,7 @@ use Rattle.redo_journal.specs.Replaying.{gate_after}
 use Rattle.redo_journal.specs.Rest.{RestsAt}
 use Rattle.redo_journal.specs.declared.place.Place.{Place}
 use Rattle.window_tally.specs.View.{TallyView}
-use Rattle.index_file.specs.Judging.{counts_read, area_reason}
+use Rattle.index_file.specs.Validating.{counts_read, area_reason}
 use Rattle.index_file.specs.Reading.{NamesPlace, after_area, area_calls}
 use Rattle.index_file.specs.Writing.{AreNodesOf}
 use Rattle.index_file.proofs.QuickLaws.{quick_agrees, quick_rests, loaded_parts, loaded_marks}

@@ -5,7 +5,7 @@ use Rattle.header_gate.specs.Places.{height_limit}
 use Rattle.header_gate.proofs.PagedSegments.{pages_fit}
 use Rattle.key_slot.specs.Record.{Record, is_record}
 use Rattle.key_slot.proofs.SegmentLaws.{times_up}
-use Rattle.pma_store.proofs.LookLaws.{own_fits, loads_more}
+use Rattle.pma_store.proofs.BatchScanLaws.{own_fits, loads_more}
 use Rattle.pma_store.proofs.batch_scan.load_edits.Goals as goal
 
 pub load_segment-requires-clause-small : goal.load_segment-requires-clause-small

@@ -12,7 +12,7 @@ use Rattle.map_model.specs.Image.{array_of}
 use Rattle.redo_journal.specs.Frames.{Batch}
 use Rattle.pma_store.proofs.BatchCalls.{looks_once}
 use Rattle.pma_store.proofs.OnceLaws.{used_none}
-use Rattle.pma_store.proofs.LookLaws.{none_numbers, loads_none, looks_none, loads_later, looks_later, reads_none, reads_more, reads_all}
+use Rattle.pma_store.proofs.BatchScanLaws.{none_numbers, loads_none, looks_none, loads_later, looks_later, reads_none, reads_more, reads_all}
 use Rattle.pma_store.proofs.Making.{no_fault}
 use Rattle.pma_store.proofs.Standing.{rows_ascend, size_of}
 use Rattle.pma_store.proofs.batch_scan.look_over.Goals as goal

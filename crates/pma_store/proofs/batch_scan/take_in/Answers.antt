@@ -3,7 +3,7 @@ use mathlib.Core.Bool.{true≢false}
 use Rattle.pma_store.specs.Looked.{HasFound}
 use Rattle.pma_store.specs.Once.{AreUsed}
 use Rattle.pma_store.proofs.OnceLaws.{has_edited, used_more}
-use Rattle.pma_store.proofs.LookLaws.{finds_more, none_here, edits_kept, edits_more}
+use Rattle.pma_store.proofs.BatchScanLaws.{finds_more, none_here, edits_kept, edits_more}
 use Rattle.pma_store.proofs.batch_scan.take_in.Goals as goal
 use Rattle.pma_store.proofs.batch_scan.take_in.Goals.{else-look-via-then-look+else-has_edit, else-look-via-else-look}
 

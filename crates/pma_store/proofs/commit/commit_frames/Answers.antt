@@ -1,7 +1,7 @@
 use Rattle.std.proofs.Common.{◌≡◌, ℕ, ◌*◌, List, [], ◌<◌, refl, sym, ap, subst, ◌∙◌, arith, inl, inr}
 use Rattle.std.proofs.lemmas.List.{nil_from_length}
 use Rattle.station.proofs.Composition.{no_steps, weaken}
-use Rattle.header_gate.specs.Recovered.{is_laid, laid_over, live_table, recovered}
+use Rattle.header_gate.specs.Recovered.{is_laid, replayed_over, live_table, recovered}
 use Rattle.redo_journal.specs.Commit.{frame_byte}
 use Rattle.std.proofs.lemmas.Result.{on_ok_weaker}
 use Rattle.redo_journal.proofs.Live.{next_small}
@@ -24,7 +24,7 @@ returns-then-count-eq0-clause-committed g c =
         };
         none = λ zero. same;
       });
-      laid = λ told. sym (ap (λ (l : List ℕ). laid_over place.layout place.region l (frame_byte frames.slots) (recovered place.layout a.held)) none ∙ laid_nothing place.layout place.region (frame_byte frames.slots) (recovered place.layout a.held));
+      laid = λ told. sym (ap (λ (l : List ℕ). replayed_over place.layout place.region l (frame_byte frames.slots) (recovered place.layout a.held)) none ∙ laid_nothing place.layout place.region (frame_byte frames.slots) (recovered place.layout a.held));
       rests = c.requires.rests;
       none = λ zero. refl;
       cost = omega arith;

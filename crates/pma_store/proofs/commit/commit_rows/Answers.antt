@@ -6,7 +6,7 @@ use Rattle.station.specs.Steps.{Steps}
 use Rattle.station.proofs.Composition.{weaken}
 use Rattle.header_gate.specs.Paged.{pages_of_all}
 use Rattle.header_gate.specs.Places.{height_limit}
-use Rattle.header_gate.specs.Recovered.{recovered, laid_over}
+use Rattle.header_gate.specs.Recovered.{recovered, replayed_over}
 use Rattle.header_gate.proofs.PagedSegments.{known_format, length-pages_of_all, pages_fit}
 use Rattle.redo_journal.specs.Commit.{Commits, frame_byte}
 use Rattle.segment_frames.specs.declared.runs.Runs.{Runs}
@@ -21,7 +21,7 @@ one_number : (i : ℕ) → numbers_of (record { low = i; low_len = 1; high = i +
 unfolding numbers_of
 one_number i = refl
 
--- the numbers of its pages are so many
+-- the numbers of its pages are that many
 paged : (g : _) (c : After-load_frame g) → length c.load_frame.new.frames.numbers ≡ c.args.place.now.layout.format
 paged g c = ap length c.load_frame.ensures.numbers ∙ length-pages_of_all c.args.place.now.layout.format (c.args.segment ∷ []) ∙ omega arith
 
@@ -77,7 +77,7 @@ returns-clause-laid g c =
     let b = g.S.Station.view c.commit.new.station in
     let slots = c.load_frame.new.frames.slots in
     let place = c.args.place.now in
-    let named = subst (λ (ns : List ℕ). recovered place.layout b.held ≡ laid_over place.layout place.region ns (frame_byte slots) (recovered place.layout a.held)) c.load_frame.ensures.numbers (laid told) in
+    let named = subst (λ (ns : List ℕ). recovered place.layout b.held ≡ replayed_over place.layout place.region ns (frame_byte slots) (recovered place.layout a.held)) c.load_frame.ensures.numbers (laid told) in
     has_rewritten place c.args.segment c.args.rows.now slots a.held b.held (c.requires.settled a.held (inl (told, refl))) c.load_frame.ensures.image
     ((steps g (goal.at.returns-clause-laid g c).After-commit).held told) named) c.commit.ensures.laid
 

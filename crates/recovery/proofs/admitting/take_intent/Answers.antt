@@ -90,16 +90,16 @@ returns-in-Ok-clause-intent g c told =
     ∙ some_waits c.args.parts.now.place.layout image (layout_is g at.After-read_intent told) (some g at.In-Ok-Some told) (c.in-Ok-Some.ensures.sound told)
 
 -- what is found wrong with its items is what is wrong with the intent of the file
-judged : (layout : Layout) (image now : List ℕ) (intent : List Update) (answer : Option Reason) → layout_in image ≡ layout → has_intent layout image ≡ true → form_reason layout image ≡ None → intent ≡ items_in (intent_area image) → now ≡ image
+validated : (layout : Layout) (image now : List ℕ) (intent : List Update) (answer : Option Reason) → layout_in image ≡ layout → has_intent layout image ≡ true → form_reason layout image ≡ None → intent ≡ items_in (intent_area image) → now ≡ image
     → reason_at (place_among intent (first_full (height_limit layout) (map_of now) intent)) ≡ answer → intent_reason image ≡ answer
-judged layout image now intent answer is some right same held found =
+validated layout image now intent answer is some right same held found =
     some_wrong layout image is some right answer ((λ t. reason_at (place_among (sym same t) (first_full (height_limit layout) (map_of (sym held t)) (sym same t)))) ∙ found)
 
 pub returns-in-Ok-clause-sound : goal.returns-in-Ok-clause-sound
 returns-in-Ok-clause-sound g c told =
     let at = goal.at.returns-in-Ok-clause-sound g c in
     let steps = c.read_intent.ensures.steps in
-    judged c.args.parts.now.place.layout (g.S.Station.view c.args.station.now).held (g.S.Station.view c.read_intent.new.station).held c.in-Ok-Some.intent None
+    validated c.args.parts.now.place.layout (g.S.Station.view c.args.station.now).held (g.S.Station.view c.read_intent.new.station).held c.in-Ok-Some.intent None
     (layout_is g at.After-read_intent told) (some g at.In-Ok-Some told) (c.in-Ok-Some.ensures.sound told) (items_are g at.In-Ok-Some told) (steps.held told)
     (ap (λ (o : Option ℕ). reason_at (place_among c.in-Ok-Some.intent o)) (c.in-Ok.ensures.room (told_on steps.frame told)))
 
@@ -107,7 +107,7 @@ pub returns-in-Err-admit-clause-refused : goal.returns-in-Err-admit-clause-refus
 returns-in-Err-admit-clause-refused g c r is told =
     let at = goal.at.returns-in-Err-admit-clause-refused g c in
     let steps = c.read_intent.ensures.steps in
-    judged c.args.parts.now.place.layout (g.S.Station.view c.args.station.now).held (g.S.Station.view c.read_intent.new.station).held c.in-Ok-Some.intent (Some r)
+    validated c.args.parts.now.place.layout (g.S.Station.view c.args.station.now).held (g.S.Station.view c.read_intent.new.station).held c.in-Ok-Some.intent (Some r)
     (layout_is g at.After-read_intent told) (some g at.In-Ok-Some told) (c.in-Ok-Some.ensures.sound told) (items_are g at.In-Ok-Some told) (steps.held told)
     (c.in-Err-admit.ensures.full r is (told_on steps.frame told))
 

@@ -10,7 +10,7 @@ use Rattle.key_slot.specs.Segment.{segment_of}
 use Rattle.key_slot.proofs.SegmentLaws.{segment_rows}
 use Rattle.range_scan.proofs.Pages.{format_is, read_as}
 use Rattle.redo_journal.proofs.Live.{rest_held}
-use Rattle.segment.specs.Judged.{damage_of}
+use Rattle.segment.specs.Validated.{damage_of}
 use Rattle.segment.specs.declared.fault.StoreFault.{StoreFault}
 use Rattle.recovery.specs.Faults.{IsRepairFault, repair_fault}
 use Rattle.recovery.specs.Intents.{AlsoIn}
@@ -27,8 +27,8 @@ read_page-requires-clause-segment g c =
 pub returns-in_default-clause-reads_one : goal.returns-in_default-clause-reads_one
 returns-in_default-clause-reads_one g c = omega (arith, ap (λ (t : Travel). t.read) c.read_page.ensures.reads)
 
-pub returns-in-Ok-judge-clause-reads_one : goal.returns-in-Ok-judge-clause-reads_one
-returns-in-Ok-judge-clause-reads_one g c = omega (arith, ap (λ (t : Travel). t.read) c.read_page.ensures.reads)
+pub returns-in-Ok-validate-clause-reads_one : goal.returns-in-Ok-validate-clause-reads_one
+returns-in-Ok-validate-clause-reads_one g c = omega (arith, ap (λ (t : Travel). t.read) c.read_page.ensures.reads)
 
 pub returns-in-Err-clause-reads_one : goal.returns-in-Err-clause-reads_one
 returns-in-Err-clause-reads_one g c = omega (arith, ap (λ (t : Travel). t.read) c.read_page.ensures.reads)
@@ -36,12 +36,12 @@ returns-in-Err-clause-reads_one g c = omega (arith, ap (λ (t : Travel). t.read)
 size : (g : _) (c : After-read_page g) → length c.read_page.new.page ≡ page_size * c.args.parts.now.place.layout.format
 size g c = omega (arith, c.read_page.auto.page, c.requires.size)
 
-pub returns-in-Ok-judge-clause-found : goal.returns-in-Ok-judge-clause-found
-returns-in-Ok-judge-clause-found g c told =
+pub returns-in-Ok-validate-clause-found : goal.returns-in-Ok-validate-clause-found
+returns-in-Ok-validate-clause-found g c told =
     let format = c.args.parts.now.place.layout.format in
     let page = c.read_page.new.page in
-    let rows = c.in-Ok-judge.rows in
-    let rows_are : segment_of format page ≡ rows = segment_rows format rows page (read_as format rows page (size g (goal.at.returns-in-Ok-judge-clause-found g c).After-read_page) c.in-Ok-judge.ensures.rows) in
+    let rows = c.in-Ok-validate.rows in
+    let rows_are : segment_of format page ≡ rows = segment_rows format rows page (read_as format rows page (size g (goal.at.returns-in-Ok-validate-clause-found g c).After-read_page) c.in-Ok-validate.ensures.rows) in
     subst (λ (rs : List Record). AlsoIn c.args.intent.now rs c.args.there.now c.mark_keys.new.there) (sym rows_are ∙ ap (segment_of format) (c.in-Ok.ensures.bytes told)) c.mark_keys.ensures
 
 pub returns-in-Err-clause-damaged : goal.returns-in-Err-clause-damaged

@@ -21,27 +21,27 @@ window : (g : _) (c : In-Ok g) → Told (g.S.Station.view c.args.station.now) �
 window g c told = c.requires.window (g.S.Station.view c.args.station.now).held (inl (told, refl))
 
 pub returns-in-Ok-clause-shown : goal.returns-in-Ok-clause-shown
-returns-in-Ok-clause-shown g c = on_ok_weaker c.judge_frames.result (λ held told.
+returns-in-Ok-clause-shown g c = on_ok_weaker c.validate_frames.result (λ held told.
     let here = (goal.at.returns-in-Ok-clause-shown g c).In-Ok in
     let a = g.S.Station.view c.args.station.now in
     let b = c.read_batch.new.frames in
     shown_read c.args.place.now a.held c.args.runs c.requires.within.order (window_segments c.args.place.now c.args.first (g.P.Plan.plan c.args.plan.now).counts a.held (window g here told) c.args.runs c.requires.within) (c.requires.readable told) b.slots (c.in-Ok.ensures.low told) (c.in-Ok.ensures.high told)
-    b (named g (goal.at.returns-in-Ok-clause-shown g c).After-read_batch) refl) c.judge_frames.ensures.held
+    b (named g (goal.at.returns-in-Ok-clause-shown g c).After-read_batch) refl) c.validate_frames.ensures.held
 
 pub returns-in-Ok-clause-damaged : goal.returns-in-Ok-clause-damaged
-returns-in-Ok-clause-damaged g c = IfErr-weaker c.judge_frames.result _ _ (λ fault shows told.
+returns-in-Ok-clause-damaged g c = IfErr-weaker c.validate_frames.result _ _ (λ fault shows told.
     let here = (goal.at.returns-in-Ok-clause-damaged g c).In-Ok in
     let a = g.S.Station.view c.args.station.now in
     let b = c.read_batch.new.frames in
     let counts = (g.P.Plan.plan c.args.plan.now).counts in
     let has = window g here told in
     absurd (no_fault c.args.place.now a.held c.args.runs c.requires.within.order (window_segments c.args.place.now c.args.first counts a.held has c.args.runs c.requires.within) (c.requires.readable told) b.slots (c.in-Ok.ensures.low told) (c.in-Ok.ensures.high told)
-    b (kept_in c.args.first counts) fault (named g (goal.at.returns-in-Ok-clause-damaged g c).After-read_batch) refl (λ f lt. window_count c.args.place.now c.args.first counts a.held has c.args.runs c.requires.within f lt) shows)) c.judge_frames.ensures.fault
+    b (kept_in c.args.first counts) fault (named g (goal.at.returns-in-Ok-clause-damaged g c).After-read_batch) refl (λ f lt. window_count c.args.place.now c.args.first counts a.held has c.args.runs c.requires.within f lt) shows)) c.validate_frames.ensures.fault
 
 pub returns-in-Ok-clause-cause : goal.returns-in-Ok-clause-cause
 returns-in-Ok-clause-cause g c =
     let is = named g (goal.at.returns-in-Ok-clause-cause g c).After-read_batch in
-    IfErr-weaker c.judge_frames.result _ _ (λ fault shows. shown_now c.args.place.now.layout.format c.read_batch.new.frames c.args.first (g.P.Plan.plan c.args.plan.now).counts c.args.runs is c.requires.within fault shows) c.judge_frames.ensures.fault
+    IfErr-weaker c.validate_frames.result _ _ (λ fault shows. shown_now c.args.place.now.layout.format c.read_batch.new.frames c.args.first (g.P.Plan.plan c.args.plan.now).counts c.args.runs is c.requires.within fault shows) c.validate_frames.ensures.fault
 
 pub returns-in-Ok-clause-reads : goal.returns-in-Ok-clause-reads
 returns-in-Ok-clause-reads g c = both_read c.args.place.now c.args.runs (g.S.Station.view c.args.station.now).travel (g.S.Station.view c.read_batch.new.station).travel c.in-Ok.ensures.reads
@@ -56,14 +56,14 @@ returns-in-Err-clause-reads g c =
 pub read_batch-requires-clause-room : goal.read_batch-requires-clause-room
 read_batch-requires-clause-room g c = omega (arith, fits_journal c.args.place.now.layout (c.args.runs.low_len + c.args.runs.high_len) c.requires.room, c.requires.journal)
 
-pub judge_frames-requires-clause-format : goal.judge_frames-requires-clause-format
-judge_frames-requires-clause-format g c = known_format c.args.place.now.layout.hmax c.args.place.now.layout.format c.requires.layout.format
+pub validate_frames-requires-clause-format : goal.validate_frames-requires-clause-format
+validate_frames-requires-clause-format g c = known_format c.args.place.now.layout.hmax c.args.place.now.layout.format c.requires.layout.format
 
-pub judge_frames-requires-clause-numbers : goal.judge_frames-requires-clause-numbers
-judge_frames-requires-clause-numbers g c = named g (goal.at.judge_frames-requires-clause-numbers g c).After-read_batch
+pub validate_frames-requires-clause-numbers : goal.validate_frames-requires-clause-numbers
+validate_frames-requires-clause-numbers g c = named g (goal.at.validate_frames-requires-clause-numbers g c).After-read_batch
 
-pub judge_frames-requires-clause-pages : goal.judge_frames-requires-clause-pages
-judge_frames-requires-clause-pages g c = whole_pages c.args.place.now.layout.format c.read_batch.new.frames.numbers (numbers_of c.args.runs) c.requires.layout.format.least (ap (λ (b : Batch). b.numbers) c.read_batch.ensures.rest)
+pub validate_frames-requires-clause-pages : goal.validate_frames-requires-clause-pages
+validate_frames-requires-clause-pages g c = whole_pages c.args.place.now.layout.format c.read_batch.new.frames.numbers (numbers_of c.args.runs) c.requires.layout.format.least (ap (λ (b : Batch). b.numbers) c.read_batch.ensures.rest)
 
 pub returns-in-Ok-clause-numbers : goal.returns-in-Ok-clause-numbers
 returns-in-Ok-clause-numbers g c = named g (goal.at.returns-in-Ok-clause-numbers g c).After-read_batch

@@ -3,7 +3,7 @@ use Rattle.std.specs.Prelude.{◌≡◌}
 use Rattle.std.proofs.lemmas.Result.{on_ok_weaker}
 use Rattle.std.proofs.lemmas.List.Elements.{All-get_or}
 use Rattle.station.proofs.Composition.{weaken}
-use Rattle.header_gate.specs.Recovered.{IsTableOf, recovered, laid_over}
+use Rattle.header_gate.specs.Recovered.{IsTableOf, recovered, replayed_over}
 use Rattle.redo_journal.specs.Commit.{image_byte, frame_byte, Commits}
 use Rattle.redo_journal.specs.Neighbours.{run_count}
 use Rattle.redo_journal.proofs.FrameBytes.{frames_image, table_numbers_are, laid_over_like, commits_like}
@@ -29,7 +29,7 @@ returns-clause-laid g c = on_ok_weaker c.commit_images.result (λ laid told.
     let images = c.images.result.now in
     let old = recovered place.layout (g.S.Station.view c.args.station.now).held in
     let new = recovered place.layout (g.S.Station.view c.commit_images.new.station).held in
-    subst (λ (ns : List ℕ). new ≡ laid_over place.layout place.region ns (image_byte images) old) c.numbers.ensures.value (laid told)
+    subst (λ (ns : List ℕ). new ≡ replayed_over place.layout place.region ns (image_byte images) old) c.numbers.ensures.value (laid told)
     ∙ laid_over_like place.layout place.region batch.numbers (image_byte images) (frame_byte batch.slots) old
     (frames_image batch.slots images (length batch.numbers) c.images.ensures.value c.images.ensures.len)) c.commit_images.ensures.laid
 

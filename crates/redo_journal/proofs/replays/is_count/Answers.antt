@@ -1,6 +1,6 @@
 use Rattle.std.proofs.Common.{◌≡◌, inl, inr, arith}
 use Rattle.header_gate.specs.declared.layout.TheConstants.{PAIRED}
-use Rattle.redo_journal.proofs.Judging.{some_named, single_named}
+use Rattle.redo_journal.proofs.Validating.{some_named, single_named}
 use Rattle.redo_journal.proofs.replays.is_count.Goals as goal
 
 pub returns-then-count-eq0-clause-right : goal.returns-then-count-eq0-clause-right

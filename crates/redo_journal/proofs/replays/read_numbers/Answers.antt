@@ -11,7 +11,7 @@ use Rattle.redo_journal.specs.Frames.{Batch, HasTable, IsTable, IsTableFault}
 use Rattle.header_gate.specs.Recovered.{numbers_at, table_reason}
 use Rattle.redo_journal.specs.Replaying.{HasRead, journal_fault, table_start}
 use Rattle.redo_journal.proofs.FrameBytes.{table_numbers_are}
-use Rattle.redo_journal.proofs.Judging.{table_accepted, table_batch, table_refused, table_read, reason_read, count_read, count_kept, fault_some, some_named}
+use Rattle.redo_journal.proofs.Validating.{table_accepted, table_batch, table_refused, table_read, reason_read, count_read, count_kept, fault_some, some_named}
 use Rattle.redo_journal.proofs.replays.read_numbers.Goals as goal
 use Rattle.redo_journal.proofs.replays.read_numbers.Goals.{After-take_table}
 

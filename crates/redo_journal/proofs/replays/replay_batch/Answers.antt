@@ -12,7 +12,7 @@ use Rattle.station.specs.View.{Told}
 use Rattle.redo_journal.proofs.Live.{laid_turn, bare_none}
 use Rattle.redo_journal.proofs.Batches.{replays_steps}
 use Rattle.redo_journal.proofs.RunCounts.{run_count_few}
-use Rattle.redo_journal.proofs.Judging.{lower_batch, images_read, reason_fault}
+use Rattle.redo_journal.proofs.Validating.{lower_batch, images_read, reason_fault}
 use Rattle.redo_journal.proofs.replays.replay_batch.Goals as goal
 use Rattle.redo_journal.proofs.replays.replay_batch.Goals.{After-images}
 

@@ -16,7 +16,7 @@ use Rattle.map_model.specs.Regions.{Spares}
 use Rattle.map_model.specs.Standing.{StandsWith}
 use Rattle.map_model.proofs.Spreading.{sum-counts}
 use Rattle.segment_frames.specs.Standing.{IsSettledAt}
-use Rattle.resize_region.specs.Aside.{HasWritten}
+use Rattle.resize_region.specs.Spare.{HasWritten}
 use Rattle.resize_region.specs.Upgraded.{MayWiden, Upgrades, widened, in_wide, upgraded_height}
 use Rattle.resize_region.proofs.OldRowLaws.{rose_on, failed_as, never_failed}
 use Rattle.resize_region.proofs.ResizeLaws.{has_counts, spare_by, array_wide, stands_wide, flips_widen, bare_of, bare_wide, rests_new}

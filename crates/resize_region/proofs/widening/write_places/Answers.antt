@@ -5,7 +5,7 @@ use Rattle.header_gate.specs.declared.layout.Layout.{Layout}
 use Rattle.header_gate.specs.Places.{file_length, segment_size}
 use Rattle.map_model.specs.Regions.{Spares}
 use Rattle.redo_journal.specs.Commit.{IsAt}
-use Rattle.resize_region.specs.Aside.{WritesAside, aside_bytes}
+use Rattle.resize_region.specs.Spare.{WritesSpare, spare_bytes}
 use Rattle.resize_region.proofs.WideLaws.{wide_at, wide_spares}
 use Rattle.resize_region.proofs.widening.write_places.Goals as goal
 
@@ -27,8 +27,8 @@ returns-clause-others g c told i lt =
     let place = c.args.place.now in
     let a = g.S.Station.view c.args.station.now in
     let b = g.S.Station.view c.write_shares.new.station in
-    ap (λ (l : Layout). aside_bytes (record { layout = l; region = place.region }) i b.held) (sym c.widened.ensures) ∙ c.write_shares.ensures.others told i lt
-    ∙ ap (λ (l : Layout). aside_bytes (record { layout = l; region = place.region }) i a.held) c.widened.ensures
+    ap (λ (l : Layout). spare_bytes (record { layout = l; region = place.region }) i b.held) (sym c.widened.ensures) ∙ c.write_shares.ensures.others told i lt
+    ∙ ap (λ (l : Layout). spare_bytes (record { layout = l; region = place.region }) i a.held) c.widened.ensures
 
 pub returns-clause-writes : goal.returns-clause-writes
-returns-clause-writes g c = subst (λ (l : Layout). WritesAside (segment_size l * c.args.count) (g.S.Station.view c.args.station.now) (g.S.Station.view c.write_shares.new.station)) c.widened.ensures c.write_shares.ensures.writes
+returns-clause-writes g c = subst (λ (l : Layout). WritesSpare (segment_size l * c.args.count) (g.S.Station.view c.args.station.now) (g.S.Station.view c.write_shares.new.station)) c.widened.ensures c.write_shares.ensures.writes

@@ -20,7 +20,7 @@ use Rattle.redo_journal.specs.Frames.{Batch}
 use Rattle.range_scan.proofs.Walks.{walk_written}
 use Rattle.resize_region.specs.Shares.{StandsBare}
 use Rattle.spread_plan.proofs.Spreads.{share-le}
-use Rattle.resize_region.specs.Aside.{aside_bytes}
+use Rattle.resize_region.specs.Spare.{spare_bytes}
 use Rattle.resize_region.specs.OldRows.{IsInOrder, rows_ahead}
 use Rattle.resize_region.specs.Shares.{places, share_in}
 use Rattle.resize_region.specs.Source.{Walks}
@@ -236,10 +236,10 @@ order g c told =
 
 -- what stood in the other region stays while a share is gathered
 written : (g : _) (c : In_ok-gather g) → Told (g.S.Station.view c.args.station.now) → (i : ℕ) → i < c.loop-t.t + 1 - (c.loop-t.f + 1)
-    → IsSegment wide (segment_at (spread_over c.args.segments (rows (array_of (g.S.Station.view c.args.station.now).held))) i) (aside_bytes (in_wide c.args.place.now) i (g.S.Station.view c.gather.new.station).held)
+    → IsSegment wide (segment_at (spread_over c.args.segments (rows (array_of (g.S.Station.view c.args.station.now).held))) i) (spare_bytes (in_wide c.args.place.now) i (g.S.Station.view c.gather.new.station).held)
 written g c told i lt =
     let a = g.S.Station.view c.args.station.now in
-    subst (IsSegment wide (segment_at (spread_over c.args.segments (rows (array_of a.held))) i)) (ap (aside_bytes (in_wide c.args.place.now) i) (sym (c.gather.ensures.reads.steps.held (told_on c.loop-t.invariant.steps.frame told)))) (c.loop-t.invariant.written told i (omega (arith, lt)))
+    subst (IsSegment wide (segment_at (spread_over c.args.segments (rows (array_of a.held))) i)) (ap (spare_bytes (in_wide c.args.place.now) i) (sym (c.gather.ensures.reads.steps.held (told_on c.loop-t.invariant.steps.frame told)))) (c.loop-t.invariant.written told i (omega (arith, lt)))
 
 fits : (g : _) (c : In_ok-gather g) → Told (g.S.Station.view c.args.station.now) → (i : ℕ) → i < c.loop-t.f + 1 → FitsSegment wide (share_in wide i c.gather.new.frames)
 fits g c told i lt =
@@ -309,8 +309,8 @@ loop-t-preserved-then-not-fits_more g c =
                 let j = i - first in
                 let in_run : j < f + 1 = omega (arith, low, le, inv.within) in
                 let there : first + j ≡ i = omega (arith, le) in
-                subst (λ (q : ℕ). IsSegment wide (segment_at lists q) (aside_bytes (in_wide place) q w.held)) there
-                (subst (λ (rs : List Record). IsSegment wide rs (aside_bytes (in_wide place) (first + j) w.held)) (kept g at told j in_run) (c.in_ok-write_places.ensures.written told_f j in_run (fits g at told j in_run)))
+                subst (λ (q : ℕ). IsSegment wide (segment_at lists q) (spare_bytes (in_wide place) q w.held)) there
+                (subst (λ (rs : List Record). IsSegment wide rs (spare_bytes (in_wide place) (first + j) w.held)) (kept g at told j in_run) (c.in_ok-write_places.ensures.written told_f j in_run (fits g at told j in_run)))
           ];
       cost = omega (arith, inv.cost, unwritten g after, c.write_places.ensures.writes.cost, spent (segment_size (widened place.layout)) k f inv.within);
       calls = parted g after c.write_places.ensures.writes.calls (λ more. omega (arith, c.fits_more.ensures.full c.if-not-fits_more.true more));

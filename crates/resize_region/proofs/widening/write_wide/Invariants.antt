@@ -7,7 +7,7 @@ use Rattle.map_model.specs.Array.{rows, segment_at, spread_over}
 use Rattle.map_model.specs.Image.{array_of}
 use Rattle.map_model.specs.Regions.{Spares}
 use Rattle.resize_region.specs.Shares.{StandsBare}
-use Rattle.resize_region.specs.Aside.{HasWritten}
+use Rattle.resize_region.specs.Spare.{HasWritten}
 use Rattle.resize_region.specs.OldRows.{IsAmongRows, IsInOrder, rows_left, rows_ahead}
 use Rattle.resize_region.specs.Shares.{HasShares, share_in}
 use Rattle.resize_region.specs.Source.{Walks}

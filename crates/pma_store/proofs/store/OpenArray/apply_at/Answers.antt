@@ -14,12 +14,12 @@ quiet_here g c told =
     let s = c.args.self.now in
     let u = update_of c.args.update.now in
     let stands = stands_there s c.requires.on told in
-    let asks : need_of u (is_ok c.args.spot.found) ≡ Nothing = sym (c.need.ensures ∙ ap (need_of u) c.is_ok.ensures.value) ∙ c.in-Nothing.is in
-    nothing_by s a.held stands u (needs_in s a.held stands u c.args.spot c.args.rows.now c.requires.spot (c.requires.own told) ∙ asks)
+    let asks : need_of u (is_ok c.args.location.found) ≡ Nothing = sym (c.need.ensures ∙ ap (need_of u) c.is_ok.ensures.value) ∙ c.in-Nothing.is in
+    nothing_by s a.held stands u (needs_in s a.held stands u c.args.location c.args.rows.now c.requires.location (c.requires.own told) ∙ asks)
 
 pub returns-in-Nothing-clause-applied : goal.returns-in-Nothing-clause-applied
 returns-in-Nothing-clause-applied g c =
     quiet_applies (update_of c.args.update.now) c.args.self.now c.requires.on (quiet_here g (goal.at.returns-in-Nothing-clause-applied g c).In-Nothing)
 
 pub returns-in-Nothing-clause-within : goal.returns-in-Nothing-clause-within
-returns-in-Nothing-clause-within g c = quiet_within (update_of c.args.update.now) c.args.spot.segment c.args.self.now
+returns-in-Nothing-clause-within g c = quiet_within (update_of c.args.update.now) c.args.location.segment c.args.self.now

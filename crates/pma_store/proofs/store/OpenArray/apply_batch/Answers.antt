@@ -4,7 +4,7 @@ use Rattle.station.proofs.Composition.{no_steps, told_back}
 use Rattle.density_rule.specs.Bounds.{upper_of}
 use Rattle.header_gate.specs.declared.layout.TheConstants.{INTENT_VERSION}
 use Rattle.segment.specs.declared.fault.StoreFault.{StoreFault}
-use Rattle.pma_store.specs.declared.batch.Tried.{Tried}
+use Rattle.pma_store.specs.declared.batch.Attempt.{Attempt}
 use Rattle.pma_store.specs.Answers.{state_in}
 use Rattle.pma_store.specs.AtOnce.{TriesOnce}
 use Rattle.pma_store.specs.Once.{AreOneCommit}
@@ -12,7 +12,7 @@ use Rattle.pma_store.specs.BatchCalls.{CallsIntent}
 use Rattle.pma_store.specs.Batching.{AppliesBatch, version_of}
 use Rattle.pma_store.specs.Store.{StoreView, limit_of}
 use Rattle.pma_store.proofs.BatchCalls.{intent_behind}
-use Rattle.pma_store.proofs.Batched.{full_batch, judged_then, no_batch}
+use Rattle.pma_store.proofs.Batched.{full_batch, validated_then, no_batch}
 use Rattle.pma_store.proofs.Making.{opens_on}
 use Rattle.pma_store.proofs.store.OpenArray.apply_batch.Goals as goal
 
@@ -21,30 +21,30 @@ returns-then-self-lt-INTENT_VERSION g c =
     let early : version_of c.args.self.now < INTENT_VERSION = first_of (search rules, grind (arith, common_steps)) in
     no_batch c.args.intent.now c.args.self.now c.requires.open (g.met.S.Station.lawful c.args.station.now) (no_steps (g.S.Station.view c.args.station.now)) early
 
--- the judged store is open on its file
+-- the validated store is open on its file
 pub run_batch-requires-clause-open : goal.run_batch-requires-clause-open
 run_batch-requires-clause-open g c =
-    let judges = subst (λ (r : Result Tried StoreFault). TriesOnce c.args.intent.now r c.args.self.now c.try_at_once.new.self (g.S.Station.view c.args.station.now) (g.S.Station.view c.try_at_once.new.station)) (c.in-Ok-Judged.is ∙ ap Ok c.in-Ok-Judged.field-0-is) c.try_at_once.ensures in
-    opens_on c.args.self.now c.try_at_once.new.self (g.met.S.Station.lawful c.args.station.now) c.requires.open judges.0.steps judges.0.store
+    let validates = subst (λ (r : Result Attempt StoreFault). TriesOnce c.args.intent.now r c.args.self.now c.try_at_once.new.self (g.S.Station.view c.args.station.now) (g.S.Station.view c.try_at_once.new.station)) (c.in-Ok-Validated.is ∙ ap Ok c.in-Ok-Validated.field-0-is) c.try_at_once.ensures in
+    opens_on c.args.self.now c.try_at_once.new.self (g.met.S.Station.lawful c.args.station.now) c.requires.open validates.0.steps validates.0.store
 
 -- and its items aren't one commit
 pub run_batch-requires-clause-unfit : goal.run_batch-requires-clause-unfit
 run_batch-requires-clause-unfit g c told =
-    let judges = subst (λ (r : Result Tried StoreFault). TriesOnce c.args.intent.now r c.args.self.now c.try_at_once.new.self (g.S.Station.view c.args.station.now) (g.S.Station.view c.try_at_once.new.station)) (c.in-Ok-Judged.is ∙ ap Ok c.in-Ok-Judged.field-0-is) c.try_at_once.ensures in
-    let before = told_back judges.0.steps.frame told in
-    λ are. judges.1 before
-    (subst (λ (x : List ℕ). AreOneCommit c.args.self.now.place.layout (state_in c.args.self.now x) c.args.intent.now) (judges.0.steps.held before)
-    (subst (λ (v : StoreView). AreOneCommit v.place.layout (state_in v (g.S.Station.view c.try_at_once.new.station).held) c.args.intent.now) judges.0.store are))
+    let validates = subst (λ (r : Result Attempt StoreFault). TriesOnce c.args.intent.now r c.args.self.now c.try_at_once.new.self (g.S.Station.view c.args.station.now) (g.S.Station.view c.try_at_once.new.station)) (c.in-Ok-Validated.is ∙ ap Ok c.in-Ok-Validated.field-0-is) c.try_at_once.ensures in
+    let before = told_back validates.0.steps.frame told in
+    λ are. validates.1 before
+    (subst (λ (x : List ℕ). AreOneCommit c.args.self.now.place.layout (state_in c.args.self.now x) c.args.intent.now) (validates.0.steps.held before)
+    (subst (λ (v : StoreView). AreOneCommit v.place.layout (state_in v (g.S.Station.view c.try_at_once.new.station).held) c.args.intent.now) validates.0.store are))
 
-pub returns-in-Ok-Judged : goal.returns-in-Ok-Judged
-returns-in-Ok-Judged g c =
-    let judges = subst (λ (r : Result Tried StoreFault). TriesOnce c.args.intent.now r c.args.self.now c.try_at_once.new.self (g.S.Station.view c.args.station.now) (g.S.Station.view c.try_at_once.new.station)) (c.in-Ok-Judged.is ∙ ap Ok c.in-Ok-Judged.field-0-is) c.try_at_once.ensures in
-    judged_then c.args.intent.now c.run_batch.result c.args.self.now c.run_batch.new.self c.requires.open (g.met.S.Station.lawful c.args.station.now) judges.0.steps judges.0.unwritten judges.0.looks (intent_behind c.args.intent.now c.args.self.now judges.0.steps judges.0.looks (subst (λ (v : StoreView). CallsIntent c.args.intent.now v (g.S.Station.view c.try_at_once.new.station) (g.S.Station.view c.run_batch.new.station)) judges.0.store c.run_batch.ensures.intent) judges.1)
-    c.run_batch.ensures.made (subst (λ (v : StoreView). AppliesBatch c.args.intent.now c.run_batch.result v c.run_batch.new.self (g.S.Station.view c.try_at_once.new.station) (g.S.Station.view c.run_batch.new.station)) judges.0.store c.run_batch.ensures.applied)
+pub returns-in-Ok-Validated : goal.returns-in-Ok-Validated
+returns-in-Ok-Validated g c =
+    let validates = subst (λ (r : Result Attempt StoreFault). TriesOnce c.args.intent.now r c.args.self.now c.try_at_once.new.self (g.S.Station.view c.args.station.now) (g.S.Station.view c.try_at_once.new.station)) (c.in-Ok-Validated.is ∙ ap Ok c.in-Ok-Validated.field-0-is) c.try_at_once.ensures in
+    validated_then c.args.intent.now c.run_batch.result c.args.self.now c.run_batch.new.self c.requires.open (g.met.S.Station.lawful c.args.station.now) validates.0.steps validates.0.unwritten validates.0.looks (intent_behind c.args.intent.now c.args.self.now validates.0.steps validates.0.looks (subst (λ (v : StoreView). CallsIntent c.args.intent.now v (g.S.Station.view c.try_at_once.new.station) (g.S.Station.view c.run_batch.new.station)) validates.0.store c.run_batch.ensures.intent) validates.1)
+    c.run_batch.ensures.made (subst (λ (v : StoreView). AppliesBatch c.args.intent.now c.run_batch.result v c.run_batch.new.self (g.S.Station.view c.try_at_once.new.station) (g.S.Station.view c.run_batch.new.station)) validates.0.store c.run_batch.ensures.applied)
 
 pub returns-in-Ok-Full : goal.returns-in-Ok-Full
 returns-in-Ok-Full g c =
     full_batch c.args.intent.now c.args.self.now c.try_at_once.new.self c.upper-most.result c.requires.open (g.met.S.Station.lawful c.args.station.now)
     (subst (λ (v : StoreView). INTENT_VERSION ≤ version_of v) c.self.view_is c.if-self-lt-INTENT_VERSION.false)
     (c.upper-most.ensures ∙ ap upper_of c.height_limit.ensures.limit ∙ ap (λ (v : StoreView). upper_of (limit_of v)) c.self.view_is)
-    (subst (λ (r : Result Tried StoreFault). TriesOnce c.args.intent.now r c.args.self.now c.try_at_once.new.self (g.S.Station.view c.args.station.now) (g.S.Station.view c.try_at_once.new.station)) (c.in-Ok-Full.is ∙ ap Ok c.in-Ok-Full.field-0-is) c.try_at_once.ensures)
+    (subst (λ (r : Result Attempt StoreFault). TriesOnce c.args.intent.now r c.args.self.now c.try_at_once.new.self (g.S.Station.view c.args.station.now) (g.S.Station.view c.try_at_once.new.station)) (c.in-Ok-Full.is ∙ ap Ok c.in-Ok-Full.field-0-is) c.try_at_once.ensures)

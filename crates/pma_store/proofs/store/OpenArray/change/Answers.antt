@@ -59,9 +59,9 @@ quiet_here g c told =
     let is : c.pick-pick.result ≡ AtLimit = first_of (search rules, grind (arith, common_steps)) in
     let stands_here = stands_there s c.requires.on told in
     let full = (subst (IsPossible s.tally) is c.pick-pick.ensures.possible).1 in
-    let add = limit_adds c.args.change c.args.spot.segment s.tally (sym c.pick-pick.ensures.answer ∙ is) in
+    let add = limit_adds c.args.change c.args.location.segment s.tally (sym c.pick-pick.ensures.answer ∙ is) in
     limit_by s a.held stands_here u
-    (needs_in s a.held stands_here u c.args.spot c.args.rows.now c.requires.spot (c.requires.own told) ∙ c.requires.needs ∙ ap (λ (ch : Change). need.Change ch) add)
+    (needs_in s a.held stands_here u c.args.location c.args.rows.now c.requires.location (c.requires.own told) ∙ c.requires.needs ∙ ap (λ (ch : Change). need.Change ch) add)
     (full ∙ ap (λ (h : ℕ). upper_of h) c.requires.kept.hmax)
 
 pub returns-then-eq-clause-applied : goal.returns-then-eq-clause-applied
@@ -91,13 +91,13 @@ outcome g c told =
     let a = g.S.Station.view c.args.station.now in
     let s = c.args.self.now in
     let u = update_of c.args.update.now in
-    let asks = needs_in s a.held (stands g c told) u c.args.spot c.args.rows.now c.requires.spot (c.requires.own told) ∙ c.requires.needs in
+    let asks = needs_in s a.held (stands g c told) u c.args.location c.args.rows.now c.requires.location (c.requires.own told) ∙ c.requires.needs in
     sym (outcome_by (limit_of s) (height_of a.held) (array_of a.held) u c.args.change asks (room g c told))
 
 report : (g : _) (c : After-prepare g) → Told (g.S.Station.view c.args.station.now) → reported c.report-report.result ≡ report_of (limit_of c.args.self.now) (state_in c.args.self.now (g.S.Station.view c.args.station.now).held) (update_of c.args.update.now)
 report g c told =
     let a = g.S.Station.view c.args.station.now in
-    report_same c.args.self.now a.held (stands g c told) (update_of c.args.update.now) c.args.change c.args.spot c.args.rows.now c.requires.spot (c.requires.own told) c.requires.needs (room g c told)
+    report_same c.args.self.now a.held (stands g c told) (update_of c.args.update.now) c.args.change c.args.location c.args.rows.now c.requires.location (c.requires.own told) c.requires.needs (room g c told)
     (reported c.report-report.result) c.report-report.ensures.report
 
 pub rewrite-requires-clause-balanced : goal.rewrite-requires-clause-balanced
@@ -109,10 +109,10 @@ rewrite-requires-clause-balanced g c =
     let at = c.in-Ok.next.segment in
     let is = ready.tally_is in
     let kept = c.requires.kept in
-    let by_ready = balanced_next c.args.change c.args.spot.segment t kept.tally kept.balanced c.requires.spot.within
-    (taken_some u c.args.self.now c.args.spot c.args.rows.now c.args.change c.requires.spot c.requires.needs) (fewer_than g here)
-    at (subst (λ (t : TallyView). at < 2 ^ t.height) is ready.is_spot.within) ready.near
-    (λ takes. subst (λ (t : TallyView). 1 ≤ get_or t.counts at 0) is (taken_some u c.prepare.new.self c.in-Ok.next c.prepare.new.rows c.args.change ready.is_spot ready.needs takes)) in
+    let by_ready = balanced_next c.args.change c.args.location.segment t kept.tally kept.balanced c.requires.location.within
+    (taken_some u c.args.self.now c.args.location c.args.rows.now c.args.change c.requires.location c.requires.needs) (fewer_than g here)
+    at (subst (λ (t : TallyView). at < 2 ^ t.height) is ready.is_location.within) ready.near
+    (λ takes. subst (λ (t : TallyView). 1 ≤ get_or t.counts at 0) is (taken_some u c.prepare.new.self c.in-Ok.next c.prepare.new.rows c.args.change ready.is_location ready.needs takes)) in
     subst (λ (t : TallyView). IsBalanced t.height (counts_after (adds c.args.change) t.counts at)) (sym is) by_ready
 
 pub rewrite-requires-clause-fits : goal.rewrite-requires-clause-fits
@@ -140,7 +140,7 @@ holds g c told =
     let t = c.prepare.new.self in
     let u = update_of c.args.update.now in
     let has = c.in-Ok.ensures.own told in
-    let held = final_holds s a.held (stood g c told) u c.args.change c.args.spot c.args.rows.now c.requires.spot (c.requires.own told) c.requires.needs (had_room g c told) b.held has.array_is c.in-Ok.next c.prepare.new.rows has.own
+    let held = final_holds s a.held (stood g c told) u c.args.change c.args.location c.args.rows.now c.requires.location (c.requires.own told) c.requires.needs (had_room g c told) b.held has.array_is c.in-Ok.next c.prepare.new.rows has.own
     t.tally.height (ap (λ (t : TallyView). t.height) c.in-Ok.ensures.ready.tally_is) in
     subst (λ (l : Layout). HoldsMap (height_limit l) (map_after (limit_of s) (map_of a.held) u) t.tally.height (rewritten b.held c.in-Ok.next.segment (edited u c.prepare.new.rows))) (sym c.prepare.ensures.kept.layout) held
 
@@ -192,9 +192,9 @@ state g c laid counted told =
     let own = stood g c told in
     let room_here = had_room g c told in
     let after = rewritten_represents t b.held d.held c.in-Ok.next.segment rs next (stands_there t c.in-Ok.ensures.kept.store told_b) (laid told_b) (holds g c told) in
-    let tall = ap (λ (t : TallyView). t.height) is ∙ height_same s a.held own u c.args.change c.args.spot c.args.rows.now c.requires.spot (c.requires.own told) c.requires.needs room_here in
-    let array = after.1 ∙ final_array s a.held own u c.args.change c.args.spot c.args.rows.now c.requires.spot (c.requires.own told) c.requires.needs room_here b.held has.array_is c.in-Ok.next c.prepare.new.rows has.own in
-    let marks = ap (λ (t : TallyView). t.marks) counted ∙ final_marks s a.held own u c.args.change c.args.spot c.args.rows.now c.requires.spot (c.requires.own told) c.requires.needs room_here b.held has.array_is c.in-Ok.next c.prepare.new.rows has.own t.tally is in
+    let tall = ap (λ (t : TallyView). t.height) is ∙ height_same s a.held own u c.args.change c.args.location c.args.rows.now c.requires.location (c.requires.own told) c.requires.needs room_here in
+    let array = after.1 ∙ final_array s a.held own u c.args.change c.args.location c.args.rows.now c.requires.location (c.requires.own told) c.requires.needs room_here b.held has.array_is c.in-Ok.next c.prepare.new.rows has.own in
+    let marks = ap (λ (t : TallyView). t.marks) counted ∙ final_marks s a.held own u c.args.change c.args.location c.args.rows.now c.requires.location (c.requires.own told) c.requires.needs room_here b.held has.array_is c.in-Ok.next c.prepare.new.rows has.own t.tally is in
     state_after s c.rewrite.new.self a.held d.held u t.tally.height after.0 tall array marks
 
 -- its height, by what was picked
@@ -203,7 +203,7 @@ tall g c counted =
     let t = c.args.self.now.tally in
     let not_at : c.pick-pick.result ≢ AtLimit = first_of (search rules, grind (arith, common_steps)) in
     ap (λ (t : TallyView). t.height) counted ∙ ap (λ (t : TallyView). t.height) c.in-Ok.ensures.ready.tally_is
-    ∙ picked_is c.args.change c.args.spot.segment t c.pick-pick.result c.pick-pick.ensures.answer not_at
+    ∙ picked_is c.args.change c.args.location.segment t c.pick-pick.result c.pick-pick.ensures.answer not_at
 
 -- The update is paid for.
 
@@ -217,10 +217,10 @@ paid g c counts =
     let at = c.in-Ok.next.segment in
     let is = ready.tally_is in
     let not_at : c.pick-pick.result ≢ AtLimit = first_of (search rules, grind (arith, common_steps)) in
-    paid_changed c.args.change c.args.spot.segment t kept.tally kept.balanced c.requires.spot.within
-    (taken_some u c.args.self.now c.args.spot c.args.rows.now c.args.change c.requires.spot c.requires.needs) (λ add. c.pick-pick.ensures.few add not_at)
-    at (subst (λ (t : TallyView). at < 2 ^ t.height) is ready.is_spot.within)
-    (λ takes. subst (λ (t : TallyView). 1 ≤ get_or t.counts at 0) is (taken_some u c.prepare.new.self c.in-Ok.next c.prepare.new.rows c.args.change ready.is_spot ready.needs takes))
+    paid_changed c.args.change c.args.location.segment t kept.tally kept.balanced c.requires.location.within
+    (taken_some u c.args.self.now c.args.location c.args.rows.now c.args.change c.requires.location c.requires.needs) (λ add. c.pick-pick.ensures.few add not_at)
+    at (subst (λ (t : TallyView). at < 2 ^ t.height) is ready.is_location.within)
+    (λ takes. subst (λ (t : TallyView). 1 ≤ get_or t.counts at 0) is (taken_some u c.prepare.new.self c.in-Ok.next c.prepare.new.rows c.args.change ready.is_location ready.needs takes))
     c.rewrite.new.self.tally (counts ∙ ap (counted (Some c.args.change) at) is)
     c.report-report.result c.report-report.ensures.report
 
@@ -234,8 +234,8 @@ bounded g c n few told =
     let u = update_of c.args.update.now in
     let own = stands g c told in
     let next : picked_height s.tally.height c.pick-pick.result ≡ height_after (limit_of s) (height_of a.held) (map_of a.held) u =
-    sym (picked_is c.args.change c.args.spot.segment s.tally c.pick-pick.result c.pick-pick.ensures.answer (not_limit g c))
-    ∙ height_same s a.held own u c.args.change c.args.spot c.args.rows.now c.requires.spot (c.requires.own told) c.requires.needs (room g c told) in
+    sym (picked_is c.args.change c.args.location.segment s.tally c.pick-pick.result c.pick-pick.ensures.answer (not_limit g c))
+    ∙ height_same s a.held own u c.args.change c.args.location c.args.rows.now c.requires.location (c.requires.own told) c.requires.needs (room g c told) in
     let cost = cost_told s a.held own u true (ap changed_by (outcome g c told)) c.report-report.result (report g c told) (picked_height s.tally.height c.pick-pick.result) next in
     omega (arith, few, c.report-report.ensures.cost, cost)
 
@@ -285,28 +285,28 @@ returns-in-Err-rewrite-clause-applied g c =
 
 -- The calls that were made.
 
-asked : (g : _) (c : After-prepare g) → c.pick-pick.result ≡ picked (change_in (update_of c.args.update.now)) c.args.spot.segment c.args.self.now.tally
+asked : (g : _) (c : After-prepare g) → c.pick-pick.result ≡ picked (change_in (update_of c.args.update.now)) c.args.location.segment c.args.self.now.tally
 asked g c =
     let t = c.args.self.now.tally in
-    let own = change_is (update_of c.args.update.now) (is_ok c.args.spot.found) c.args.change c.requires.needs in
-    c.pick-pick.ensures.answer ∙ ap (λ (ch : Change). picked ch c.args.spot.segment t) own
+    let own = change_is (update_of c.args.update.now) (is_ok c.args.location.found) c.args.change c.requires.needs in
+    c.pick-pick.ensures.answer ∙ ap (λ (ch : Change). picked ch c.args.location.segment t) own
 
 few : (g : _) (c : After-prepare g) (n : ℕ) → n ≤ (g.S.Station.view c.args.station.now).calls + asked_calls c.args.self.now.place.layout c.args.self.now.tally.height c.pick-pick.result
-    → n ≤ (g.S.Station.view c.args.station.now).calls + asked_calls c.args.self.now.place.layout c.args.self.now.tally.height (picked (change_in (update_of c.args.update.now)) c.args.spot.segment c.args.self.now.tally)
+    → n ≤ (g.S.Station.view c.args.station.now).calls + asked_calls c.args.self.now.place.layout c.args.self.now.tally.height (picked (change_in (update_of c.args.update.now)) c.args.location.segment c.args.self.now.tally)
 few g c n le = subst (λ (p : Pick). n ≤ (g.S.Station.view c.args.station.now).calls + asked_calls c.args.self.now.place.layout c.args.self.now.tally.height p) (asked g c) le
 
 -- and what was written
 wide : (g : _) (c : After-prepare g) (n : ℕ) → n ≤ (g.S.Station.view c.args.station.now).travel.written + (ready_cost c.args.self.now.place.layout c.args.self.now.tally.height c.pick-pick.result + commit_cost c.args.self.now.place.layout)
-    → n ≤ (g.S.Station.view c.args.station.now).travel.written + (ready_cost c.args.self.now.place.layout c.args.self.now.tally.height (picked (change_in (update_of c.args.update.now)) c.args.spot.segment c.args.self.now.tally) + commit_cost c.args.self.now.place.layout)
+    → n ≤ (g.S.Station.view c.args.station.now).travel.written + (ready_cost c.args.self.now.place.layout c.args.self.now.tally.height (picked (change_in (update_of c.args.update.now)) c.args.location.segment c.args.self.now.tally) + commit_cost c.args.self.now.place.layout)
 wide g c n le = subst (λ (p : Pick). n ≤ (g.S.Station.view c.args.station.now).travel.written + (ready_cost c.args.self.now.place.layout c.args.self.now.tally.height p + commit_cost c.args.self.now.place.layout)) (asked g c) le
 
 -- What is kept says it as well.
 
 own : (g : _) (c : After-prepare g) → c.args.change ≡ change_in (update_of c.args.update.now)
-own g c = change_is (update_of c.args.update.now) (is_ok c.args.spot.found) c.args.change c.requires.needs
+own g c = change_is (update_of c.args.update.now) (is_ok c.args.location.found) c.args.change c.requires.needs
 
 pub returns-then-eq-clause-within : goal.returns-then-eq-clause-within
-returns-then-eq-clause-within g c = quiet_within (update_of c.args.update.now) c.args.spot.segment c.args.self.now
+returns-then-eq-clause-within g c = quiet_within (update_of c.args.update.now) c.args.location.segment c.args.self.now
 
 pub returns-in-Ok-rewrite-clause-within : goal.returns-in-Ok-rewrite-clause-within
 returns-in-Ok-rewrite-clause-within g c =
@@ -315,14 +315,14 @@ returns-in-Ok-rewrite-clause-within g c =
     let before = (goal.at.returns-in-Ok-rewrite-clause-within g c).After-prepare in
     record {
       report =
-          subst (λ (ch : Change). reported c.report-report.result ≡ report_by t.height c.args.spot.segment (broken_in ch c.args.spot.segment t) t.marks) (own g before) c.report-report.ensures.report
-          ∙ ap (λ (b : Bool). report_at b (change_in u) c.args.spot.segment t) (sym (moved_one u));
+          subst (λ (ch : Change). reported c.report-report.result ≡ report_by t.height c.args.location.segment (broken_in ch c.args.location.segment t) t.marks) (own g before) c.report-report.ensures.report
+          ∙ ap (λ (b : Bool). report_at b (change_in u) c.args.location.segment t) (sym (moved_one u));
       counts = inr (record {
-        at = c.args.spot.segment;
-        at_in = c.requires.spot.within;
+        at = c.args.location.segment;
+        at_in = c.requires.location.within;
         there = c.in-Ok.next.segment;
-        there_in = subst (λ (h : ℕ). c.in-Ok.next.segment < 2 ^ h) (sym (ap (λ (t : TallyView). t.height) c.in-Ok-rewrite.ensures.counted)) c.in-Ok.ensures.ready.is_spot.within;
-        counts = c.in-Ok-rewrite.ensures.counted ∙ (λ τ. counted (Some (own g before τ)) c.in-Ok.next.segment (c.in-Ok.ensures.ready.tally_is τ)) ∙ ap (λ (ch : Change). counted (Some (change_in u)) c.in-Ok.next.segment (readied ch c.args.spot.segment t)) (own g before);
+        there_in = subst (λ (h : ℕ). c.in-Ok.next.segment < 2 ^ h) (sym (ap (λ (t : TallyView). t.height) c.in-Ok-rewrite.ensures.counted)) c.in-Ok.ensures.ready.is_location.within;
+        counts = c.in-Ok-rewrite.ensures.counted ∙ (λ τ. counted (Some (own g before τ)) c.in-Ok.next.segment (c.in-Ok.ensures.ready.tally_is τ)) ∙ ap (λ (ch : Change). counted (Some (change_in u)) c.in-Ok.next.segment (readied ch c.args.location.segment t)) (own g before);
       });
       late = tt;
       asked = few g before _ (omega (arith, c.in-Ok.ensures.kept.calls, c.in-Ok-rewrite.ensures.calls));
@@ -344,7 +344,7 @@ returns-in-Err-rewrite-clause-within g c =
       asked = few g before _ (omega (arith, ready.calls, one.calls));
       calls = tt;
       spared = λ none.
-          let fits : c.pick-pick.result ≡ Fits = c.pick-pick.ensures.answer ∙ ap (pick_of s.tally.hmax s.tally.height c.args.spot.segment c.args.change) (ap (λ (ch : Change). broken_in ch c.args.spot.segment s.tally) (own g before) ∙ none) in
+          let fits : c.pick-pick.result ≡ Fits = c.pick-pick.ensures.answer ∙ ap (pick_of s.tally.hmax s.tally.height c.args.location.segment c.args.change) (ap (λ (ch : Change). broken_in ch c.args.location.segment s.tally) (own g before) ∙ none) in
           omega (arith, ready.cost, one.cost, ap commit_cost ready.layout, ap (λ (p : Pick). ready_cost s.place.layout s.tally.height p) fits);
       written = wide g before _ (omega (arith, ready.cost, one.cost, ap commit_cost ready.layout));
     }
@@ -352,14 +352,14 @@ returns-in-Err-rewrite-clause-within g c =
 pub returns-in-Err-clause-within : goal.returns-in-Err-clause-within
 returns-in-Err-clause-within g c =
     let s = c.args.self.now in
-    let same = change_is (update_of c.args.update.now) (is_ok c.args.spot.found) c.args.change c.requires.needs in
+    let same = change_is (update_of c.args.update.now) (is_ok c.args.location.found) c.args.change c.requires.needs in
     record {
       report = tt;
       counts = tt;
-      late = subst (λ (ch : Change). IsMetLate ch c.args.spot.segment s c.prepare.new.self c.in-Err.fault (g.S.Station.view c.prepare.new.station)) same c.in-Err.ensures.late;
+      late = subst (λ (ch : Change). IsMetLate ch c.args.location.segment s c.prepare.new.self c.in-Err.fault (g.S.Station.view c.prepare.new.station)) same c.in-Err.ensures.late;
       asked = few g (goal.at.returns-in-Err-clause-within g c).After-prepare _ (omega (arith, c.in-Err.ensures.kept.calls));
       calls = tt;
-      spared = λ none. absurd (none_asks _ (ap (λ (ch : Change). broken_in ch c.args.spot.segment s.tally) same ∙ none) c.in-Err.ensures.asks);
+      spared = λ none. absurd (none_asks _ (ap (λ (ch : Change). broken_in ch c.args.location.segment s.tally) same ∙ none) c.in-Err.ensures.asks);
       written = wide g (goal.at.returns-in-Err-clause-within g c).After-prepare _ (omega (arith, c.in-Err.ensures.kept.cost));
     }
 

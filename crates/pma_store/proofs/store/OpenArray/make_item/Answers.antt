@@ -12,32 +12,32 @@ use Rattle.pma_store.proofs.store.OpenArray.make_item.Goals as goal
 
 pub apply_at-requires-clause-on : goal.apply_at-requires-clause-on
 apply_at-requires-clause-on g c =
-    let first = c.in-Ok.ensures.spot in
+    let first = c.in-Ok.ensures.location in
     subst (λ (s : StoreView). StandsOn s (g.S.Station.view c.find_as.new.station)) (sym first.store) (stands_on c.args.self.now (g.met.S.Station.lawful c.args.station.now) c.requires.on first.steps)
 
 pub returns-in-Ok-apply_at-clause-made : goal.returns-in-Ok-apply_at-clause-made
 returns-in-Ok-apply_at-clause-made g c =
     let u = update_of c.args.update.now in
-    applied_item u c.in-Ok-apply_at.outcome c.in-Ok-apply_at.report c.charge_of.result c.args.self.now c.apply_at.new.self (subst IsStore c.find_as.ensures.spot.store c.find_as.ensures.store)
-    (slot_format c.args.self.now c.find_as.new.self c.find_as.ensures.spot.store c.find_as.ensures.store) c.requires.on
-    (applied_behind u c.in-Ok.spot _ c.args.self.now c.find_as.new.self c.apply_at.new.self c.find_as.new.rows c.in-Ok.ensures.spot c.in-Ok-apply_at.ensures.applied)
-    (then_met u c.in-Ok.spot _ (λ done. moved u done.0) (λ done. done.1) c.args.self.now c.find_as.new.self c.apply_at.new.self c.find_as.new.rows c.in-Ok.ensures.spot c.in-Ok-apply_at.ensures.within)
+    applied_item u c.in-Ok-apply_at.outcome c.in-Ok-apply_at.report c.charge_of.result c.args.self.now c.apply_at.new.self (subst IsStore c.find_as.ensures.location.store c.find_as.ensures.store)
+    (slot_format c.args.self.now c.find_as.new.self c.find_as.ensures.location.store c.find_as.ensures.store) c.requires.on
+    (applied_behind u c.in-Ok.location _ c.args.self.now c.find_as.new.self c.apply_at.new.self c.find_as.new.rows c.in-Ok.ensures.location c.in-Ok-apply_at.ensures.applied)
+    (then_met u c.in-Ok.location _ (λ done. moved u done.0) (λ done. done.1) c.args.self.now c.find_as.new.self c.apply_at.new.self c.find_as.new.rows c.in-Ok.ensures.location c.in-Ok-apply_at.ensures.within)
     c.charge_of.ensures.charge c.charge_of.ensures.small
 
 pub returns-in-Err-apply_at-clause-made : goal.returns-in-Err-apply_at-clause-made
 returns-in-Err-apply_at-clause-made g c =
     let u = update_of c.args.update.now in
-    failed_item u c.in-Err-apply_at.fault c.args.self.now c.apply_at.new.self (subst IsStore c.find_as.ensures.spot.store c.find_as.ensures.store)
-    (applied_behind u c.in-Ok.spot _ c.args.self.now c.find_as.new.self c.apply_at.new.self c.find_as.new.rows c.in-Ok.ensures.spot c.in-Err-apply_at.ensures.applied)
-    (then_met u c.in-Ok.spot _ (λ done. moved u done.0) (λ done. done.1) c.args.self.now c.find_as.new.self c.apply_at.new.self c.find_as.new.rows c.in-Ok.ensures.spot c.in-Err-apply_at.ensures.within)
+    failed_item u c.in-Err-apply_at.fault c.args.self.now c.apply_at.new.self (subst IsStore c.find_as.ensures.location.store c.find_as.ensures.store)
+    (applied_behind u c.in-Ok.location _ c.args.self.now c.find_as.new.self c.apply_at.new.self c.find_as.new.rows c.in-Ok.ensures.location c.in-Err-apply_at.ensures.applied)
+    (then_met u c.in-Ok.location _ (λ done. moved u done.0) (λ done. done.1) c.args.self.now c.find_as.new.self c.apply_at.new.self c.find_as.new.rows c.in-Ok.ensures.location c.in-Err-apply_at.ensures.within)
 
 pub returns-in-Err-clause-made : goal.returns-in-Err-clause-made
-returns-in-Err-clause-made g c = unfound_item (update_of c.args.update.now) c.in-Err.fault c.args.self.now c.find_as.new.self c.find_as.new.rows (subst IsStore c.find_as.ensures.spot.store c.find_as.ensures.store) c.in-Err.ensures.spot
+returns-in-Err-clause-made g c = unfound_item (update_of c.args.update.now) c.in-Err.fault c.args.self.now c.find_as.new.self c.find_as.new.rows (subst IsStore c.find_as.ensures.location.store c.find_as.ensures.store) c.in-Err.ensures.location
 
 -- counts stay where nothing of its kind was found
 pub returns-in-Ok-apply_at-clause-as_found : goal.returns-in-Ok-apply_at-clause-as_found
 returns-in-Ok-apply_at-clause-as_found g c = by c.args.found c.in-Ok.ensures.as_found
   where
-    by : (o : Option Bool) → IsAsFound o (is_ok c.in-Ok.spot.found) → CountsAsFound o (update_of c.args.update.now) c.args.self.now.tally c.apply_at.new.self.tally
+    by : (o : Option Bool) → IsAsFound o (is_ok c.in-Ok.location.found) → CountsAsFound o (update_of c.args.update.now) c.args.self.now.tally c.apply_at.new.self.tally
     by None same = tt
-    by (Some present) same = λ none. c.in-Ok-apply_at.ensures.counts (subst (ChangesNone (update_of c.args.update.now)) (sym same) none) ∙ ap (λ (v : StoreView). v.tally) c.find_as.ensures.spot.store
+    by (Some present) same = λ none. c.in-Ok-apply_at.ensures.counts (subst (ChangesNone (update_of c.args.update.now)) (sym same) none) ∙ ap (λ (v : StoreView). v.tally) c.find_as.ensures.location.store

@@ -8,7 +8,7 @@ use Rattle.map_model.specs.Image.{array_of}
 use Rattle.map_model.specs.Store.{Update, unbind, key_of}
 use Rattle.segment.specs.Rows.{value_of}
 use Rattle.pma_store.specs.Items.{IsAsFound, MakesItem}
-use Rattle.pma_store.specs.Judging.{found_at}
+use Rattle.pma_store.specs.Validating.{found_at}
 use Rattle.pma_store.specs.Updating.{FitsFormat, update_of}
 use Rattle.pma_store.proofs.ItemsApplied.{fits_format}
 use Rattle.pma_store.proofs.ItemsMade.{HasMade, none_made, one_more, one_fails, as_found, all_made, not_closed}

@@ -9,14 +9,14 @@ use Rattle.map_model.proofs.Recovering.{determined}
 use Rattle.std.proofs.lemmas.Grind.{common_steps}
 use Rattle.window_tally.specs.declared.Pick.TheVariants.{Fits, Spread, Grow, Shrink, AtLimit}
 use Rattle.window_tally.specs.declared.Change.TheVariants.{Add}
-use Rattle.pma_store.specs.Spots.{IsOwn}
+use Rattle.pma_store.specs.Locations.{IsOwn}
 use Rattle.pma_store.specs.Store.{StoreView, Stands, limit_of}
 use Rattle.pma_store.specs.Updating.{update_of}
 use Rattle.pma_store.proofs.Changes.{finds_again}
 use Rattle.pma_store.proofs.Outcomes.{records_are, rows_len}
 use Rattle.pma_store.proofs.Picks.{low_of, near_of}
 use Rattle.pma_store.proofs.Making.{stands_there, finds_keeps, keeps_err}
-use Rattle.pma_store.proofs.Steps.{own_of, on_ok_too, all_spots}
+use Rattle.pma_store.proofs.Steps.{own_of, on_ok_too, all_locations}
 use Rattle.window_tally.specs.declared.Pick.{Pick}
 use Rattle.pma_store.specs.Damaging.{IsMetMaking}
 use Rattle.pma_store.specs.Touching.{place_after}
@@ -41,7 +41,7 @@ find_again-requires-clause-again g c told_b =
     let own = stands g here told in
     let room : c.args.change ≡ Add → length (rows (array_of a.held)) < upper_of (limit_of s) = λ (add : c.args.change ≡ Add).
     omega (arith, c.requires.few add, records_are s a.held own, rows_len s a.held own, ap (λ (h : ℕ). upper_of h) c.requires.kept.hmax) in
-    finds_again s a.held own (update_of c.args.update.now) c.args.change c.args.spot c.args.rows.now c.requires.spot (c.requires.own told) c.requires.needs room b.held (c.in-Ok.ensures.array told) c.args.pick c.requires.pick
+    finds_again s a.held own (update_of c.args.update.now) c.args.change c.args.location c.args.rows.now c.requires.location (c.requires.own told) c.requires.needs room b.held (c.in-Ok.ensures.array told) c.args.pick c.requires.pick
 
 pub find_again-requires-clause-low : goal.find_again-requires-clause-low
 find_again-requires-clause-low g c = low_of c.args.self.now.tally c.args.pick (omega (arith, c.requires.kept.tally.height_is, c.requires.kept.tally.hmax_is)) c.requires.possible
@@ -87,10 +87,10 @@ returns-in-Ok-clause-own g c = IfOk-weaker c.find_again.result _ _ (λ next own 
 pub returns-in-Ok-clause-ready : goal.returns-in-Ok-clause-ready
 returns-in-Ok-clause-ready g c =
     let some : c.args.pick ≡ Fits → ⊥ = first_of (search rules, grind (arith, common_steps)) in
-    all_spots c.find_again.result c.find_again.ensures.found.spot c.find_again.ensures.lies c.find_again.ensures.needs (λ next spot lies needs. record {
+    all_locations c.find_again.result c.find_again.ensures.found.location c.find_again.ensures.lies c.find_again.ensures.needs (λ next location lies needs. record {
       tally_is = ap (λ (s : StoreView). s.tally) c.find_again.ensures.found.store ∙ c.in-Ok.ensures.tally;
-      near = near_of c.args.change c.args.spot.segment c.args.self.now.tally next.segment c.args.pick c.requires.pick some lies;
-      is_spot = spot;
+      near = near_of c.args.change c.args.location.segment c.args.self.now.tally next.segment c.args.pick c.requires.pick some lies;
+      is_location = location;
       needs = needs;
     })
 
@@ -98,15 +98,15 @@ pub returns-in-Ok-clause-asks : goal.returns-in-Ok-clause-asks
 returns-in-Ok-clause-asks g c =
     let t = c.args.self.now.tally in
     let some : c.args.pick ≡ Fits → ⊥ = first_of (search rules, grind (arith, common_steps)) in
-    on_err_too c.find_again.result (asked_first t.hmax t.height c.args.spot.segment c.args.change (broken_in c.args.change c.args.spot.segment t) c.args.pick c.requires.pick some)
+    on_err_too c.find_again.result (asked_first t.hmax t.height c.args.location.segment c.args.change (broken_in c.args.change c.args.location.segment t) c.args.pick c.requires.pick some)
 
 pub returns-in-Ok-clause-late : goal.returns-in-Ok-clause-late
 returns-in-Ok-clause-late g c =
     let s = c.args.self.now in
     let t = s.tally in
     let some : c.args.pick ≡ Fits → ⊥ = first_of (search rules, grind (arith, common_steps)) in
-    found_behind c.args.change c.args.spot.segment s c.make_ready.new.self c.find_again.new.self (update_of c.args.update.now) c.find_again.result c.find_again.new.rows c.find_again.ensures.found
-    (asked_first t.hmax t.height c.args.spot.segment c.args.change (broken_in c.args.change c.args.spot.segment t) c.args.pick c.requires.pick some) c.in-Ok.ensures.tally
+    found_behind c.args.change c.args.location.segment s c.make_ready.new.self c.find_again.new.self (update_of c.args.update.now) c.find_again.result c.find_again.new.rows c.find_again.ensures.found
+    (asked_first t.hmax t.height c.args.location.segment c.args.change (broken_in c.args.change c.args.location.segment t) c.args.pick c.requires.pick some) c.in-Ok.ensures.tally
     (subst (λ (p : Pick). c.make_ready.new.self.place ≡ place_after (resizes p) s.place) c.requires.pick c.in-Ok.ensures.place.place_is)
 
 pub returns-in-Err-clause-late : goal.returns-in-Err-clause-late
@@ -121,4 +121,4 @@ pub returns-in-Err-clause-asks : goal.returns-in-Err-clause-asks
 returns-in-Err-clause-asks g c =
     let t = c.args.self.now.tally in
     let some : c.args.pick ≡ Fits → ⊥ = first_of (search rules, grind (arith, common_steps)) in
-    asked_first t.hmax t.height c.args.spot.segment c.args.change (broken_in c.args.change c.args.spot.segment t) c.args.pick c.requires.pick some
+    asked_first t.hmax t.height c.args.location.segment c.args.change (broken_in c.args.change c.args.location.segment t) c.args.pick c.requires.pick some

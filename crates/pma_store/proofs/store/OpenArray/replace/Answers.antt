@@ -28,12 +28,12 @@ use Rattle.pma_store.proofs.store.OpenArray.replace.Goals.{After-rewrite}
 stands : (g : _) (c : After-rewrite g) → Told (g.S.Station.view c.args.station.now) → Stands c.args.self.now (g.S.Station.view c.args.station.now).held
 stands g c told = stands_there c.args.self.now c.requires.on told
 
-replacing : (g : _) (c : After-rewrite g) → Told (g.S.Station.view c.args.station.now) → IsReplacing c.args.self.now (g.S.Station.view c.args.station.now).held (update_of c.args.update.now) c.args.spot c.args.rows.now
+replacing : (g : _) (c : After-rewrite g) → Told (g.S.Station.view c.args.station.now) → IsReplacing c.args.self.now (g.S.Station.view c.args.station.now).held (update_of c.args.update.now) c.args.location c.args.rows.now
 replacing g c told =
     let a = g.S.Station.view c.args.station.now in
     let u = update_of c.args.update.now in
-    replaced_by c.args.self.now a.held (stands g c told) u c.args.spot c.args.rows.now (c.requires.own told)
-    (needs_in c.args.self.now a.held (stands g c told) u c.args.spot c.args.rows.now c.requires.spot (c.requires.own told) ∙ c.requires.needs)
+    replaced_by c.args.self.now a.held (stands g c told) u c.args.location c.args.rows.now (c.requires.own told)
+    (needs_in c.args.self.now a.held (stands g c told) u c.args.location c.args.rows.now c.requires.location (c.requires.own told) ∙ c.requires.needs)
 
 steps : (g : _) (c : After-rewrite g) → Steps (Updates (limit_of c.args.self.now) (update_of c.args.update.now)) (g.S.Station.view c.args.station.now) (g.S.Station.view c.rewrite.new.station)
 steps g c =
@@ -41,8 +41,8 @@ steps g c =
     let s = c.args.self.now in
     let u = update_of c.args.update.now in
     let next = map_after (limit_of s) (map_of a.held) u in
-    rewrite_updates (limit_of s) u (map_of a.held) s c.args.spot.segment (edited u c.args.rows.now) (g.met.S.Station.lawful c.args.station.now) c.requires.on (λ told. own_of s a.held (stands g c told))
-    (λ told image has. (s.tally.height, (rewritten_represents s a.held image c.args.spot.segment (edited u c.args.rows.now) next (stands g c told) has (replacing g c told).holds).0))
+    rewrite_updates (limit_of s) u (map_of a.held) s c.args.location.segment (edited u c.args.rows.now) (g.met.S.Station.lawful c.args.station.now) c.requires.on (λ told. own_of s a.held (stands g c told))
+    (λ told image has. (s.tally.height, (rewritten_represents s a.held image c.args.location.segment (edited u c.args.rows.now) next (stands g c told) has (replacing g c told).holds).0))
     c.rewrite.ensures.steps
 
 pub rewrite-requires-clause-balanced : goal.rewrite-requires-clause-balanced
@@ -59,7 +59,7 @@ returns-in-Ok-clause-applied g c =
     let next = map_after (limit_of s) (map_of a.held) u in
     let one = c.in-Ok.ensures in
     let layout = ap (λ (t : StoreView). t.place.layout) one.kept in
-    let after = λ (told : Told a). rewritten_represents s a.held b.held c.args.spot.segment (edited u c.args.rows.now) next (stands g here told) (one.laid told) (replacing g here told).holds in
+    let after = λ (told : Told a). rewritten_represents s a.held b.held c.args.location.segment (edited u c.args.rows.now) next (stands g here told) (one.laid told) (replacing g here told).holds in
     record {
       update = record {
         state = λ told. let facts = replacing g here told in
@@ -68,7 +68,7 @@ returns-in-Ok-clause-applied g c =
         rested = quiet_rested;
         store = stands_again s t c.requires.on layout one.steps.frame (one.store next (λ told. (replacing g here told).holds)) one.rests;
         steps = steps g here;
-        place = rewrite_place s t c.args.spot.segment (edited u c.args.rows.now) (ap (λ (t : StoreView). t.place) one.kept) one.steps;
+        place = rewrite_place s t c.args.location.segment (edited u c.args.rows.now) (ap (λ (t : StoreView). t.place) one.kept) one.steps;
         layout = layout;
         cost = omega (arith, one.cost);
         most = omega (arith, one.cost, commit_within s.place.layout s.tally.height);
@@ -101,7 +101,7 @@ returns-in-Err-clause-applied g c =
     rewrite_faults (update_of c.args.update.now) c.in-Err.fault c.args.self.now c.rewrite.new.self (steps g here) (ap (λ (t : StoreView). t.place.layout) one.kept) (ap (λ (t : StoreView). t.closed) one.kept) (omega (arith, one.cost, commit_within c.args.self.now.place.layout c.args.self.now.tally.height)) (bounded g here _ one.cost) one.disk one.failed
 
 pub returns-in-Ok-clause-within : goal.returns-in-Ok-clause-within
-returns-in-Ok-clause-within g c = replaced_within (update_of c.args.update.now) (is_ok c.args.spot.found) c.args.spot.segment c.args.self.now c.rewrite.new.self c.requires.needs c.in-Ok.ensures.counted c.rewrite.ensures.calls c.rewrite.ensures.cost
+returns-in-Ok-clause-within g c = replaced_within (update_of c.args.update.now) (is_ok c.args.location.found) c.args.location.segment c.args.self.now c.rewrite.new.self c.requires.needs c.in-Ok.ensures.counted c.rewrite.ensures.calls c.rewrite.ensures.cost
 
 pub returns-in-Err-clause-within : goal.returns-in-Err-clause-within
 returns-in-Err-clause-within g c = record { report = tt; counts = tt; late = inl c.in-Err.ensures.disk; asked = omega (arith, c.rewrite.ensures.calls); calls = tt; spared = λ none. c.in-Err.ensures.cost; written = omega (arith, c.in-Err.ensures.cost) }

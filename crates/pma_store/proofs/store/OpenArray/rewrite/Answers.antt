@@ -9,20 +9,20 @@ use Rattle.pma_store.proofs.store.OpenArray.rewrite.Goals as goal
 
 pub edit-requires-clause-room : goal.edit-requires-clause-room
 edit-requires-clause-room g c absent =
-    let spot = c.requires.spot in
-    omega (arith, spot.count, room_asked (update_of c.args.update.now) c.args.spot.found c.args.change c.args.self.now.tally c.args.spot.segment absent c.requires.needs spot.there spot.within c.requires.balanced)
+    let location = c.requires.location in
+    omega (arith, location.count, room_asked (update_of c.args.update.now) c.args.location.found c.args.change c.args.self.now.tally c.args.location.segment absent c.requires.needs location.there location.within c.requires.balanced)
 
 pub write-requires-clause-length : goal.write-requires-clause-length
 write-requires-clause-length g c =
-    let spot = c.requires.spot in
-    c.edit.ensures.length ∙ (λ t. edited_length (c.requires.needs t) (spot.count t)) ∙ length_asked c.args.change c.args.spot.segment c.args.self.now.tally spot.there
+    let location = c.requires.location in
+    c.edit.ensures.length ∙ (λ t. edited_length (c.requires.needs t) (location.count t)) ∙ length_asked c.args.change c.args.location.segment c.args.self.now.tally location.there
 
 pub write-requires-clause-fits : goal.write-requires-clause-fits
 write-requires-clause-fits g c =
     let f = c.args.self.now.place.layout.format in
-    subst (λ (rs : List Record). T (list_all (is_record f) rs)) (sym c.edit.ensures.rows) (edited_fits f (update_of c.args.update.now) c.args.rows.now c.requires.spot.fits c.requires.fits)
+    subst (λ (rs : List Record). T (list_all (is_record f) rs)) (sym c.edit.ensures.rows) (edited_fits f (update_of c.args.update.now) c.args.rows.now c.requires.location.fits c.requires.fits)
 
 pub returns : goal.returns
 returns g c =
-    subst (λ (rs : List Record). RewritesOne c.args.spot.segment rs c.args.change c.write.result c.args.self.now c.write.new.self (g.S.Station.view c.args.station.now) (g.S.Station.view c.write.new.station))
+    subst (λ (rs : List Record). RewritesOne c.args.location.segment rs c.args.change c.write.result c.args.self.now c.write.new.self (g.S.Station.view c.args.station.now) (g.S.Station.view c.write.new.station))
     c.edit.ensures.rows c.write.ensures.rewritten

@@ -7,13 +7,13 @@ use Rattle.header_gate.specs.declared.layout.TheConstants.{INTENT_VERSION}
 use Rattle.map_model.specs.Image.{array_of, map_of}
 use Rattle.segment.specs.declared.fault.StoreFault.{StoreFault}
 use Rattle.segment.specs.declared.fault.StoreFault.TheVariants.{Failed}
-use Rattle.pma_store.specs.declared.batch.Tried.{Tried}
-use Rattle.pma_store.specs.declared.batch.Tried.TheVariants.{Judged}
+use Rattle.pma_store.specs.declared.batch.Attempt.{Attempt}
+use Rattle.pma_store.specs.declared.batch.Attempt.TheVariants.{Validated}
 use Rattle.pma_store.specs.AtOnce.{TriesOnce}
 use Rattle.pma_store.specs.BatchCalls.{CallsBatch}
 use Rattle.pma_store.specs.Batching.{AppliesBatch, done_by, version_of}
 use Rattle.pma_store.specs.Inside.{view_of}
-use Rattle.pma_store.specs.Judging.{JudgesItems, counts_of, edits_of, judged_of}
+use Rattle.pma_store.specs.Validating.{ValidatesItems, counts_of, edits_of, validated_of}
 use Rattle.pma_store.specs.Looked.{BelongThere, HasLooked}
 use Rattle.pma_store.specs.Once.{AreUsed}
 use Rattle.pma_store.specs.Store.{StoreView, IsOpenOn, limit_of}
@@ -21,9 +21,9 @@ use Rattle.redo_journal.specs.Neighbours.{run_count}
 use Rattle.redo_journal.specs.Rest.{RestsAt}
 use Rattle.pma_store.proofs.AppliedOnce.{committed, not_committed, once_looked}
 use Rattle.pma_store.proofs.BatchCalls.{looks_behind}
-use Rattle.pma_store.proofs.Batched.{judged_then, judging_fails}
+use Rattle.pma_store.proofs.Batched.{validated_then, validating_fails}
 use Rattle.pma_store.proofs.ItemsApplied.{tall_of}
-use Rattle.pma_store.proofs.Committed.{IsReadyAtOnce, judges, looks_fail}
+use Rattle.pma_store.proofs.Committed.{IsReadyAtOnce, validates, looks_fail}
 use Rattle.pma_store.proofs.Making.{opens_on, stands_there}
 use Rattle.pma_store.proofs.OnceLaws.{used_few}
 use Rattle.pma_store.proofs.Unfit.{not_once}
@@ -66,7 +66,7 @@ returns-in-Err g c =
     let items = c.args.intent.now in
     subst (λ (v : StoreView). AppliesBatch items (Err c.in-Err.fault) v (record s { journal = c.look_over.new.frames.journal; turn = c.look_over.new.frames.turn }) a b) c.self.view_is
     (subst (λ (t : StoreView). AppliesBatch items (Err c.in-Err.fault) s t a b) (sym (same g here))
-    (judging_fails items c.in-Err.fault s s (g.met.S.Station.lawful c.args.station.now) (opened g found) (looks_fail items c.in-Err.fault s c.find_segments.new.segments c.look_over.new.frames c.look_over.new.look (tall_of s c.self.invariant) c.in-Err.ensures.looks)))
+    (validating_fails items c.in-Err.fault s s (g.met.S.Station.lawful c.args.station.now) (opened g found) (looks_fail items c.in-Err.fault s c.find_segments.new.segments c.look_over.new.frames c.look_over.new.look (tall_of s c.self.invariant) c.in-Err.ensures.looks)))
 
 -- the most records, for the store's fields
 most : (g : _) (c : After-find_segments g) → c.args.most ≡ upper_of (limit_of (view_of c.self.inside))
@@ -80,10 +80,10 @@ returns-in_default g c =
     let a = g.S.Station.view c.args.station.now in
     let b = g.S.Station.view c.look_over.new.station in
     let items = c.args.intent.now in
-    subst (λ (v : StoreView). JudgesItems items (Ok None) v (record s { journal = c.look_over.new.frames.journal; turn = c.look_over.new.frames.turn }) a b) c.self.view_is
-    (subst (λ (t : StoreView). JudgesItems items (Ok None) s t a b) (sym (same g here))
-    (judges items s c.find_segments.new.segments c.look_over.new.frames c.look_over.new.look (opened g found).on c.find_segments.ensures.size (belong g found) (within g found) c.in-Ok.ensures.looks
-    c.records.result c.args.most None (most g found) c.records.ensures c.in_default.ensures.judged tt))
+    subst (λ (v : StoreView). ValidatesItems items (Ok None) v (record s { journal = c.look_over.new.frames.journal; turn = c.look_over.new.frames.turn }) a b) c.self.view_is
+    (subst (λ (t : StoreView). ValidatesItems items (Ok None) s t a b) (sym (same g here))
+    (validates items s c.find_segments.new.segments c.look_over.new.frames c.look_over.new.look (opened g found).on c.find_segments.ensures.size (belong g found) (within g found) c.in-Ok.ensures.looks
+    c.records.result c.args.most None (most g found) c.records.ensures c.in_default.ensures.validated tt))
 
 pub returns-in_default-list_fitting : goal.returns-in_default-list_fitting
 returns-in_default-list_fitting g c =
@@ -94,14 +94,14 @@ returns-in_default-list_fitting g c =
     let b = g.S.Station.view c.look_over.new.station in
     let items = c.args.intent.now in
     let looks = c.in-Ok.ensures.looks in
-    let judged = c.in-Some.judged in
-    let tells = judges items s c.find_segments.new.segments c.look_over.new.frames c.look_over.new.look (opened g found).on c.find_segments.ensures.size (belong g found) (within g found) looks
-    c.records.result c.args.most (Some judged) (most g found) c.records.ensures c.in-Some.ensures.judged c.in-Some.ensures.found in
-    subst (λ (v : StoreView). TriesOnce items (Ok (Judged judged)) v (record s { journal = c.look_over.new.frames.journal; turn = c.look_over.new.frames.turn }) a b) c.self.view_is (
-      subst (λ (t : StoreView). JudgesItems items (Ok (Some judged)) s t a b) (sym (same g here)) tells,
+    let validated = c.in-Some.validated in
+    let tells = validates items s c.find_segments.new.segments c.look_over.new.frames c.look_over.new.look (opened g found).on c.find_segments.ensures.size (belong g found) (within g found) looks
+    c.records.result c.args.most (Some validated) (most g found) c.records.ensures c.in-Some.ensures.validated c.in-Some.ensures.found in
+    subst (λ (v : StoreView). TriesOnce items (Ok (Validated validated)) v (record s { journal = c.look_over.new.frames.journal; turn = c.look_over.new.frames.turn }) a b) c.self.view_is (
+      subst (λ (t : StoreView). ValidatesItems items (Ok (Some validated)) s t a b) (sym (same g here)) tells,
       λ told are.
-          not_once items s a.held (stands_there s (opened g found).on told) c.find_segments.new.segments c.look_over.new.frames c.look_over.new.look judged looks.loaded (looks.looked told) (looks.used told) (belong g found told)
-          c.len-len.ensures.intent.distinct (tells.judged told) are (c.in_default-list_fitting.ensures.unfit refl),
+          not_once items s a.held (stands_there s (opened g found).on told) c.find_segments.new.segments c.look_over.new.frames c.look_over.new.look validated looks.loaded (looks.looked told) (looks.used told) (belong g found told)
+          c.len-len.ensures.intent.distinct (tells.validated told) are (c.in_default-list_fitting.ensures.unfit refl),
     )
 
 pub slice_bounds-changes-end : goal.slice_bounds-changes-end
@@ -135,7 +135,7 @@ returns g c =
     let numbers = c.find_segments.new.segments in
     let look = c.look_over.new.look in
     let frames = c.look_over.new.frames in
-    let judged = c.in-Some.judged in
+    let validated = c.in-Some.validated in
     let changes = take c.in-Some-list_fitting.count c.list_fitting.new.changes in
     let steps = c.look_over.ensures.looks.steps in
     let is = opened g found in
@@ -143,7 +143,7 @@ returns g c =
     let law_b = g.met.S.Station.lawful c.look_over.new.station in
     let version : INTENT_VERSION ≤ version_of s = subst (λ (v : StoreView). INTENT_VERSION ≤ version_of v) (sym c.self.view_is) c.requires.version in
     let held = λ (told : Told b). sym (steps.held (told_back steps.frame told)) in
-    let ready : IsReadyAtOnce items s numbers frames look judged changes b = record {
+    let ready : IsReadyAtOnce items s numbers frames look validated changes b = record {
       is = still g here is;
       store = c.self.invariant;
       intent = c.len-len.ensures.intent;
@@ -154,8 +154,8 @@ returns g c =
       journal = c.look_over.ensures.looks.journal;
       fits = c.in-Some-list_fitting.ensures.fits;
     } in
-    let tells = judges items s numbers frames look is.on c.find_segments.ensures.size (belong g found) (within g found) c.in-Ok.ensures.looks c.records.result c.args.most (Some judged) (most g found) c.records.ensures c.in-Some.ensures.judged c.in-Some.ensures.found in
-    let judged_is = λ (told : Told b). tells.judged (told_back steps.frame told) ∙ ap (λ (x : List ℕ). judged_of (limit_of s) (map_of x) items) (held told) in
+    let tells = validates items s numbers frames look is.on c.find_segments.ensures.size (belong g found) (within g found) c.in-Ok.ensures.looks c.records.result c.args.most (Some validated) (most g found) c.records.ensures c.in-Some.ensures.validated c.in-Some.ensures.found in
+    let validated_is = λ (told : Told b). tells.validated (told_back steps.frame told) ∙ ap (λ (x : List ℕ). validated_of (limit_of s) (map_of x) items) (held told) in
     let index = c.commit_edits.new.index in
     let turn = c.commit_edits.new.frames.turn in
     let tally = c.commit_edits.new.tally in
@@ -164,20 +164,20 @@ returns g c =
     let looked = looks_behind items s.tally.height steps looks in
     let few : look.count ≤ length looked.0.looked = omega (arith, here_looked, looked.1) in
     let calls : e.calls ≤ b.calls + (8 + run_count frames.numbers) → CallsBatch items s a e =
-    λ few. once_looked items s numbers frames look judged changes ready law_b version judged_is c.in-Some.ensures.total {start = a} {c = e} looks here_looked (λ told. omega (arith, c.in-Ok.ensures.looks.loaded.count_is, used_few s.place.layout (array_of a.held) items frames look.whole c.in-Ok.ensures.looks.loaded.held (c.in-Ok.ensures.looks.used told))) few in
+    λ few. once_looked items s numbers frames look validated changes ready law_b version validated_is c.in-Some.ensures.total {start = a} {c = e} looks here_looked (λ told. omega (arith, c.in-Ok.ensures.looks.loaded.count_is, used_few s.place.layout (array_of a.held) items frames look.whole c.in-Ok.ensures.looks.loaded.held (c.in-Ok.ensures.looks.used told))) few in
     let journal = c.commit_edits.ensures.journal ∙ c.look_over.ensures.looks.journal ∙ sym c.self.invariant.journal in
     subst (λ (v : StoreView). TriesOnce items c.match-commit_edits.result v (record s { tally = tally; index = index; journal = c.commit_edits.new.frames.journal; turn = turn }) a e) c.self.view_is (elim c.match-commit_edits.branch [
       | in-Ok-commit_edits w ↦
-          subst (λ (r : Result Tried StoreFault). TriesOnce items r s (record s { tally = tally; index = index; journal = c.commit_edits.new.frames.journal; turn = turn }) a e) (sym w.result-is)
-          (subst (λ (j : ℕ). AppliesBatch items (Ok (done_by (counts_of judged) (2 * edits_of judged))) s (record s { tally = tally; index = index; journal = j; turn = turn }) a e) (sym journal)
-          (judged_then items (Ok (done_by (counts_of judged) (2 * edits_of judged))) s (record s { tally = tally; index = index; turn = turn }) is law steps c.look_over.ensures.looks.unwritten looks (calls w.in-Ok-commit_edits.ensures.committed.frames.calls) (λ refusal. refusal)
-          (committed items s numbers frames look judged changes ready law_b version judged_is c.in-Some.ensures.total looked.0 few (g.met.S.Station.lawful c.commit_edits.new.station) turn index tally w.in-Ok-commit_edits.ensures.committed)))
+          subst (λ (r : Result Attempt StoreFault). TriesOnce items r s (record s { tally = tally; index = index; journal = c.commit_edits.new.frames.journal; turn = turn }) a e) (sym w.result-is)
+          (subst (λ (j : ℕ). AppliesBatch items (Ok (done_by (counts_of validated) (2 * edits_of validated))) s (record s { tally = tally; index = index; journal = j; turn = turn }) a e) (sym journal)
+          (validated_then items (Ok (done_by (counts_of validated) (2 * edits_of validated))) s (record s { tally = tally; index = index; turn = turn }) is law steps c.look_over.ensures.looks.unwritten looks (calls w.in-Ok-commit_edits.ensures.committed.frames.calls) (λ refusal. refusal)
+          (committed items s numbers frames look validated changes ready law_b version validated_is c.in-Some.ensures.total looked.0 few (g.met.S.Station.lawful c.commit_edits.new.station) turn index tally w.in-Ok-commit_edits.ensures.committed)))
       | in-Err-commit_edits w ↦
           let commits = w.in-Err-commit_edits.ensures.committed in
-          subst (λ (r : Result Tried StoreFault). TriesOnce items r s (record s { tally = tally; index = index; journal = c.commit_edits.new.frames.journal; turn = turn }) a e) (sym w.result-is)
+          subst (λ (r : Result Attempt StoreFault). TriesOnce items r s (record s { tally = tally; index = index; journal = c.commit_edits.new.frames.journal; turn = turn }) a e) (sym w.result-is)
           (subst (λ (t : StoreView). AppliesBatch items (Err Failed) s t a e) (sym (λ τ. record s { tally = commits.unchanged.1 τ; index = commits.unchanged.0 τ; journal = journal τ; turn = turn }))
-          (judged_then items (Err Failed) s (record s { turn = turn }) is law steps c.look_over.ensures.looks.unwritten looks (calls commits.frames.calls) tt
-          (not_committed items s numbers frames look judged changes ready law_b version judged_is c.in-Some.ensures.total _ looked.0 few turn commits.frames)))
+          (validated_then items (Err Failed) s (record s { turn = turn }) is law steps c.look_over.ensures.looks.unwritten looks (calls commits.frames.calls) tt
+          (not_committed items s numbers frames look validated changes ready law_b version validated_is c.in-Some.ensures.total _ looked.0 few turn commits.frames)))
     ])
 
 pub look_over-requires-clause-readable : goal.look_over-requires-clause-readable

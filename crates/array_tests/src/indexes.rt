@@ -1,0 +1,385 @@
+//! The index in a file: it is left, closed and read again, and all of it is stopped at every call.
+
+ghost use Rattle.std.specs.Prelude.{◌≡◌, ◌≤◌};
+
+use crate::files::{
+    Counts, FORMATS, PICKS, file_of, lay, lay_header, lay_rows, layout_of, place_of, see_records,
+};
+use crate::untold::{UntoldStation, failing, untold};
+use density_rule::Window;
+use header_gate::{INDEXED, Layout, PAIRED, Reason};
+use index_file::{close_index, leave_index, open_quick};
+use recovery::{OpenFault, Parts, open_store};
+use resize_region::clear_store;
+use station::Station;
+use std::alloc::Global;
+use std::process::Abort;
+use std::test::Fail;
+
+// The place of the clean gate.
+const CLEAN: usize = 704;
+
+// More calls than an opening and a leaving make.
+const CALLS: u32 = 40;
+
+/// Height, the counts of the segments, and the number of records.
+type Row = (u32, Counts, u32);
+
+/// Stores of one segment, of two, and of four.
+const ROWS: [Row; 3] = [
+    (0, [5, 0, 0, 0, 0, 0, 0, 0], 5),
+    (1, [32, 33, 0, 0, 0, 0, 0, 0], 65),
+    (2, [20, 21, 22, 23, 0, 0, 0, 0], 86),
+];
+
+// The versions of a file with an index: with one journal, and with two.
+const VERSIONS: [u32; 2] = [INDEXED, PAIRED];
+
+// The layout of such a file, whose store has this format and at most height 2.
+fn indexed(version: u32, format: u32) -> Layout
+    requires format { 1 ≤ format × (format ≤ 2) }
+{
+    Layout {
+        version,
+        ..layout_of(format, 2, 4)
+    }
+}
+
+// The file of a row.
+fn file_with_index(
+    rt: &impl Abort,
+    alloc: Global,
+    layout: Layout,
+    row: &Row,
+) -> Result<Vec<u8>, Fail> {
+    let (height, counts, _) = *row;
+    file_of(rt, alloc, layout, height, counts)
+}
+
+// Opens a store by its region, makes the live one of two journals empty, and leaves its index. Where all come to an end, it
+// answers how many calls were made before the leaving.
+fn leave_once(alloc: Global, station: &mut UntoldStation) -> Option<usize> {
+    let Ok(mut parts) = open_store(alloc, station) else {
+        return None;
+    };
+    if parts.place.layout.version < INDEXED
+        || clear_store(station, &parts.place, &mut parts.frames).is_err()
+    {
+        return None;
+    }
+    let before = station.inner.noted();
+    match leave_index(station, &mut parts) {
+        Ok(()) => Some(before),
+        Err(_) => None,
+    }
+}
+
+// A file after its index was left.
+fn left(rt: &impl Abort, alloc: Global, file: &[u8]) -> Result<Vec<u8>, Fail> {
+    let mut station = untold(rt, alloc, file)?;
+    assert!(rt; leave_once(alloc, &mut station).is_some());
+    Ok(Vec::from_slice(alloc, station.inner.inner().held())?)
+}
+
+// The file of a row after its index was left.
+fn left_file(rt: &impl Abort, alloc: Global, layout: Layout, row: &Row) -> Result<Vec<u8>, Fail> {
+    let file = file_with_index(rt, alloc, layout, row)?;
+    left(rt, alloc, &file)
+}
+
+// Sees that two stores have the same height, counts and fences.
+fn see_same(rt: &impl Abort, one: &Parts, other: &Parts)
+    requires one { one.now.index.height ≡ one.now.tally.height }
+    requires other { other.now.index.height ≡ other.now.tally.height }
+{
+    let height = one.tally.height();
+    assert!(rt; height == other.tally.height() && height <= 7);
+    for number in 0..1u32 << height {
+        let window = Window { height: 0, number };
+        assert_eq!(rt; one.tally.count(window), other.tally.count(window));
+    }
+    for x in 0..(1u32 << height) - 1 {
+        assert!(rt; one.index.node(x) == other.index.node(x));
+    }
+}
+
+// Opens a file by its index and by its region, and sees that both are one store. It answers how many bytes were read by the
+// index, or None where the file isn't opened by it.
+fn read_quickly(rt: &impl Abort, alloc: Global, file: &[u8]) -> Result<Option<u64>, Fail> {
+    let mut station = untold(rt, alloc, file)?;
+    let Some(quick) = open_quick(alloc, &mut station)? else {
+        return Ok(None);
+    };
+    let read = station.travel().read;
+    let mut again = untold(rt, alloc, file)?;
+    let by_region = open_store(alloc, &mut again)?;
+    see_same(rt, &quick, &by_region);
+    Ok(Some(read))
+}
+
+// Sees that a file is opened by its index exactly where its clean gate is odd, as the store that it is by its region, with all
+// records. It answers whether the gate is odd.
+fn see_file(
+    rt: &impl Abort,
+    alloc: Global,
+    file: &[u8],
+    layout: Layout,
+    last: u32,
+) -> Result<bool, Fail> {
+    assert!(rt; file.len() > CLEAN);
+    let is_odd = file[CLEAN] % 2 == 1;
+    assert_eq!(rt; read_quickly(rt, alloc, file)?.is_some(), is_odd);
+    let mut station = untold(rt, alloc, file)?;
+    open_store(alloc, &mut station)?;
+    see_records(rt, file, layout, 1, last)?;
+    Ok(is_odd)
+}
+
+// Sees what a crash leaves after each of a station's calls, from the first that many on.
+fn see_stops(
+    rt: &impl Abort,
+    alloc: Global,
+    station: &UntoldStation,
+    first: usize,
+    layout: Layout,
+    last: u32,
+) -> Result<(), Fail> {
+    let noted = station.inner.noted();
+    assert!(rt;
+        first <= noted && noted < 400,
+        "there was room for all notes"
+    );
+    for calls in first as u32..=noted as u32 {
+        for pick in PICKS {
+            let image = station.inner.crash_image(alloc, calls, pick)?;
+            see_file(rt, alloc, &image, layout, last)?;
+        }
+    }
+    Ok(())
+}
+
+#[test]
+fn an_index_has_fences_links_and_counts(rt: HostRuntime) -> Result<(), Fail> {
+    let file = left_file(&rt, rt.alloc(), indexed(INDEXED, 1), &ROWS[1])?;
+    assert_eq!(rt; file.len(), 61440);
+    assert_eq!(rt; file[CLEAN], 1);
+    assert!(rt; &file[57344..57352] == [4u8, 0, 0, 0, 0, 0, 0, 0].as_slice());
+    assert!(rt; &file[57352..57356] == [b'k', 0, 0, 33].as_slice());
+    assert!(rt; file[57356..57392].iter().all(|byte| *byte == 0));
+    assert!(rt; &file[57392..57400] == [0u8, 0, 0, 128, 1, 0, 0, 128].as_slice());
+    assert!(rt; &file[57600..57608] == [32u8, 0, 0, 0, 33, 0, 0, 0].as_slice());
+    Ok(())
+}
+
+/// The header page, one node and two counts are read, and no gate apart.
+#[test]
+fn a_quick_opening_reads_its_header_and_index(rt: HostRuntime) -> Result<(), Fail> {
+    for version in VERSIONS {
+        let file = left_file(&rt, rt.alloc(), indexed(version, 1), &ROWS[1])?;
+        assert_eq!(rt;
+            read_quickly(&rt, rt.alloc(), &file)?,
+            Some(4096 + 64 + 2 * 4)
+        );
+    }
+    Ok(())
+}
+
+/// A store of 128 segments: its index has 127 nodes, which are written and read in two pieces.
+const LONG: Layout = Layout {
+    hmax: 7,
+    journal: 4,
+    version: INDEXED,
+    format: 1,
+};
+
+// Its file, with 12 records in each segment and three pages for its index.
+fn long_file(rt: &impl Abort, alloc: Global) -> Result<Vec<u8>, Fail> {
+    let end = place_of(rt, LONG, 2, 0);
+    assert_eq!(rt; end, 1073152);
+    let mut file = vec![in alloc; 0; end + 3 * 4096]?;
+    lay_header(rt, &mut file, LONG, 7);
+    for segment in 0..128 {
+        let place = place_of(rt, LONG, 0, segment);
+        lay_rows(rt, &mut file, 1, place, 12 * segment, 12)?;
+    }
+    Ok(file)
+}
+
+#[test]
+fn an_index_of_two_pieces_is_left_and_read(rt: HostRuntime) -> Result<(), Fail> {
+    let mut file = left(&rt, rt.alloc(), &long_file(&rt, rt.alloc())?)?;
+    let read = read_quickly(&rt, rt.alloc(), &file)?;
+    assert_eq!(rt; read, Some(4096 + 64 * 127 + 4 * 128));
+    lay(&rt, &mut file, 1073152 + 64 * 100 + 7, &[1]);
+    assert_eq!(rt;
+        refused_at(&rt, rt.alloc(), &file)?,
+        Some(1073152 + 64 * 100)
+    );
+    Ok(())
+}
+
+// Leaves the index of a row's file, and sees what stops leave of it.
+fn see_leaving(rt: &impl Abort, alloc: Global, layout: Layout, row: &Row) -> Result<(), Fail> {
+    let file = file_with_index(rt, alloc, layout, row)?;
+    let mut station = untold(rt, alloc, &file)?;
+    let Some(before) = leave_once(alloc, &mut station) else {
+        return Err("nothing was left".into());
+    };
+    see_stops(rt, alloc, &station, before, layout, row.2)?;
+    assert!(rt; see_file(rt, alloc, station.inner.inner().held(), layout, row.2)?);
+    Ok(())
+}
+
+#[test]
+fn a_leaving_is_stopped_at_every_call(rt: HostRuntime) -> Result<(), Fail> {
+    for (format, row) in [(1, &ROWS[0]), (1, &ROWS[1]), (1, &ROWS[2]), (2, &ROWS[1])] {
+        see_leaving(&rt, rt.alloc(), indexed(INDEXED, format), row)?;
+    }
+    Ok(())
+}
+
+#[test]
+fn a_leaving_beside_two_journals_is_stopped(rt: HostRuntime) -> Result<(), Fail> {
+    for format in FORMATS {
+        see_leaving(&rt, rt.alloc(), indexed(PAIRED, format), &ROWS[1])?;
+    }
+    Ok(())
+}
+
+#[test]
+fn a_closing_is_stopped_at_every_call(rt: HostRuntime) -> Result<(), Fail> {
+    for (version, format) in [(INDEXED, 1), (INDEXED, 2), (PAIRED, 1)] {
+        let layout = indexed(version, format);
+        let file = left_file(&rt, rt.alloc(), layout, &ROWS[1])?;
+        let mut station = untold(&rt, rt.alloc(), &file)?;
+        assert!(rt; close_index(&mut station).is_ok());
+        see_stops(&rt, rt.alloc(), &station, 0, layout, 65)?;
+        assert!(rt; !see_file(&rt, rt.alloc(), station.inner.inner().held(), layout, 65)?);
+    }
+    Ok(())
+}
+
+// Has each call of a leaving, or of a closing, fail, and all calls from it on.
+fn see_faults(
+    rt: &impl Abort,
+    alloc: Global,
+    file: &[u8],
+    layout: Layout,
+    is_leaving: bool,
+) -> Result<(), Fail> {
+    for call in 0..CALLS {
+        for is_last in [false, true] {
+            let mut station = failing(rt, alloc, file, call, is_last)?;
+            let is_done = if is_leaving {
+                leave_once(alloc, &mut station).is_some()
+            } else {
+                close_index(&mut station).is_ok()
+            };
+            let is_odd = see_file(rt, alloc, station.inner.inner().held(), layout, 65)?;
+            assert!(rt; !is_done || is_odd == is_leaving);
+            if is_done && is_last {
+                return Ok(());
+            }
+        }
+    }
+    Err("it makes more calls".into())
+}
+
+// Sees the faults of a leaving and of a closing in files of this layout.
+fn see_failing(rt: &impl Abort, alloc: Global, layout: Layout) -> Result<(), Fail> {
+    let file = file_with_index(rt, alloc, layout, &ROWS[1])?;
+    see_faults(rt, alloc, &file, layout, true)?;
+    let left = left_file(rt, alloc, layout, &ROWS[1])?;
+    see_faults(rt, alloc, &left, layout, false)
+}
+
+#[test]
+fn a_failed_call_of_a_leaving_and_of_a_closing(rt: HostRuntime) -> Result<(), Fail> {
+    for format in FORMATS {
+        see_failing(&rt, rt.alloc(), indexed(INDEXED, format))?;
+    }
+    Ok(())
+}
+
+#[test]
+fn a_failed_call_beside_two_journals(rt: HostRuntime) -> Result<(), Fail> {
+    see_failing(&rt, rt.alloc(), indexed(PAIRED, 1))
+}
+
+/// The version of a file whose index was left, a place and its byte then, and whether the file is opened by its index. One with
+/// two journals is, whichever of the empty ones is the live one.
+const OTHERS: [(u32, usize, u8, bool); 11] = [
+    (INDEXED, CLEAN, 254, false),
+    (INDEXED, 640, 1, false),
+    (INDEXED, 512, 1, false),
+    (INDEXED, 3080, 2, false),
+    (INDEXED, 3080, 4, false),
+    (PAIRED, CLEAN, 254, false),
+    (PAIRED, 640, 1, false),
+    (PAIRED, 512, 0, true),
+    (PAIRED, 512, 1, true),
+    (PAIRED, 3080, 3, false),
+    (PAIRED, 3080, 5, false),
+];
+
+#[test]
+fn what_is_left_at_the_other_gates_and_versions(rt: HostRuntime) -> Result<(), Fail> {
+    for (version, place, byte, is_quick) in OTHERS {
+        let mut file = left_file(&rt, rt.alloc(), indexed(version, 1), &ROWS[1])?;
+        lay(&rt, &mut file, place, &[byte]);
+        let mut station = untold(&rt, rt.alloc(), &file)?;
+        let is_some = open_quick(rt.alloc(), &mut station)?.is_some();
+        assert!(rt; is_some == is_quick, "{place}");
+    }
+    Ok(())
+}
+
+/// A byte of the file of the second row, and the place that is refused then: other links, a size, a fence and a byte that
+/// should be zero, and counts.
+const WRONG: [(usize, &[u8], u32); 9] = [
+    (57344, &[0], 57344),
+    (57344, &[25], 57344),
+    (57351, &[1], 57344),
+    (57356, &[1], 57344),
+    (57392, &[1], 57344),
+    (57400, &[1], 57344),
+    (57600, &[3], 57600),
+    (57604, &[3], 57604),
+    (57600, &[63, 0, 0, 0, 64], 57600),
+];
+
+// The place at which an index is refused.
+fn refused_at(rt: &impl Abort, alloc: Global, file: &[u8]) -> Result<Option<u32>, Fail> {
+    let mut station = untold(rt, alloc, file)?;
+    match open_quick(alloc, &mut station) {
+        Err(OpenFault::NotStore(Reason::Index { place })) => Ok(Some(place)),
+        _ => Ok(None),
+    }
+}
+
+#[test]
+fn a_wrong_index_is_refused_at_its_place(rt: HostRuntime) -> Result<(), Fail> {
+    let left = left_file(&rt, rt.alloc(), indexed(INDEXED, 1), &ROWS[1])?;
+    for (place, bytes, want) in WRONG {
+        let mut file = Vec::from_slice(rt.alloc(), &left)?;
+        lay(&rt, &mut file, place, bytes);
+        assert_eq!(rt; refused_at(&rt, rt.alloc(), &file)?, Some(want), "{place}");
+    }
+    Ok(())
+}
+
+/// Fences of four segments stand at positions 1, 0 and 2: the later one's place is refused where they don't ascend.
+#[test]
+fn fences_out_of_order_are_refused_at_the_later_one(rt: HostRuntime) -> Result<(), Fail> {
+    let left = left_file(&rt, rt.alloc(), indexed(INDEXED, 1), &ROWS[2])?;
+    for (x, last, want) in [(1, 42, 0), (1, 60, 0), (0, 64, 2), (2, 42, 2)] {
+        let mut file = Vec::from_slice(rt.alloc(), &left)?;
+        lay(&rt, &mut file, 57352 + 64 * x + 3, &[last]);
+        assert_eq!(rt;
+            refused_at(&rt, rt.alloc(), &file)?,
+            Some(57344 + 64 * want),
+            "{x}"
+        );
+    }
+    Ok(())
+}

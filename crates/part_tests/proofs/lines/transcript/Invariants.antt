@@ -1,0 +1,9 @@
+-- Each line takes a byte of what is held or may be taken.
+use Rattle.std.proofs.Common.{◌≡◌, ◌+◌, false, length}
+use Rattle.part_tests.proofs.lines.transcript.Given as goal
+
+abbrev pub invariant-lines : goal.invariant-lines
+invariant-lines l = l.reader.done ≡ false
+
+abbrev pub decreases-lines : goal.decreases-lines
+decreases-lines l = l.reader.room + length l.reader.held

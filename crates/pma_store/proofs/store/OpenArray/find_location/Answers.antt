@@ -1,0 +1,117 @@
+use Rattle.std.proofs.Common.{◌≡◌, inl, ℕ, ◌<◌, ◌^◌, List, length, refl, sym, ap, ◌∙◌, subst, arith}
+use Rattle.std.specs.Prelude.{Ok, Some, IfOk, IfErr, is_some}
+use Rattle.key_slot.specs.Record.{Record}
+use Rattle.station.specs.View.{Told}
+use Rattle.station.specs.declared.travel.Travel.{Travel}
+use Rattle.density_rule.specs.Windows.{count_in}
+use Rattle.density_rule.proofs.Totals.{count_in-segment}
+use Rattle.map_model.specs.Array.{segment_at, segment_for}
+use Rattle.map_model.specs.Store.{key_of}
+use Rattle.map_model.specs.Image.{array_of}
+use Rattle.range_scan.specs.PageView.{PageView}
+use Rattle.segment.specs.Rows.{key_at, value_of, IsGap}
+use Rattle.pma_store.specs.Store.{StoreView, Stands}
+use Rattle.pma_store.specs.Inside.{view_of}
+use Rattle.pma_store.specs.Locations.{IsLocation, IsOwn, FindsLocation}
+use Rattle.pma_store.specs.Updating.{update_of}
+use Rattle.pma_store.proofs.Damages.{own_damage, own_orderly}
+use Rattle.pma_store.proofs.Making.{by_disk, no_fault}
+use Rattle.station.specs.View.{after_read}
+use Rattle.header_gate.specs.InPlace.{IsRecovered}
+use Rattle.header_gate.specs.Places.{segment_place, segment_size}
+use Rattle.range_scan.specs.Faults.{IsDamageAt}
+use Rattle.pma_store.proofs.Resting.{readable_held}
+use Rattle.pma_store.proofs.Standing.{found_is, segment_is, only_failed, within_region}
+use Rattle.pma_store.proofs.store.OpenArray.find_location.Goals as goal
+use Rattle.pma_store.proofs.store.OpenArray.find_location.Goals.{After-read}
+
+-- the store stands for the held bytes
+stands : (g : _) (c : After-read g) → Told (g.S.Station.view c.args.station.now) → Stands (view_of c.self.inside) (g.S.Station.view c.args.station.now).held
+stands g c told = subst (λ (s : StoreView). Stands s (g.S.Station.view c.args.station.now).held) (sym c.self.view_is) (c.requires.on.stands (g.S.Station.view c.args.station.now).held (inl (told, refl)))
+
+-- whose bytes are those of the recovered image in its regions
+readable : (g : _) (c : After-read g) → Told (g.S.Station.view c.args.station.now) → IsRecovered c.self.inside.place.layout (g.S.Station.view c.args.station.now).held
+readable g c told = subst (λ (s : StoreView). IsRecovered s.place.layout (g.S.Station.view c.args.station.now).held) (sym c.self.view_is) (readable_held c.args.self.now c.requires.on told)
+
+-- the segment that was found is one of the store
+within : (g : _) (c : After-read g) → c.find_segment-segment.result < 2 ^ c.self.inside.tally.height
+within g c = (within_region (view_of c.self.inside) c.self.invariant c.find_segment-segment.result c.find_segment-segment.ensures.within).0
+
+pub kept_count-kept-requires : goal.kept_count-kept-requires
+kept_count-kept-requires g c = (within_region (view_of c.self.inside) c.self.invariant c.find_segment-segment.result c.find_segment-segment.ensures.within).0
+
+pub read-requires-clause-segment : goal.read-requires-clause-segment
+read-requires-clause-segment g c = (within_region (view_of c.self.inside) c.self.invariant c.find_segment-segment.result c.find_segment-segment.ensures.within).1
+
+pub returns-clause-found : goal.returns-clause-found
+returns-clause-found g c =
+    let here = (goal.at.returns-clause-found g c).After-read in
+    let a = g.S.Station.view c.args.station.now in
+    let b = g.S.Station.view c.read.new.station in
+    let s = view_of c.self.inside in
+    let u = update_of c.args.update.now in
+    let rows = c.read.new.self.rows in
+    let at = c.find_segment-segment.result in
+    let location = c.location_in.result in
+    let read_rows : c.deref.result.now.rows ≡ rows = ap (λ (p : PageView). p.rows) c.deref.ensures in
+    let here_is : location.segment ≡ at = c.location_in.ensures.segment in
+    let within_it : location.segment < 2 ^ s.tally.height = subst (λ (i : ℕ). i < 2 ^ s.tally.height) (sym here_is) (within g here) in
+    let there : location.segment < length s.tally.counts = omega (arith, within_it, c.self.invariant.tally.size) in
+    let is_location : IsLocation u s location rows = record {
+      within = within_it;
+      there = there;
+      count = c.in-Ok.ensures.count ∙ c.kept_count-kept.ensures ∙ ap (count_in s.tally.counts 0) (sym here_is) ∙ count_in-segment s.tally.counts location.segment there;
+      ascending = c.read.ensures.fits.ascending;
+      fits = c.read.ensures.fits.records;
+      key = subst (λ (rs : List Record). IfOk location.found (λ place. key_at rs place ≡ Some (key_of u))) read_rows c.location_in.ensures.key;
+      gap = subst (λ (rs : List Record). IfErr location.found (λ place. IsGap rs place (key_of u))) read_rows c.location_in.ensures.gap;
+      present = c.location_in.ensures.present ∙ ap (λ (rs : List Record). is_some (value_of (key_of u) rs)) read_rows;
+    } in
+    let own : Told a → IsOwn u location rows a.held = λ (told : Told a). record {
+      segment_is = here_is ∙ found_is s a.held (stands g here told) c.key.result.now at c.find_segment-segment.ensures.found ∙ ap (segment_for (array_of a.held)) c.key.ensures;
+      rows_are = c.in-Ok.ensures.rows told ∙ segment_is s.place.layout s.place.region s.tally.height s.tally.counts a.held (stands g here told).balanced.stands (readable g here told) at (within g here) ∙ ap (segment_at (array_of a.held)) (sym here_is);
+    } in
+    subst (λ (rs : List Record). FindsLocation u (Ok location) c.args.self.now s rs a b) (sym (c.location_in.ensures.rows ∙ read_rows)) (record {
+      location = is_location;
+      own = own;
+      at = at;
+      at_in = subst (λ (v : StoreView). at < 2 ^ v.tally.height) c.self.view_is (within g here);
+      at_own = λ told. found_is s a.held (stands g here told) c.key.result.now at c.find_segment-segment.ensures.found ∙ ap (segment_for (array_of a.held)) c.key.ensures;
+      at_is = here_is;
+      read = subst (λ (v : StoreView). b.travel ≡ after_read (segment_place v.place.layout v.place.region at) (segment_size v.place.layout) a.travel) c.self.view_is c.read.ensures.reads;
+      damage = tt;
+      calls = c.read.ensures.calls;
+      damaged = tt;
+      failed = no_fault location;
+      store = c.self.view_is;
+      steps = c.read.ensures.steps;
+      unwritten = ap (λ (t : Travel). t.written) c.read.ensures.reads;
+    })
+
+pub returns-in-Err-clause-found : goal.returns-in-Err-clause-found
+returns-in-Err-clause-found g c =
+    let here = (goal.at.returns-in-Err-clause-found g c).After-read in
+    let a = g.S.Station.view c.args.station.now in
+    let b = g.S.Station.view c.read.new.station in
+    let s = view_of c.self.inside in
+    let at = c.find_segment-segment.result in
+    let found = c.in-Err.ensures.damaged in
+    record {
+      location = tt;
+      own = tt;
+      at = at;
+      at_in = subst (λ (v : StoreView). at < 2 ^ v.tally.height) c.self.view_is (within g here);
+      at_own = λ told. found_is s a.held (stands g here told) c.key.result.now at c.find_segment-segment.ensures.found ∙ ap (segment_for (array_of a.held)) c.key.ensures;
+      at_is = tt;
+      read = subst (λ (v : StoreView). b.travel ≡ after_read (segment_place v.place.layout v.place.region at) (segment_size v.place.layout) a.travel) c.self.view_is c.read.ensures.reads;
+      damage = subst (λ (v : StoreView). IsDamageAt at v.tally.counts c.in-Err.fault) c.self.view_is (own_damage s.tally.counts at c.kept_count-kept.result c.in-Err.fault c.kept_count-kept.ensures found.own);
+      calls = c.read.ensures.calls;
+      damaged = only_failed s.place.layout s.place.region s.tally.height s.tally.counts at c.kept_count-kept.result c.in-Err.fault a b (λ told. (stands g here told).balanced.stands) (readable g here) (within g here) c.kept_count-kept.ensures found;
+      failed = by_disk c.in-Err.fault found.failed;
+      store = c.self.view_is;
+      steps = c.read.ensures.steps;
+      unwritten = ap (λ (t : Travel). t.written) c.read.ensures.reads;
+    }
+
+pub returns-in-Err-clause-orderly : goal.returns-in-Err-clause-orderly
+returns-in-Err-clause-orderly g c = own_orderly c.find_segment-segment.result c.kept_count-kept.result c.in-Err.fault c.in-Err.ensures.damaged.own

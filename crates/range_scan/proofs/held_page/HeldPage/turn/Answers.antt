@@ -1,6 +1,0 @@
--- Where it stays, something is wrong with the segment, or with its count.
-use Rattle.std.proofs.Common.{arith}
-use Rattle.range_scan.proofs.held_page.HeldPage.turn.Goals as goal
-
-pub returns-in_default-2-clause-sound : goal.returns-in_default-2-clause-sound
-returns-in_default-2-clause-sound c segment fine count = absurd (omega (arith, c.if-len-kept.false, c.in-Ok.ensures.count, count))
