@@ -1,9 +1,11 @@
 -- A sweep that reads on, as far as its next record needs it.
-use Rattle.std.specs.Prelude.{◌≡◌, ◌+◌, ◌-◌, ◌/◌, ◌<◌, ◌≤◌, true, T, length, Result, OnOk, is_err}
+use Rattle.std.specs.Prelude.{◌≡◌, ◌+◌, ◌-◌, ◌/◌, ◌<◌, ◌≤◌, true, false, T, length, Result, OnOk, is_err}
 use Rattle.std.specs.FinMap.{entries}
 use Rattle.station.specs.Bytes.{Same}
 use Rattle.station.specs.View.{View, Told, Rose}
 use Rattle.station.specs.Steps.{Steps}
+use Rattle.header_gate.specs.InPlace.{IsRecovered}
+use Rattle.header_gate.specs.Places.{file_length}
 use Rattle.map_model.specs.Array.{cut}
 use Rattle.map_model.specs.Image.{map_of}
 use Rattle.segment.specs.declared.fault.StoreFault.{StoreFault}
@@ -14,6 +16,17 @@ use Rattle.range_scan.specs.SweepView.{SweepView, IsSweep, GoesOn, validated}
 use Rattle.range_scan.specs.Sweeping.{IsSweeping, BeginsThere, between}
 use Rattle.range_scan.specs.SweepRuns.{ReadsRun}
 use Rattle.range_scan.specs.Walk.{after_walk}
+
+-- A sweep that may read on for a further record.
+pub record CanReadOn (s : SweepView) (v : View) : Type 0 where
+  -- no call failed, and its limit isn't reached
+  pub unfaulted : s.faulted ≡ false
+  pub wanting : s.given < s.limit
+  -- if the station tells its bytes it is amid the scan of the file, whose regions have the bytes of the recovered image
+  pub sweeping : Told v → IsSweeping s v.held
+  pub readable : Told v → IsRecovered s.reader.layout v.held
+  -- the station reaches the file's end
+  pub reach : file_length s.reader.layout ≤ v.fixed.reach
 
 -- It read none or some of the next segments, and answered a record or none.
 pub record SweepsOn {A : Type 0} (result : Result A StoreFault) (s t : SweepView) (a b : View) : Type 0 where

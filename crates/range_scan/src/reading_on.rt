@@ -3,8 +3,6 @@
 ghost use Rattle.std.specs.Prelude.{◌≡◌, ◌+◌, ◌-◌, ◌<◌, ◌≤◌, ◌⊎◌, [], true, false, T, length, OnOk, IfOk, IfErr, is_some};
 ghost use Rattle.std.specs.FinMap.{entries};
 ghost use Rattle.station.specs.View.{Told};
-ghost use Rattle.header_gate.specs.InPlace.{IsRecovered};
-ghost use Rattle.header_gate.specs.Places.{file_length};
 ghost use Rattle.map_model.specs.Image.{map_of};
 ghost use Rattle.map_model.specs.Array.{cut, segment_at};
 ghost use Rattle.map_model.specs.Scan.{scanned};
@@ -17,20 +15,14 @@ use station::Station;
 
 impl<'a> Sweep<'a> {
     ghost use Rattle.range_scan.specs.Running.{IsRun};
-    ghost use Rattle.range_scan.specs.SweepView.{IsSweep, IsAtHand, IsOver, validated, passed};
-    ghost use Rattle.range_scan.specs.Sweeping.{IsSweeping, BeginsThere, StartsBy, EndsBy, first_for, last_for, ahead, scan_of};
+    ghost use Rattle.range_scan.specs.SweepView.{IsSweep, validated};
+    ghost use Rattle.range_scan.specs.Sweeping.{ahead};
     ghost use Rattle.range_scan.specs.SweepRuns.{IsSweepRun, allowed, due};
-    ghost use Rattle.range_scan.specs.SweepsOn.{SweepsOn, StopsSweep};
-    ghost use Rattle.range_scan.specs.Faults.{IsDamageAt};
-    ghost use Rattle.range_scan.specs.Taking.{Takes, Advances};
+    ghost use Rattle.range_scan.specs.SweepsOn.{CanReadOn, SweepsOn, StopsSweep};
 
     // Reads on until a record is kept, or none is left to be read.
     pub(crate) fn fill<S: Station>(&mut self, station: &mut S) -> Result<(), StoreFault>
-        requires open { self.old.faulted ≡ false }
-        requires wanting { self.old.given < self.old.limit }
-        requires sweeping { Told (S.view station.old) → IsSweeping self.old (S.view station.old).held }
-        requires readable { Told (S.view station.old) → IsRecovered self.old.reader.layout (S.view station.old).held }
-        requires reach { file_length self.old.reader.layout ≤ (S.view station.old).fixed.reach }
+        requires can { CanReadOn self.old (S.view station.old) }
         ensures kept { OnOk result (Told (S.view station.old) → self.new.kept ≡ [] → scanned self.new.low self.new.high (self.new.limit - self.new.given) (ahead self.new (entries (map_of (S.view station.old).held))) ≡ []) }
         ensures given { self.new.given ≡ self.old.given }
         ensures sweeps { SweepsOn result self.old self.new (S.view station.old) (S.view station.new) }
@@ -48,12 +40,8 @@ impl<'a> Sweep<'a> {
     // Validates the next segment, and answers whether there was one in which a record of the scan may stand. Where none was read
     // along, it reads a run.
     fn read_on<S: Station>(&mut self, station: &mut S) -> Result<bool, StoreFault>
-        requires open { self.old.faulted ≡ false }
-        requires wanting { self.old.given < self.old.limit }
+        requires can { CanReadOn self.old (S.view station.old) }
         requires none { self.old.kept ≡ [] }
-        requires sweeping { Told (S.view station.old) → IsSweeping self.old (S.view station.old).held }
-        requires readable { Told (S.view station.old) → IsRecovered self.old.reader.layout (S.view station.old).held }
-        requires reach { file_length self.old.reader.layout ≤ (S.view station.old).fixed.reach }
         ensures more { IfOk result (λ more. more ≡ true → validated self.new ≡ validated self.old + 1) }
         ensures step { validated self.new ≤ validated self.old + 1 }
         ensures all_below { IfOk result (λ more. more ≡ true → Told (S.view station.old) → self.new.kept ≡ [] →

@@ -198,9 +198,9 @@ pub none_named : (l : Layout) (count : ℕ) → l.version ≡ PAIRED → count �
 none_named l count is zero_is = grind (arith, nat_tests, is, zero_is)
 
 -- a call that changes no byte, and then a reading
-pub reads_on : {result : Result (Unit {0}) HeaderFault} {a b c : View} (l : Layout) (turn height : ℕ) (f mid g : Batch) → Steps Same a b → b.travel.written ≡ a.travel.written → mid.journal ≡ f.journal
+pub reads_on : {result : Result (Unit {0}) HeaderFault} {a b c : View} (l : Layout) (turn height : ℕ) (f mid g : Batch) → Steps Same a b → b.travel.written ≡ a.travel.written → mid.journal ≡ f.journal → mid.turn ≡ f.turn
     → ReadsJournal l turn height result mid g b c → ReadsJournal l turn height result f g a c
-reads_on {result} {a} {b} {c} l turn height f mid g ab written journal reads =
+reads_on {result} {a} {b} {c} l turn height f mid g ab written journal turn_kept reads =
     record {
       batch = reads.batch;
       some = reads.some;
@@ -208,6 +208,7 @@ reads_on {result} {a} {b} {c} l turn height f mid g ab written journal reads =
       sound = on_ok_weaker result (λ is told. subst (λ (file : List ℕ). journal_fault l turn height file ≡ None) (ab.held told) (is (told_on ab.frame told))) reads.sound;
       refused = IfErr-weaker result _ _ (λ e is told r same. subst (λ (file : List ℕ). journal_fault l turn height file ≡ Some r) (ab.held told) (is (told_on ab.frame told) r same)) reads.refused;
       journal = reads.journal ∙ journal;
+      turn_kept = reads.turn_kept ∙ turn_kept;
       steps = same_on ab reads.steps;
       written = reads.written ∙ written;
       cause = λ failed. let rose = reads.cause failed in omega (arith, rose, ab.frame.disk_faults);
@@ -215,8 +216,8 @@ reads_on {result} {a} {b} {c} l turn height f mid g ab written journal reads =
 
 -- an empty journal of two was read
 pub reads_none : {a b : View} (l : Layout) (turn height : ℕ) (f g : Batch) (slots : List (List ℕ)) → ((l.version ≡ PAIRED → ⊥) → ⊥) → (Told a → HasRead slots 0 4 a.held (table_start l turn)) → number (bytes_of slots) 0 ≡ 0
-    → Steps Same a b → b.travel.written ≡ a.travel.written → g.journal ≡ f.journal → g.numbers ≡ [] → ReadsJournal l turn height (Ok (tt {0})) f g a b
-reads_none {a} {b} l turn height f g slots paired read zero_is ab written journal none_is =
+    → Steps Same a b → b.travel.written ≡ a.travel.written → g.journal ≡ f.journal → g.turn ≡ f.turn → g.numbers ≡ [] → ReadsJournal l turn height (Ok (tt {0})) f g a b
+reads_none {a} {b} l turn height f g slots paired read zero_is ab written journal turn_kept none_is =
     let count : Told a → number a.held (table_start l turn) ≡ 0 = λ told. sym (count_read slots a.held (table_start l turn) (read told)) ∙ zero_is in
     let is : l.version ≡ PAIRED = elim (cases_eq l.version PAIRED) [ inl e ↦ e | inr isnt ↦ absurd (paired isnt) ] in
     record {
@@ -226,6 +227,7 @@ reads_none {a} {b} l turn height f g slots paired read zero_is ab written journa
       sound = λ told. fault_none l turn height a.held (none_named l (number a.held (table_start l turn)) is (count told));
       refused = tt;
       journal = journal;
+      turn_kept = turn_kept;
       steps = ab;
       written = written;
       cause = λ failed. absurd (true≢false (ap is_ok failed));

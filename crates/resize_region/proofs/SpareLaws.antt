@@ -73,3 +73,11 @@ spare_kept place first count i old new known size some inside before touched =
     let start = segment_place l (1 - place.region) i in
     let end : start + segment_size l ≤ length old = omega (arith, size, segment_within l (1 - place.region) i known (omega arith) (omega (arith, inside, before))) in
     range_same old new start (start + segment_size l) (omega arith) end (omega (arith, end, touched.size)) (λ k from to. touched.rest k (λ there. omega (arith, there.0, to, times_up l.format (suc i) first before)))
+
+-- and those of later ones
+pub spare_behind : (place : Place) (first count i : ℕ) (old new : List ℕ) → IsFormat place.layout.hmax place.layout.format → length old ≡ file_length place.layout → first + count ≤ i → i < 2 ^ height_limit place.layout → Touched (InRange (segment_place place.layout (1 - place.region) first) (segment_size place.layout * count)) old new → spare_bytes place i new ≡ spare_bytes place i old
+spare_behind place first count i old new known size after within touched =
+    let l = place.layout in
+    let start = segment_place l (1 - place.region) i in
+    let end : start + segment_size l ≤ length old = omega (arith, size, segment_within l (1 - place.region) i known (omega arith) within) in
+    range_same old new start (start + segment_size l) (omega arith) end (omega (arith, end, touched.size)) (λ k from to. touched.rest k (λ there. omega (arith, there.1, from, times_up l.format (first + count) i after)))

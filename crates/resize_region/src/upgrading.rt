@@ -15,6 +15,7 @@ ghost use Rattle.map_model.specs.Standing.{StandsWith};
 ghost use Rattle.range_scan.specs.Faults.{IsDamageAt};
 ghost use Rattle.redo_journal.specs.Rest.{RestsAt};
 ghost use Rattle.segment_frames.specs.Standing.{StandsFor};
+ghost use Rattle.resize_region.specs.Resizing.{CanResize};
 ghost use Rattle.resize_region.specs.Source.{Walks};
 ghost use Rattle.resize_region.specs.Upgraded.{Upgrades, TooManyFor, widened, upgraded, upgraded_height};
 ghost use Rattle.resize_region.specs.Widening.{SpreadsWide, widen_calls};
@@ -155,18 +156,12 @@ fn widen<S: Station>(
     tally: &Tally,
     records: u32,
 ) -> Result<(), StoreFault>
-    requires layout { IsLayout place.old.layout }
+    requires can { CanResize place.old tally.now frames.old (S.view station.old) }
     requires narrow { place.old.layout.format ≡ narrow }
     requires limit { 1 ≤ place.old.layout.hmax }
-    requires region { place.old.region < 2 }
-    requires reach { file_length place.old.layout ≤ (S.view station.old).fixed.reach }
-    requires journal { frames.old.journal ≡ place.old.layout.journal }
     requires height { tally.now.height ≤ place.old.layout.hmax }
     requires records { records ≡ sum tally.now.counts }
     requires few { records ≤ upper_of (place.old.layout.hmax - 1) }
-    requires stands { EachHeld (StandsFor place.old tally.now) (S.view station.old) }
-    requires nothing { NothingPending (S.view station.old) }
-    requires bare { Told (S.view station.old) → IsBare place.old.layout (S.view station.old).held }
     ensures same_journal { frames.new.journal ≡ frames.old.journal }
     ensures same_turn { frames.new.turn ≡ frames.old.turn }
     ensures spread { SpreadsWide result place.old place.new tally.now (S.view station.old) (S.view station.new) }

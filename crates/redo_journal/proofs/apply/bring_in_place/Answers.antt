@@ -6,23 +6,37 @@ use Rattle.redo_journal.proofs.Batches.{names_by, settles_first, brought, byte_s
 use Rattle.redo_journal.proofs.Live.{rest_nothing, done_even}
 use Rattle.redo_journal.proofs.apply.bring_in_place.Goals as goal
 
-pub returns-then-is_paired-clause-steps : goal.returns-then-is_paired-clause-steps
-returns-then-is_paired-clause-steps g c =
+pub returns-then-is_paired-clause-lays : goal.returns-then-is_paired-clause-lays
+returns-then-is_paired-clause-lays g c =
     let place = c.args.place in
     let numbers = c.args.numbers.now in
     let images = c.args.images.now in
-    weaken c.write_runs.ensures.steps (λ d i left step.
-    settles_first place.layout c.args.turn place.region numbers images c.requires.batch d i (c.requires.loaded d left) (names_by place.layout c.args.turn place.region numbers images c.requires.batch d c.requires.single (c.requires.gate d left)) step)
+    let paired : place.layout.version ≡ PAIRED = c.is_paired.ensures.0 c.if-is_paired.true in
+    let pages = c.write_runs.ensures.pages in
+    record {
+      steps = weaken pages.steps (λ d i left step.
+          settles_first place.layout c.args.turn place.region numbers images c.requires.batch d i (c.requires.loaded d left) (names_by place.layout c.args.turn place.region numbers images c.requires.batch d c.requires.single (c.requires.gate d left)) step);
+      rest = on_ok_weaker c.write_runs.result (λ placed.
+          brought place.layout c.args.turn place.region numbers images c.requires.batch paired (g.met.S.Station.lawful c.args.station.now) c.requires.loaded c.requires.gate c.requires.nothing pages.steps placed) pages.placed;
+      closed = on_ok_weaker c.write_runs.result (λ placed told single. absurd (single paired)) pages.placed;
+      kept = on_ok_weaker c.write_runs.result (λ placed told is.
+          byte_still place.layout c.args.turn place.region numbers images c.requires.batch _ _ (pages.steps.held told)) pages.placed;
+      cost = omega (arith, pages.cost);
+      no_reads = pages.no_reads;
+      calls = omega (arith, c.write_runs.ensures.calls);
+      cause = pages.cause;
+    }
 
-pub returns-then-is_paired-clause-rest : goal.returns-then-is_paired-clause-rest
-returns-then-is_paired-clause-rest g c = on_ok_weaker c.write_runs.result (λ placed.
-    brought c.args.place.layout c.args.turn c.args.place.region c.args.numbers.now c.args.images.now c.requires.batch (c.is_paired.ensures.0 c.if-is_paired.true) (g.met.S.Station.lawful c.args.station.now) c.requires.loaded c.requires.gate c.requires.nothing c.write_runs.ensures.steps placed) c.write_runs.ensures.placed
-
-pub returns-then-is_paired-clause-kept : goal.returns-then-is_paired-clause-kept
-returns-then-is_paired-clause-kept g c = on_ok_weaker c.write_runs.result (λ placed told paired.
-    byte_still c.args.place.layout c.args.turn c.args.place.region c.args.numbers.now c.args.images.now c.requires.batch _ _ (c.write_runs.ensures.steps.held told)) c.write_runs.ensures.placed
-
-pub returns-else-is_paired-clause-rest : goal.returns-else-is_paired-clause-rest
-returns-else-is_paired-clause-rest g c =
+pub returns-else-is_paired-clause-lays : goal.returns-else-is_paired-clause-lays
+returns-else-is_paired-clause-lays g c =
     let single : c.args.place.layout.version ≡ PAIRED → ⊥ = λ e. absurd (grind (arith, c.is_paired.ensures.1 e, c.if-is_paired.false)) in
-    search (rules, rest_nothing, done_even, single, told_back, c.settle.ensures.steps.frame)
+    record {
+      steps = c.settle.ensures.steps;
+      rest = search (rules, rest_nothing, done_even, single, told_back, c.settle.ensures.steps.frame);
+      closed = on_ok_weaker c.settle.result (λ closed told isnt. closed told) c.settle.ensures.closed;
+      kept = on_ok_weaker c.settle.result (λ closed told paired. absurd (single paired)) c.settle.ensures.closed;
+      cost = c.settle.ensures.cost;
+      no_reads = c.settle.ensures.no_reads;
+      calls = c.settle.ensures.calls;
+      cause = c.settle.ensures.cause;
+    }

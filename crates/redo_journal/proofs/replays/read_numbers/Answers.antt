@@ -60,6 +60,7 @@ returns-in-Ok-take_table-clause-read g c =
           ∙ table_accepted (bytes_of frames.slots) start c.args.layout.journal bound table;
       refused = tt;
       journal = ap (λ (b : Batch). b.journal) c.take_table.ensures.rest ∙ ap (λ (b : Batch). b.journal) c.read_into.ensures.frames;
+      turn_kept = ap (λ (b : Batch). b.turn) c.take_table.ensures.rest ∙ ap (λ (b : Batch). b.turn) c.read_into.ensures.frames;
       steps = c.read_into.ensures.steps;
       written = c.read_into.ensures.written;
       cause = λ is. absurd (true≢false (ap is_ok is));
@@ -86,6 +87,7 @@ returns-in-Err-clause-read g c =
           ∙ table_refused (bytes_of frames.slots) start c.args.layout.journal bound c.in-Err.place wrong
           ∙ ap Some same;
       journal = ap (λ (b : Batch). b.journal) c.take_table.ensures.rest ∙ ap (λ (b : Batch). b.journal) c.read_into.ensures.frames;
+      turn_kept = ap (λ (b : Batch). b.turn) c.take_table.ensures.rest ∙ ap (λ (b : Batch). b.turn) c.read_into.ensures.frames;
       steps = c.read_into.ensures.steps;
       written = c.read_into.ensures.written;
       cause = search rules;

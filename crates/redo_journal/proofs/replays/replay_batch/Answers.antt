@@ -1,27 +1,91 @@
-use Rattle.std.proofs.Common.{◌≡◌, ◌≤◌, ◌+◌, ℕ, List, true, length, inl, refl, sym, ◌∙◌, ap, subst, arith}
+use Rattle.std.proofs.Common.{◌≡◌, ◌≤◌, ◌+◌, ℕ, List, true, length, inl, refl, sym, ◌∙◌, ap, subst, arith, rules}
 use Rattle.std.specs.Prelude.{◌^◌}
 use Rattle.std.proofs.lemmas.Result.{err_from_is_err_and}
-use Rattle.station.proofs.Composition.{each_held, nothing_on, told_back}
-use Rattle.header_gate.specs.InPlace.{IsBare}
+use mathlib.Core.Bool.{true≢false}
+use Rattle.std.specs.Prelude.{is_ok}
+use Rattle.station.specs.Bytes.{byte}
+use Rattle.station.proofs.Composition.{each_held, nothing_on, told_back, told_on, weaken}
+use Rattle.header_gate.specs.InPlace.{IsBare, IsDone}
 use Rattle.header_gate.specs.Places.{table_place, image_place, journal_shift, pages_at}
 use Rattle.header_gate.specs.Recovered.{IsTableOf, numbers_at, live_table, is_laid}
 use Rattle.header_gate.proofs.PagedSegments.{pages_fit}
 use Rattle.redo_journal.specs.Applying.{IsBatchOf, IsLoaded}
 use Rattle.redo_journal.specs.Neighbours.{run_count}
 use Rattle.station.specs.View.{Told}
-use Rattle.redo_journal.proofs.Live.{laid_turn, bare_none}
-use Rattle.redo_journal.proofs.Batches.{replays_steps}
+use Rattle.redo_journal.proofs.Live.{laid_turn, bare_none, done_empty, rest_nothing}
+use Rattle.redo_journal.proofs.Batches.{replays_none, replays_steps}
 use Rattle.redo_journal.proofs.RunCounts.{run_count_few}
 use Rattle.redo_journal.proofs.Validating.{lower_batch, images_read, reason_fault}
 use Rattle.redo_journal.proofs.replays.replay_batch.Goals as goal
 use Rattle.redo_journal.proofs.replays.replay_batch.Goals.{After-images}
 
-pub returns-in_err-read_batch-clause-refused : goal.returns-in_err-read_batch-clause-refused
-returns-in_err-read_batch-clause-refused g c =
+pub returns-in_err-read_batch : goal.returns-in_err-read_batch
+returns-in_err-read_batch g c =
     let p = err_from_is_err_and c.from_residual.result c.from_residual.ensures.1 in
-    rw (p.1, p.2) (λ told r e.
+    let l = c.args.place.now.layout in
     let a = g.S.Station.view c.args.station.now in
-    reason_fault c.args.place.now.layout c.args.turn c.args.height a.held c.requires.single (c.requires.gate a.held (inl (told, refl))) ∙ c.in_err-read_batch.ensures.read.refused told r e)
+    let read = c.read_batch.ensures.read in
+    rw (p.1, p.2) (record {
+      replays = record {
+        steps = weaken read.steps (λ d i left same. replays_none l c.args.place.now.region d i same);
+        settled = tt;
+        rest = tt;
+        closed = tt;
+        kept = tt;
+        sound = tt;
+        refused = λ told r e. reason_fault l c.args.turn c.args.height a.held c.requires.single (c.requires.at a.held (inl (told, refl))).gate_is ∙ c.in_err-read_batch.ensures.read.refused told r e;
+        untouched = λ r e. read.steps;
+        unwritten = λ r e. read.written;
+        cost = omega (arith, read.written);
+        reads = c.read_batch.ensures.reads;
+        cost_named = tt;
+        reads_named = tt;
+        calls = omega (arith, c.read_batch.ensures.calls);
+        calls_named = tt;
+        journal = read.journal;
+        turn_kept = read.turn_kept;
+        bare = λ told bare.
+            let none = bare_none l c.args.turn a.held c.requires.single (c.requires.at a.held (inl (told, refl))).gate_is bare in
+            record { steps = read.steps; written = read.written; read = c.read_batch.ensures.none_reads told none; calls = c.read_batch.ensures.none_calls told none };
+        cause = search rules;
+      };
+    })
+
+pub returns-then-count-eq0 : goal.returns-then-count-eq0
+returns-then-count-eq0 g c =
+    let l = c.args.place.now.layout in
+    let a = g.S.Station.view c.args.station.now in
+    let b = g.S.Station.view c.read_batch.new.station in
+    let read = c.read_batch.ensures.read in
+    let settled = nothing_on (g.met.S.Station.lawful c.args.station.now) c.requires.nothing read.steps in
+    record {
+      replays = record {
+        steps = weaken read.steps (λ d i left same. replays_none l c.args.place.now.region d i same);
+        settled = settled;
+        rest = rest_nothing l b settled (λ told_b.
+            let told = told_back read.steps.frame told_b in
+            let table : live_table l a.held ≡ c.read_batch.new.frames.numbers = ap (λ (t : ℕ). numbers_at (table_place + journal_shift l t) a.held) (c.requires.at a.held (inl (told, refl))).gate_is ∙ c.in_ok-read_batch.ensures.read.table told in
+            subst (IsDone l) (sym (read.steps.held told)) (done_empty l a.held (omega (arith, ap (λ (ns : List ℕ). length ns) table, c.count.ensures, c.if-count-eq0.true))));
+        closed = λ told single. absurd (omega (arith, c.in_ok-read_batch.ensures.read.some single, c.count.ensures, c.if-count-eq0.true));
+        kept = λ told paired. ap (λ (file : List ℕ). byte file 512) (read.steps.held told);
+        sound = λ told. reason_fault l c.args.turn c.args.height a.held c.requires.single (c.requires.at a.held (inl (told, refl))).gate_is ∙ c.in_ok-read_batch.ensures.read.sound told;
+        refused = tt;
+        untouched = tt;
+        unwritten = tt;
+        cost = omega (arith, read.written);
+        reads = c.read_batch.ensures.reads;
+        cost_named = λ told. omega (arith, read.written);
+        reads_named = λ told. omega (arith, c.in_ok-read_batch.ensures.reads_named, c.count.ensures, c.if-count-eq0.true);
+        calls = omega (arith, c.read_batch.ensures.calls);
+        calls_named = λ told. omega (arith, c.read_batch.ensures.calls);
+        journal = read.journal;
+        turn_kept = read.turn_kept;
+        bare = λ told bare.
+            let none = bare_none l c.args.turn a.held c.requires.single (c.requires.at a.held (inl (told, refl))).gate_is bare in
+            record { steps = read.steps; written = read.written; read = c.read_batch.ensures.none_reads told none; calls = c.read_batch.ensures.none_calls told none };
+        cause = λ is. absurd (true≢false (ap is_ok is));
+      };
+    }
 
 -- the batch that was read
 batch : (g : _) (c : After-images g) → IsBatchOf c.args.place.now.layout c.args.place.now.region c.numbers.result.now c.images.result.now
@@ -40,7 +104,7 @@ named : (g : _) (c : After-images g) → Told (g.S.Station.view c.args.station.n
 named g c told =
     let l = c.args.place.now.layout in
     let file = (g.S.Station.view c.args.station.now).held in
-    let gate_is = c.requires.gate file (inl (told, refl)) in (
+    let gate_is = (c.requires.at file (inl (told, refl))).gate_is in (
       ap (λ (t : ℕ). numbers_at (table_place + journal_shift l t) file) gate_is ∙ c.in_ok-read_batch.ensures.read.table told ∙ sym c.numbers.ensures.value,
       laid_turn l c.args.turn file c.requires.single gate_is,
     )
@@ -59,7 +123,7 @@ lay-requires-clause-loaded g c =
     (nothing_on (g.met.S.Station.lawful c.args.station.now) c.requires.nothing steps)
     (λ told.
     let told_a = told_back steps.frame told in
-    let is = c.requires.at a.held (inl (told_a, refl)) in
+    let is = (c.requires.at a.held (inl (told_a, refl))).at in
     let loaded : IsLoaded place.layout c.args.turn place.region c.numbers.result.now c.images.result.now a.held = record {
       size = is.size;
       region_is = is.region_is;
@@ -68,49 +132,9 @@ lay-requires-clause-loaded g c =
     } in
     subst (IsLoaded place.layout c.args.turn place.region c.numbers.result.now c.images.result.now) (sym (steps.held told_a)) loaded)
 
-pub returns-in-Ok-clause-steps : goal.returns-in-Ok-clause-steps
-returns-in-Ok-clause-steps g c =
-    replays_steps c.args.place.now.layout c.args.place.now.region c.numbers.result.now c.images.result.now (batch g (goal.at.returns-in-Ok-clause-steps g c).After-images) (g.met.S.Station.lawful c.args.station.now) (g.met.S.Station.lawful c.read_batch.new.station) c.requires.nothing c.read_batch.ensures.read.steps
-    (named g (goal.at.returns-in-Ok-clause-steps g c).After-images) c.lay.ensures.steps
-
-pub returns-in-Ok-clause-sound : goal.returns-in-Ok-clause-sound
-returns-in-Ok-clause-sound g c told =
-    let a = g.S.Station.view c.args.station.now in
-    reason_fault c.args.place.now.layout c.args.turn c.args.height a.held c.requires.single (c.requires.gate a.held (inl (told, refl))) ∙ c.in_ok-read_batch.ensures.read.sound told
-
-pub returns-in-Err-clause-steps : goal.returns-in-Err-clause-steps
-returns-in-Err-clause-steps g c =
-    replays_steps c.args.place.now.layout c.args.place.now.region c.numbers.result.now c.images.result.now (batch g (goal.at.returns-in-Err-clause-steps g c).After-images) (g.met.S.Station.lawful c.args.station.now) (g.met.S.Station.lawful c.read_batch.new.station) c.requires.nothing c.read_batch.ensures.read.steps
-    (named g (goal.at.returns-in-Err-clause-steps g c).After-images) c.lay.ensures.steps
-
 -- there are at most as many runs as the journal takes pages
 few : (g : _) (c : After-images g) → run_count c.numbers.result.now ≤ c.args.place.now.layout.journal
 few g c = omega (arith, run_count_few c.numbers.result.now, ap (λ (l : List ℕ). length l) c.numbers.ensures.value, c.in_ok-read_batch.ensures.read.batch.most_is)
-
-pub returns-in-Ok-clause-calls : goal.returns-in-Ok-clause-calls
-returns-in-Ok-clause-calls g c = omega (arith, c.read_batch.ensures.calls, c.lay.ensures.calls, few g (goal.at.returns-in-Ok-clause-calls g c).After-images)
-
-pub returns-in-Err-clause-calls : goal.returns-in-Err-clause-calls
-returns-in-Err-clause-calls g c = omega (arith, c.read_batch.ensures.calls, c.lay.ensures.calls, few g (goal.at.returns-in-Err-clause-calls g c).After-images)
-
-pub returns-then-count-eq0-clause-sound : goal.returns-then-count-eq0-clause-sound
-returns-then-count-eq0-clause-sound g c told =
-    let a = g.S.Station.view c.args.station.now in
-    reason_fault c.args.place.now.layout c.args.turn c.args.height a.held c.requires.single (c.requires.gate a.held (inl (told, refl))) ∙ c.in_ok-read_batch.ensures.read.sound told
-
--- Where no page is to be laid the count is 0.
-
-pub returns-in_err-read_batch-clause-bare : goal.returns-in_err-read_batch-clause-bare
-returns-in_err-read_batch-clause-bare g c told bare =
-    let a = g.S.Station.view c.args.station.now in
-    let none = bare_none c.args.place.now.layout c.args.turn a.held c.requires.single (c.requires.gate a.held (inl (told, refl))) bare in
-    record { steps = c.read_batch.ensures.read.steps; written = c.read_batch.ensures.read.written; read = c.read_batch.ensures.none_reads told none; calls = c.read_batch.ensures.none_calls told none }
-
-pub returns-then-count-eq0-clause-bare : goal.returns-then-count-eq0-clause-bare
-returns-then-count-eq0-clause-bare g c told bare =
-    let a = g.S.Station.view c.args.station.now in
-    let none = bare_none c.args.place.now.layout c.args.turn a.held c.requires.single (c.requires.gate a.held (inl (told, refl))) bare in
-    record { steps = c.read_batch.ensures.read.steps; written = c.read_batch.ensures.read.written; read = c.read_batch.ensures.none_reads told none; calls = c.read_batch.ensures.none_calls told none }
 
 -- then none is laid
 laid_none : (g : _) (c : After-images g) → 1 ≤ length c.numbers.result.now → Told (g.S.Station.view c.args.station.now) → IsBare c.args.place.now.layout (g.S.Station.view c.args.station.now).held → ⊥
@@ -118,10 +142,74 @@ laid_none g c some told bare =
     let is = named g c told in
     omega (arith, some, ap length (sym is.0 ∙ (bare is.1).1))
 
-pub returns-in-Ok-clause-bare : goal.returns-in-Ok-clause-bare
-returns-in-Ok-clause-bare g c told bare =
-    absurd (laid_none g (goal.at.returns-in-Ok-clause-bare g c).After-images (omega (arith, c.if-count-eq0.false, c.count.ensures, ap length c.numbers.ensures.value)) told bare)
+pub returns-in-Ok : goal.returns-in-Ok
+returns-in-Ok g c =
+    let here = (goal.at.returns-in-Ok g c).After-images in
+    let l = c.args.place.now.layout in
+    let a = g.S.Station.view c.args.station.now in
+    let read = c.read_batch.ensures.read in
+    let lays = c.lay.ensures.lays in
+    let count = c.numbers.ensures.value in
+    let room = c.in_ok-read_batch.ensures.read.batch.most_is in
+    let same = ap (λ (ns : List ℕ). length ns) count in
+    let table = λ (told : Told a). ap (λ (ns : List ℕ). length ns) (named g here told).0 in
+    let runs = λ (told : Told a). ap run_count (named g here told).0 in
+    record {
+      replays = record {
+        steps = replays_steps l c.args.place.now.region c.numbers.result.now c.images.result.now (batch g here) (g.met.S.Station.lawful c.args.station.now) (g.met.S.Station.lawful c.read_batch.new.station) c.requires.nothing read.steps (named g here) lays.steps;
+        settled = c.in-Ok.ensures.settled;
+        rest = c.in-Ok.ensures.lays.rest;
+        closed = λ told. c.in-Ok.ensures.lays.closed (told_on read.steps.frame told);
+        kept = λ told paired. c.in-Ok.ensures.lays.kept (told_on read.steps.frame told) paired ∙ ap (λ (file : List ℕ). byte file 512) (read.steps.held told);
+        sound = λ told. reason_fault l c.args.turn c.args.height a.held c.requires.single (c.requires.at a.held (inl (told, refl))).gate_is ∙ c.in_ok-read_batch.ensures.read.sound told;
+        refused = tt;
+        untouched = tt;
+        unwritten = tt;
+        cost = omega (arith, read.written, lays.cost, same, room);
+        reads = omega (arith, c.read_batch.ensures.reads, lays.no_reads);
+        cost_named = λ told. omega (arith, read.written, lays.cost, table told);
+        reads_named = λ told. omega (arith, c.in_ok-read_batch.ensures.reads_named, lays.no_reads, same, table told);
+        calls = omega (arith, c.read_batch.ensures.calls, lays.calls, few g here);
+        calls_named = λ told. omega (arith, c.read_batch.ensures.calls, lays.calls, runs told);
+        journal = read.journal;
+        turn_kept = read.turn_kept;
+        bare = λ told bare. absurd (laid_none g here (omega (arith, c.if-count-eq0.false, c.count.ensures, same)) told bare);
+        cause = λ is. absurd (true≢false (ap is_ok is));
+      };
+    }
 
-pub returns-in-Err-clause-bare : goal.returns-in-Err-clause-bare
-returns-in-Err-clause-bare g c told bare =
-    absurd (laid_none g (goal.at.returns-in-Err-clause-bare g c).After-images (omega (arith, c.if-count-eq0.false, c.count.ensures, ap length c.numbers.ensures.value)) told bare)
+pub returns-in-Err : goal.returns-in-Err
+returns-in-Err g c =
+    let here = (goal.at.returns-in-Err g c).After-images in
+    let l = c.args.place.now.layout in
+    let a = g.S.Station.view c.args.station.now in
+    let read = c.read_batch.ensures.read in
+    let lays = c.lay.ensures.lays in
+    let count = c.numbers.ensures.value in
+    let room = c.in_ok-read_batch.ensures.read.batch.most_is in
+    let same = ap (λ (ns : List ℕ). length ns) count in
+    let table = λ (told : Told a). ap (λ (ns : List ℕ). length ns) (named g here told).0 in
+    let runs = λ (told : Told a). ap run_count (named g here told).0 in
+    record {
+      replays = record {
+        steps = replays_steps l c.args.place.now.region c.numbers.result.now c.images.result.now (batch g here) (g.met.S.Station.lawful c.args.station.now) (g.met.S.Station.lawful c.read_batch.new.station) c.requires.nothing read.steps (named g here) lays.steps;
+        settled = tt;
+        rest = tt;
+        closed = tt;
+        kept = tt;
+        sound = tt;
+        refused = search rules;
+        untouched = search rules;
+        unwritten = search rules;
+        cost = omega (arith, read.written, lays.cost, same, room);
+        reads = omega (arith, c.read_batch.ensures.reads, lays.no_reads);
+        cost_named = tt;
+        reads_named = tt;
+        calls = omega (arith, c.read_batch.ensures.calls, lays.calls, few g here);
+        calls_named = tt;
+        journal = read.journal;
+        turn_kept = read.turn_kept;
+        bare = λ told bare. absurd (laid_none g here (omega (arith, c.if-count-eq0.false, c.count.ensures, same)) told bare);
+        cause = λ is. omega (arith, c.in-Err.ensures.lays.cause, read.steps.frame.disk_faults);
+      };
+    }

@@ -12,5 +12,8 @@ returns-clause-rests g c =
     let a = g.S.Station.view c.args.station.now in
     let b = g.S.Station.view c.replay_batch.new.station in
     subst (λ (t : ℕ). RestsAt l t b) (sym (ap (λ (x : Batch). x.turn) c.set_turn.ensures.after))
-    (rests_by l (gate_after l turn) (g.met.S.Station.lawful c.replay_batch.new.station) c.replay_batch.ensures.steps.frame c.in_ok-replay_batch.ensures.rest (after_single l turn)
-    (λ told. gate_replayed l turn a.held b.held (c.requires.gate a.held (inl (told, refl))) (c.in_ok-replay_batch.ensures.closed told) (c.in_ok-replay_batch.ensures.kept told)))
+    (rests_by l (gate_after l turn) (g.met.S.Station.lawful c.replay_batch.new.station) c.replay_batch.ensures.replays.steps.frame c.in_ok-replay_batch.ensures.replays.rest (after_single l turn)
+    (λ told. gate_replayed l turn a.held b.held (c.requires.gate a.held (inl (told, refl))) (c.in_ok-replay_batch.ensures.replays.closed told) (c.in_ok-replay_batch.ensures.replays.kept told)))
+
+pub replay_batch-requires-clause-at : goal.replay_batch-requires-clause-at
+replay_batch-requires-clause-at g c = λ image left. record { at = c.requires.at image left; gate_is = c.requires.gate image left }

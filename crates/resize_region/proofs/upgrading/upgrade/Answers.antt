@@ -30,6 +30,9 @@ abbrev is_done : Upgrade → Bool
 is_done Done = true
 is_done _ = false
 
+pub widen-requires-clause-can : goal.widen-requires-clause-can
+widen-requires-clause-can g c = record { layout = c.requires.layout; region = c.requires.region; reach = c.requires.reach; journal = c.requires.journal; hmax = c.requires.hmax; stands = c.requires.stands; nothing = c.requires.nothing; bare = c.requires.bare }
+
 pub returns-in-Some-clause-too_many : goal.returns-in-Some-clause-too_many
 returns-in-Some-clause-too_many g c n =
     let l = c.args.place.now.layout in

@@ -47,28 +47,28 @@ copy_wide-requires-clause-can g c =
     let t = c.args.tally.now in
     let h = upgraded_height l t.height in
     record {
-      layout = c.requires.layout;
+      layout = c.requires.can.layout;
       narrow_is = c.requires.narrow;
       limit = c.requires.limit;
-      region = c.requires.region;
-      reach = c.requires.reach;
-      journal = c.requires.journal;
-      stands = λ image left. record { stands = c.requires.stands image left; bare = bare_of c.args.place.now (g.met.S.Station.lawful c.args.station.now) c.requires.nothing c.requires.bare image left };
+      region = c.requires.can.region;
+      reach = c.requires.can.reach;
+      journal = c.requires.can.journal;
+      stands = λ image left. record { stands = c.requires.can.stands image left; bare = bare_of c.args.place.now (g.met.S.Station.lawful c.args.station.now) c.requires.can.nothing c.requires.can.bare image left };
       some = omega (arith, wide_count g at, pow_pos h);
       room = omega (arith, wide_count g at, upgraded_room l t c.height.ensures.tally (omega (arith, c.requires.records, c.requires.few)));
       fits = omega (arith, wide_count g at, pow_mono {i = h} {j = height_limit (widened l)} (upgraded_low l t.height));
     }
 
 spare : (g : _) (c : After-copy_wide g) (d i : List ℕ) → MayHold (g.S.Station.view c.args.station.now) d → Spares c.args.place.now.layout c.args.place.now.region d i → Upgrades c.args.place.now (upgraded_height c.args.place.now.layout c.args.tally.now.height) d i
-spare g c d i left step = spare_by MayWiden c.args.place.now (upgraded_height c.args.place.now.layout c.args.tally.now.height) d i (λ l. inl refl) (c.requires.stands d left).settled (bare_of c.args.place.now (g.met.S.Station.lawful c.args.station.now) c.requires.nothing c.requires.bare d left) step
+spare g c d i left step = spare_by MayWiden c.args.place.now (upgraded_height c.args.place.now.layout c.args.tally.now.height) d i (λ l. inl refl) (c.requires.can.stands d left).settled (bare_of c.args.place.now (g.met.S.Station.lawful c.args.station.now) c.requires.can.nothing c.requires.can.bare d left) step
 
 -- The file before the copy, and after it.
 
 settled : (g : _) (c : In_ok-copy_wide g) → Told (g.S.Station.view c.args.station.now) → IsSettledAt c.args.place.now (g.S.Station.view c.args.station.now).held
-settled g c told = (c.requires.stands (g.S.Station.view c.args.station.now).held (inl (told, refl))).settled
+settled g c told = (c.requires.can.stands (g.S.Station.view c.args.station.now).held (inl (told, refl))).settled
 
 counts : (g : _) (c : In_ok-copy_wide g) → Told (g.S.Station.view c.args.station.now) → counts_of (array_of (g.S.Station.view c.args.station.now).held) ≡ c.args.tally.now.counts
-counts g c told = (has_counts c.args.place.now c.args.tally.now (g.S.Station.view c.args.station.now).held (c.requires.stands (g.S.Station.view c.args.station.now).held (inl (told, refl))) (c.requires.bare told)).counts_are
+counts g c told = (has_counts c.args.place.now c.args.tally.now (g.S.Station.view c.args.station.now).held (c.requires.can.stands (g.S.Station.view c.args.station.now).held (inl (told, refl))) (c.requires.can.bare told)).counts_are
 
 bounds : (g : _) (c : In_ok-copy_wide g) → Told (g.S.Station.view c.args.station.now)
     → IsInBounds (upgraded_height c.args.place.now.layout c.args.tally.now.height) (upgraded_height c.args.place.now.layout c.args.tally.now.height) (length (rows (array_of (g.S.Station.view c.args.station.now).held)))
@@ -76,7 +76,7 @@ bounds g c told =
     let a = g.S.Station.view c.args.station.now in
     let total : length (rows (array_of a.held)) ≡ sum c.args.tally.now.counts = sym (sum-counts (array_of a.held)) ∙ ap sum (counts g c told) in
     upgraded_bounds c.args.place.now.layout c.args.tally.now.height (length (rows (array_of a.held))) c.requires.height
-    (own_bounds c.args.place.now c.args.tally.now a.held (c.requires.stands a.held (inl (told, refl)))) (omega (arith, total, c.requires.records, c.requires.few))
+    (own_bounds c.args.place.now c.args.tally.now a.held (c.requires.can.stands a.held (inl (told, refl)))) (omega (arith, total, c.requires.records, c.requires.few))
 
 copied : (g : _) (c : In_ok-copy_wide g) → Told (g.S.Station.view c.args.station.now)
     → HasWritten (in_wide c.args.place.now) (resized (array_of (g.S.Station.view c.args.station.now).held) (upgraded_height c.args.place.now.layout c.args.tally.now.height)) (2 ^ upgraded_height c.args.place.now.layout c.args.tally.now.height) (g.S.Station.view c.copy_wide.new.station).held
@@ -95,10 +95,10 @@ both g c d e i left one two =
     let place = c.args.place.now in
     let h = upgraded_height place.layout c.args.tally.now.height in
     let told = told_of (g.met.S.Station.lawful c.args.station.now) d left in
-    let same : d ≡ a.held = only_held a c.requires.nothing d left in
+    let same : d ≡ a.held = only_held a c.requires.can.nothing d left in
     let height_is : c.min-height.result ≡ h = omega (arith, c.min-height.ensures, c.height.ensures.height) in
     subst (λ (x : List ℕ). Upgrades place h x i) (sym same)
-    (flips_widen place h a.held b.held c.requires.region (settled g c told) (c.requires.bare told) (c.copy_wide.ensures.writes.steps.held told) (upgraded_low place.layout c.args.tally.now.height) c.requires.layout.hmax c.requires.limit (bounds g c told) (copied g c told) i e
+    (flips_widen place h a.held b.held c.requires.can.region (settled g c told) (c.requires.can.bare told) (c.copy_wide.ensures.writes.steps.held told) (upgraded_low place.layout c.args.tally.now.height) c.requires.can.layout.hmax c.requires.limit (bounds g c told) (copied g c told) i e
     (subst (λ (x : List ℕ). Spares place.layout place.region x e) same one) (subst (λ (k : ℕ). Flips (1 - place.region) k wide b.held e i) height_is two))
 
 pub returns-in_err-copy_wide-clause-spread : goal.returns-in_err-copy_wide-clause-spread
@@ -153,19 +153,19 @@ returns-clause-spread g c =
     let read = c.copy_wide.ensures.reads in
     let steps : Steps (Upgrades place h) a n = andthen wrote.steps c.make_live.ensures.steps (λ d i left step. spare g after d i left step) (λ d e i left one mid two. both g in_ok d e i left one two) in
     let bare = λ (told : Told a).
-    bare_wide place h a.held b.held c.requires.region (settled g in_ok told) (c.requires.bare told) (wrote.steps.held told) (upgraded_low place.layout t.height) c.requires.layout.hmax c.requires.limit (bounds g in_ok told) (copied g in_ok told) n.held
+    bare_wide place h a.held b.held c.requires.can.region (settled g in_ok told) (c.requires.can.bare told) (wrote.steps.held told) (upgraded_low place.layout t.height) c.requires.can.layout.hmax c.requires.limit (bounds g in_ok told) (copied g in_ok told) n.held
     (flipped g in_ok n.held (c.in_ok-make_live.ensures.flipped (told_on wrote.steps.frame told))) in
     record {
       steps = steps;
       rests = λ turn rests. rests_new place.layout (widened place.layout) turn (g.met.S.Station.lawful c.make_live.new.station) c.in_ok-make_live.ensures.settled steps.frame refl (λ told. (steps.held told).gate_is) bare rests;
       settled = c.in_ok-make_live.ensures.settled;
       array = λ told.
-          array_wide place h a.held b.held c.requires.region (settled g in_ok told) (c.requires.bare told) (wrote.steps.held told) (upgraded_low place.layout t.height) c.requires.layout.hmax c.requires.limit (bounds g in_ok told) (copied g in_ok told) n.held
+          array_wide place h a.held b.held c.requires.can.region (settled g in_ok told) (c.requires.can.bare told) (wrote.steps.held told) (upgraded_low place.layout t.height) c.requires.can.layout.hmax c.requires.limit (bounds g in_ok told) (copied g in_ok told) n.held
           (flipped g in_ok n.held (c.in_ok-make_live.ensures.flipped (told_on wrote.steps.frame told)));
       stands = each_held n (StandsWith (widened place.layout) (1 - place.region) h (resized_counts t.counts h)) (g.met.S.Station.lawful c.make_live.new.station) c.in_ok-make_live.ensures.settled (λ told_n.
           let told_b = told_back c.make_live.ensures.steps.frame told_n in
           let told = told_back wrote.steps.frame told_b in
-          stands_wide place h a.held b.held c.requires.region (settled g in_ok told) (c.requires.bare told) (wrote.steps.held told) (upgraded_low place.layout t.height) c.requires.layout.hmax c.requires.limit (bounds g in_ok told) (copied g in_ok told) n.held
+          stands_wide place h a.held b.held c.requires.can.region (settled g in_ok told) (c.requires.can.bare told) (wrote.steps.held told) (upgraded_low place.layout t.height) c.requires.can.layout.hmax c.requires.limit (bounds g in_ok told) (copied g in_ok told) n.held
           (flipped g in_ok n.held (c.in_ok-make_live.ensures.flipped told_b)) t.counts (counts g in_ok told));
       place_is = refl;
       place_kept = tt;

@@ -14,6 +14,18 @@ pub returns-then-self-clause-sweeps : goal.returns-then-self-clause-sweeps
 returns-then-self-clause-sweeps g c =
     sweeps_still false c.args.self.now c.args.self.now (g.S.Station.view c.args.station.now) (g.S.Station.view c.args.station.now) refl (subst IsSweep c.self.view_is c.self.invariant.2) c.requires.open c.requires.sweeping (no_steps (g.S.Station.view c.args.station.now)) refl (omega arith)
 
+pub fill-requires : goal.fill-requires
+fill-requires g c =
+    record {
+      can = record {
+        unfaulted = c.requires.open;
+        wanting = omega (arith, (subst IsSweep c.self.view_is c.self.invariant.2).given_is, c.if-self.false, ap (λ (x : SweepView). x.given) c.self.view_is, ap (λ (x : SweepView). x.limit) c.self.view_is);
+        sweeping = c.requires.sweeping;
+        readable = c.requires.readable;
+        reach = c.requires.reach;
+      };
+    }
+
 pub returns-in-Ok-clause-more : goal.returns-in-Ok-clause-more
 returns-in-Ok-clause-more g c told =
     let s = c.args.self.now in
