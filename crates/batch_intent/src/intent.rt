@@ -10,7 +10,7 @@ ghost use Rattle.key_slot.specs.declared.sizes.TheConstants.{MAX_KEY_LEN, MAX_VA
 
 use crate::item::Item;
 use crate::places::INTENT_SIZE;
-use crate::spelling::{find_item, item_key, item_len, read_item, write_item};
+use crate::spelling::{find_item, read_item, write_item};
 use std::marker::Model;
 
 /// The most items that a batch may have. The 512 bytes of an intent leave 31 for each: two short words and what is said of them.
@@ -85,10 +85,10 @@ impl Intent {
         if u32::from(count) >= MOST_ITEMS {
             return Err(IntentFault::TooMany);
         }
-        if find_item(&self.bytes, item_key(&item)) {
+        if find_item(&self.bytes, item.key()) {
             return Err(IntentFault::Repeated);
         }
-        let end = self.end + item_len(&item);
+        let end = self.end + item.len();
         if end > INTENT_SIZE {
             return Err(IntentFault::TooLong);
         }

@@ -24,3 +24,4 @@ pub use laws::{
 };
 pub use places::{INTENT, INTENT_SIZE};
 pub use reading::read_intent;
+pub use sizes::{key_room, value_room};

@@ -24,28 +24,6 @@ pub(crate) const REMOVE: u8 = 2;
 // The bytes of an item before its key: what it is, and the lengths of key and value.
 pub(crate) const HEAD: usize = 3;
 
-// The key of an item.
-pub(crate) fn item_key(item: &Item) -> Key
-    ensures { result ≡ key_of (update_of item.now) }
-{
-    match item {
-        Item::Put(key, _) => *key,
-        Item::Remove(key) => *key,
-    }
-}
-
-// How many bytes the spelling of an item has.
-pub(crate) fn item_len(item: &Item) -> usize
-    ensures size { result ≡ length (item_bytes (update_of item.now)) }
-    ensures most { result ≤ 3 + MAX_KEY_LEN + MAX_VALUE_LEN }
-    ensures sizes { T (has_sizes MAX_KEY_LEN MAX_VALUE_LEN (update_of item.now)) }
-{
-    match item {
-        Item::Put(key, value) => HEAD + key.as_bytes().len() + value.as_bytes().len(),
-        Item::Remove(key) => HEAD + key.as_bytes().len(),
-    }
-}
-
 // The place behind the item that stands at `p`.
 pub(crate) fn place_behind(bytes: &[u8; INTENT_SIZE], p: usize) -> usize
     requires { p + 3 ≤ INTENT_SIZE }

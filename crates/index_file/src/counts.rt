@@ -44,10 +44,8 @@ pub(crate) fn read_counts<S: Station>(
     let mut first = 0;
     while first < end {
         let count = PIECE_COUNTS.min(end - first);
-        match read_count_piece(station, layout, tally, first, count) {
-            Ok(()) => first += count,
-            Err(fault) => return Err(fault),
-        }
+        read_count_piece(station, layout, tally, first, count)?;
+        first += count;
     }
     Ok(())
 }

@@ -55,10 +55,8 @@ pub(crate) fn load_area<S: Station>(
     ensures failed { IsErrOf result AreaFault.Failed → Rose (S.view station.old).disk_faults (S.view station.new).disk_faults }
 {
     let h = tally.height();
-    match load_fences(station, layout, index, h) {
-        Ok(()) => load_counts(station, layout, tally),
-        Err(fault) => Err(fault),
-    }
+    load_fences(station, layout, index, h)?;
+    load_counts(station, layout, tally)
 }
 
 // Reads the nodes, and validates them and the order of their fences.
@@ -79,12 +77,10 @@ fn load_fences<S: Station>(
     ensures front { OnErr result (IsFrontRead (node_place layout.now 0) (NODE_SIZE * (2 ^ h - 1)) (S.view station.old).travel (S.view station.new).travel) }
     ensures named { IfErr result (λ e. (place : ℕ) → e ≡ AreaFault.Wrong place → NamesNode layout.now h place (S.view station.old).travel (S.view station.new).travel) }
 {
-    match read_nodes(station, layout, index, h) {
-        Ok(()) => match first_misplaced(index, h) {
-            None => Ok(()),
-            Some(segment) => Err(wrong_node(layout, fence_position(h, segment))),
-        },
-        Err(fault) => Err(fault),
+    read_nodes(station, layout, index, h)?;
+    match first_misplaced(index, h) {
+        None => Ok(()),
+        Some(segment) => Err(wrong_node(layout, fence_position(h, segment))),
     }
 }
 
@@ -104,12 +100,10 @@ fn load_counts<S: Station>(
     ensures reads { ReadsCounts layout.now tally.old.height result (S.view station.old) (S.view station.new) }
     ensures named { IfErr result (λ e. (place : ℕ) → e ≡ AreaFault.Wrong place → NamesCount layout.now tally.old.height place (S.view station.old).travel (S.view station.new).travel) }
 {
-    match read_counts(station, layout, tally) {
-        Ok(()) => match first_broken(tally) {
-            None => Ok(()),
-            Some(window) => Err(wrong_count(layout, first_segment(window))),
-        },
-        Err(fault) => Err(fault),
+    read_counts(station, layout, tally)?;
+    match first_broken(tally) {
+        None => Ok(()),
+        Some(window) => Err(wrong_count(layout, first_segment(window))),
     }
 }
 

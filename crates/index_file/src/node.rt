@@ -7,7 +7,8 @@ ghost use Rattle.key_slot.specs.Format.{wide};
 ghost use Rattle.key_slot.specs.declared.sizes.TheConstants.{MAX_KEY_LEN};
 ghost use Rattle.index_file.specs.Node.{IsNode, is_node, fence_in, has_form as has_form_of, is_zero as is_zero_of};
 
-use crate::sizes::{FENCE_AT, LINKS_AT, NODE_SIZE, key_room};
+use crate::sizes::{FENCE_AT, LINKS_AT, NODE_SIZE};
+use batch_intent::key_room;
 use byteorder::{ByteOrder, LittleEndian};
 use key_slot::Key;
 

@@ -118,10 +118,8 @@ fn open_left<S: Station>(
     if !may_open(header) {
         return Ok(None);
     }
-    match load_parts(alloc, station, header) {
-        Ok(parts) => Ok(Some(parts)),
-        Err(fault) => Err(fault),
-    }
+    let parts = load_parts(alloc, station, header)?;
+    Ok(Some(parts))
 }
 
 // Opens the store of a file that was left: its memory is taken, and its index read.

@@ -44,10 +44,8 @@ pub(crate) fn read_nodes<S: Station>(
     let mut first = 0;
     while first < end {
         let count = PIECE_NODES.min(end - first);
-        match read_node_piece(station, layout, index, h, first, count) {
-            Ok(()) => first += count,
-            Err(fault) => return Err(fault),
-        }
+        read_node_piece(station, layout, index, h, first, count)?;
+        first += count;
     }
     Ok(())
 }

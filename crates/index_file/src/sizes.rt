@@ -1,8 +1,5 @@
 //! The sizes of the index in a file, in bytes.
 
-ghost use Rattle.std.specs.Prelude.{◌≡◌, ◌≤◌};
-ghost use Rattle.key_slot.specs.Format.{wide, key_room};
-
 /// How many bytes a node has: those of a line of most processors' caches.
 pub(crate) const NODE_SIZE: usize = 64;
 
@@ -17,11 +14,3 @@ pub(crate) const COUNT_SIZE: usize = 4;
 
 /// How many bytes of the index are read or written at once: a page.
 pub(crate) const PIECE: usize = 4096;
-
-/// The most bytes of a fence: 24 in slot format 1, and 40 in format 2.
-pub(crate) fn key_room(format: u32) -> usize
-    requires { format ≤ wide }
-    ensures { result ≡ key_room format }
-{
-    8 + 16 * format as usize
-}

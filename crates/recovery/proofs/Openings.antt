@@ -32,11 +32,12 @@ use Rattle.segment_frames.specs.Lists.{most_segments}
 use Rattle.recovery.specs.Costs.{repair_cost, opening_cost, mending_calls, back_reads, opening_reads}
 use Rattle.recovery.specs.Faults.{fault_of, IsNoDamage, IsReadFault, IsRepairFault, IsRereadFault}
 use Rattle.recovery.specs.Intents.{intent_reason, IsIntentFor}
-use Rattle.recovery.specs.Opening.{OpensFile, IsOpened, Awaits, ReadsBack, Repairs}
+use Rattle.recovery.specs.Opening.{OpensFile, IsOpened, Awaits, Repairs}
 use Rattle.recovery.specs.Restores.{Restores, Opens, LeavesFile, IsAtRest}
 use Rattle.recovery.specs.declared.fault.OpenFault.{OpenFault}
 use Rattle.recovery.specs.declared.fault.OpenFault.TheVariants.{Memory, Failed, NotStore, Damaged}
 use Rattle.recovery.specs.declared.parts.Parts.{Parts}
+use Rattle.recovery.proofs.ReadingBack.{ReadsBack}
 use Rattle.recovery.proofs.Bringing.{opens_restored, opens_repaired, leaves_on, balanced_as}
 use Rattle.recovery.proofs.CostLaws.{both_within}
 use Rattle.recovery.proofs.Intents.{by_file}

@@ -21,12 +21,13 @@ use Rattle.redo_journal.proofs.Live.{rests_still}
 use Rattle.recovery.specs.Costs.{replay_cost, back_reads, bare_reads, replay_calls, region_calls, bare_calls, laying_calls, back_calls}
 use Rattle.recovery.specs.Faults.{IsEarly, IsNoDamage, IsRegionFault, IsIntentFault, IsReadFault}
 use Rattle.recovery.specs.Intents.{intent_of, intent_reason, intent_calls, intent_reads, region_reads, IsIntentFor}
-use Rattle.recovery.specs.Opening.{Awaits, IsReadBack, ReadsBack}
+use Rattle.recovery.specs.Opening.{Awaits, IsReadBack}
 use Rattle.recovery.specs.Parts.{HasFences}
 use Rattle.recovery.specs.Restores.{Restores, LeavesFile}
 use Rattle.recovery.specs.declared.fault.OpenFault.{OpenFault}
 use Rattle.recovery.specs.declared.fault.OpenFault.TheVariants.{Memory, Failed, NotStore, Damaged}
 use Rattle.recovery.specs.declared.parts.Parts.{Parts}
+use Rattle.recovery.proofs.ReadingBack.{ReadsBack}
 use Rattle.recovery.proofs.Bringing.{leaves_on}
 use Rattle.recovery.proofs.Intents.{by_file, by_intent, waits_kept, calls_kept}
 use Rattle.recovery.proofs.Openings.{same_leaves}

@@ -10,7 +10,8 @@ use Rattle.map_model.specs.Store.{Map, Update, bind, unbind, map_after, key_of, 
 use Rattle.map_model.specs.Items.{first_full, map_after_items, are_distinct, is_full, AreAdmitted}
 use Rattle.map_model.proofs.Resuming.{admitted_cons, get_before, meets_full, next_item, removal_fits, room_cons}
 use Rattle.batch_intent.specs.Spelling.{item_bytes, intent_bytes}
-use Rattle.recovery.specs.Intents.{is_put, puts_in, meets_by, records_by, place_among, IsCounted}
+use Rattle.batch_intent.specs.Items.{is_put}
+use Rattle.recovery.specs.Intents.{puts_in, meets_by, records_by, place_among, IsCounted}
 
 -- By whether the key is there.
 

@@ -1,5 +1,5 @@
 -- The intent of a file that is opened: what is answered of it, what may be wrong with it, and what is read for it.
-use Rattle.std.specs.Prelude.{◌≡◌, ℕ, suc, ◌+◌, ◌-◌, ◌*◌, ◌^◌, ◌<◌, ◌≤◌, nat_lt, ◌||◌, not, if◌then◌else◌, Bool, true, false, List, [], ◌∷◌, T, length, take, get_or, Option, Some, None, is_some}
+use Rattle.std.specs.Prelude.{◌≡◌, ℕ, suc, ◌+◌, ◌-◌, ◌*◌, ◌^◌, ◌<◌, ◌≤◌, nat_lt, ◌||◌, not, if◌then◌else◌, Bool, false, List, [], ◌∷◌, T, length, take, get_or, Option, Some, None, is_some}
 use Rattle.std.specs.FinMap.{contains_key, len}
 use Rattle.std.specs.List.{list_all}
 use Rattle.density_rule.specs.Bounds.{upper_of}
@@ -13,6 +13,7 @@ use Rattle.map_model.specs.Store.{Map, Update, bind, unbind, key_of}
 use Rattle.map_model.specs.Image.{height_of, map_of}
 use Rattle.segment.specs.Rows.{value_of}
 use Rattle.batch_intent.specs.declared.places.TheConstants.{INTENT_SIZE}
+use Rattle.batch_intent.specs.Items.{is_put}
 use Rattle.batch_intent.specs.Spelling.{fits_item, intent_bytes}
 use Rattle.batch_intent.specs.Gate.{form_reason, has_intent}
 use Rattle.batch_intent.specs.Means.{has_pending, pending, fullness_reason}
@@ -31,10 +32,6 @@ pub record IsIntentFor (format : ℕ) (intent : Option (List Update)) : Type 0 w
   pub fit : (items : List Update) → intent ≡ Some items → T (list_all (fits_item format) items)
 
 -- how many of the items are puts
-abbrev pub is_put : Update → Bool
-is_put (bind key value) = true
-is_put (unbind key) = false
-
 abbrev pub puts_in : List Update → ℕ
 puts_in [] = 0
 puts_in (u ∷ us) = if is_put u then suc (puts_in us) else puts_in us

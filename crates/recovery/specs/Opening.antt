@@ -1,5 +1,5 @@
 -- The outcome of an opening, and what is known of parts and file between its steps.
-use Rattle.std.specs.Prelude.{◌≡◌, ◌≢◌, ◌⊎◌, ℕ, ◌+◌, ◌^◌, ◌<◌, ◌≤◌, List, sum, Some, None, Result, IsOk, OnOk, IfErr, IsErrOf}
+use Rattle.std.specs.Prelude.{◌≡◌, ◌≢◌, ◌⊎◌, ℕ, ◌+◌, ◌<◌, ◌≤◌, List, sum, Some, None, Result, IsOk, OnOk, IfErr, IsErrOf}
 use Rattle.station.specs.View.{View, Told, Honest, EachHeld, NothingPending, Rose, up}
 use Rattle.station.specs.Steps.{Steps}
 use Rattle.density_rule.specs.Bounds.{IsInBounds}
@@ -22,11 +22,11 @@ use Rattle.veb_index.specs.View.{IndexView}
 use Rattle.window_tally.specs.View.{TallyView}
 use Rattle.batch_intent.specs.Means.{Means, opening_reason}
 use Rattle.redistribute.specs.Rearranged.{Rearranges}
-use Rattle.recovery.specs.Costs.{replay_cost, repair_cost, replay_calls, region_calls, laying_calls, mending_calls, asked_behind, back_reads, back_calls}
-use Rattle.recovery.specs.Faults.{IsEarly, IsNoDamage, IsReadFault, IsRepairFault}
+use Rattle.recovery.specs.Costs.{repair_cost, opening_cost, mending_calls, behind_calls, asked_behind, back_reads, back_calls}
+use Rattle.recovery.specs.Faults.{IsEarly, IsNoDamage, IsRepairFault, IsRereadFault}
 use Rattle.recovery.specs.Intents.{intent_of, IsIntentFor}
 use Rattle.recovery.specs.Parts.{AreParts, Fits, AgreesWith, HasFences, HasHeader}
-use Rattle.recovery.specs.Restores.{Restores, LeavesFile}
+use Rattle.recovery.specs.Restores.{Restores, Opens, LeavesFile, IsAtRest}
 use Rattle.recovery.specs.declared.fault.OpenFault.{OpenFault}
 use Rattle.recovery.specs.declared.fault.OpenFault.TheVariants.{Memory, Failed, NotStore}
 use Rattle.recovery.specs.declared.parts.Parts.{Parts}
@@ -112,32 +112,6 @@ pub record IsReadBack (place : Place) (tally : TallyView) (index : IndexView) (j
   pub rests : RestsAt place.layout turn v
   pub nothing : NothingPending v
 
--- What came of the reading of a file, before a repair.
-pub record ReadsBack (head : Header) (result : Result (Unit {0}) OpenFault) (old new : Parts) (a b : View) : Type 0 where
-  pub back : OnOk result (IsReadBack new.place new.tally new.index new.frames.journal new.frames.turn b)
-  pub height_is : OnOk result (new.tally.height ≡ head.height)
-  pub place : new.place ≡ old.place
-  pub room : new.index.hmax ≡ old.index.hmax
-  pub array : OnOk result (Told a → array_of b.held ≡ array_of a.held)
-  -- the intent
-  pub waits : OnOk result (Told a → new.intent ≡ intent_of a.held)
-  pub items : OnOk result (IsIntentFor new.place.layout.format new.intent)
-  -- the reasons against the file
-  pub sound : OnOk result (Told a → opening_reason a.held ≡ None)
-  pub refused : IfErr result (λ e. (r : Reason) → e ≡ NotStore r → Told a → opening_reason a.held ≡ Some r)
-  pub steps : Steps Restores a b
-  pub early : IfErr result (λ e. (r : Reason) → e ≡ NotStore r → IsEarly r → LeavesFile a b)
-  pub refused_settled : IfErr result (λ e. (r : Reason) → e ≡ NotStore r → NothingPending b)
-  -- where no page is to be laid nothing changes
-  pub kept : Told a → IsBare (layout_in a.held) a.held → LeavesFile a b
-  pub one_pass : Told a → IsBare (layout_in a.held) a.held → b.travel.read ≤ a.travel.read + back_reads a.held
-  pub cost : b.travel.written ≤ a.travel.written + replay_cost old.place.layout
-  pub calls : b.calls ≤ a.calls + (replay_calls old.place.layout + region_calls old.place.layout head.height + (2 + 2 ^ head.height))
-  pub calls_bare : Told a → IsBare (layout_in a.held) a.held → b.calls ≤ a.calls + back_calls a.held
-  pub calls_asked : OnOk result (Told a → b.calls ≤ a.calls + (laying_calls a.held + back_calls a.held))
-  pub damaged : IfErr result (λ e. Told a → IsNoDamage e)
-  pub causes : IfErr result IsReadFault
-
 -- The outcome of a repair.
 pub record Repairs (result : Result (Unit {0}) OpenFault) (old new : Parts) (a b : View) : Type 0 where
   pub agrees : OnOk result (EachHeld (AgreesWith new.place new.tally new.index) b)
@@ -152,3 +126,14 @@ pub record Repairs (result : Result (Unit {0}) OpenFault) (old new : Parts) (a b
   pub calls : b.calls ≤ a.calls + mending_calls (most_segments old.place.layout) (repair_window old.tally.height old.tally.counts)
   pub damaged : IfErr result (λ e. Told a → e ≡ Failed)
   pub causes : IfErr result IsRepairFault
+
+-- The outcome of the steps behind the header of a file, by parts that were made for it.
+pub record BringsBack (head : Header) (result : Result (Unit {0}) OpenFault) (old new : Parts) (a b : View) : Type 0 where
+  pub opened : OnOk result (IsOpened new a b)
+  pub place : new.place ≡ old.place
+  pub opens : OpensFile Opens IsAtRest back_reads result a b
+  pub cost : b.travel.written ≤ a.travel.written + opening_cost old.place.layout
+  pub calls : b.calls ≤ a.calls + behind_calls old.place.layout head.height
+  pub calls_at_rest : Told a → IsAtRest a.held → b.calls ≤ a.calls + back_calls a.held
+  pub causes : IfErr result IsRereadFault
+  pub failed : IsErrOf result Failed → Rose a.disk_faults b.disk_faults

@@ -12,7 +12,7 @@ ghost use Rattle.recovery.specs.Faults.{IsNoDamage, IsIntentFault};
 ghost use Rattle.recovery.specs.Intents.{intent_of, intent_reason, intent_calls, intent_reads, IsIntentFor, may_meet, place_among};
 ghost use Rattle.recovery.specs.Opening.{IsReadBack};
 
-use crate::fault::{OpenFault, of_header, of_repair};
+use crate::fault::{OpenFault, of_repair};
 use crate::fullness::{count_puts, full_place};
 use crate::looking::find_keys;
 use crate::parts::Parts;
@@ -43,14 +43,11 @@ pub(crate) fn take_intent<S: Station>(
     ensures causes { IfErr result IsIntentFault }
     ensures failed { IsErrOf result OpenFault.Failed → Rose (S.view station.old).disk_faults (S.view station.new).disk_faults }
 {
-    match read_intent(station, parts.place.layout) {
-        Ok(None) => Ok(None),
-        Ok(Some(intent)) => match admit(station, parts, &intent) {
-            Ok(()) => Ok(Some(intent)),
-            Err(fault) => Err(fault),
-        },
-        Err(fault) => Err(of_header(fault)),
-    }
+    let Some(intent) = read_intent(station, parts.place.layout)? else {
+        return Ok(None);
+    };
+    admit(station, parts, &intent)?;
+    Ok(Some(intent))
 }
 
 // Sees that none of the items meets a full store, and names the first that does.

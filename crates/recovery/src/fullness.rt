@@ -1,15 +1,12 @@
 //! Whether items have room in a store, told before any of them is made.
 
-ghost use Rattle.std.specs.Prelude.{◌≡◌, ℕ, ◌+◌, ◌≤◌, ◌^◌, length, IfSome};
-ghost use Rattle.key_slot.specs.declared.sizes.TheConstants.{MAX_KEY_LEN, MAX_VALUE_LEN};
+ghost use Rattle.std.specs.Prelude.{◌≡◌, ℕ, ◌+◌, ◌≤◌, ◌^◌, IfSome};
 ghost use Rattle.map_model.specs.Items.{first_full};
-ghost use Rattle.map_model.specs.Store.{Map, key_of};
+ghost use Rattle.map_model.specs.Store.{Map};
 ghost use Rattle.batch_intent.specs.Items.{update_of};
-ghost use Rattle.batch_intent.specs.Spelling.{item_bytes};
-ghost use Rattle.recovery.specs.Intents.{puts_in, is_put as is_bind, meets_by, records_by, place_among, IsCounted};
+ghost use Rattle.recovery.specs.Intents.{puts_in, meets_by, records_by, place_among, IsCounted};
 
 use batch_intent::{Intent, Item, MOST_ITEMS};
-use key_slot::Key;
 
 /// For each item a flag.
 pub(crate) const FLAGS: usize = MOST_ITEMS as usize;
@@ -35,7 +32,7 @@ pub(crate) fn full_place(
             return Some(place);
         }
         records = records_behind(&item, present, records);
-        place += item_len(&item);
+        place += item.len() as u32;
     }
     None
 }
@@ -74,40 +71,9 @@ pub(crate) fn count_puts(intent: &Intent) -> u32
 {
     let mut puts = 0;
     for i in 0..intent.len() {
-        if is_put(&intent.item(i)) {
+        if intent.item(i).is_put() {
             puts += 1;
         }
     }
     puts
-}
-
-// Whether an item is a put.
-fn is_put(item: &Item) -> bool
-    ensures { result ≡ is_bind (update_of item.now) }
-{
-    match item {
-        Item::Put(_, _) => true,
-        Item::Remove(_) => false,
-    }
-}
-
-/// The key of an item.
-pub(crate) fn item_key(item: &Item) -> Key
-    ensures { result ≡ key_of (update_of item.now) }
-{
-    match item {
-        Item::Put(key, _) => *key,
-        Item::Remove(key) => *key,
-    }
-}
-
-// How many bytes the spelling of an item has.
-fn item_len(item: &Item) -> u32
-    ensures size { result ≡ length (item_bytes (update_of item.now)) }
-    ensures most { result ≤ 3 + MAX_KEY_LEN + MAX_VALUE_LEN }
-{
-    match item {
-        Item::Put(key, value) => 3 + (key.as_bytes().len() + value.as_bytes().len()) as u32,
-        Item::Remove(key) => 3 + key.as_bytes().len() as u32,
-    }
 }

@@ -15,7 +15,7 @@ ghost use Rattle.recovery.specs.Faults.{IsRepairFault, repair_fault};
 ghost use Rattle.recovery.specs.Intents.{AreThere, AlsoIn};
 ghost use Rattle.recovery.specs.Opening.{IsReadBack};
 
-use crate::fullness::{FLAGS, item_key};
+use crate::fullness::FLAGS;
 use crate::parts::Parts;
 use batch_intent::Intent;
 use density_rule::Window;
@@ -91,13 +91,9 @@ fn look_in<S: Station>(
         height: 0,
         number: segment,
     });
-    match SegmentView::validate(page, segment, kept) {
-        Ok(rows) => {
-            mark_keys(intent, &rows, there);
-            Ok(())
-        }
-        Err(fault) => Err(fault),
-    }
+    let rows = SegmentView::validate(page, segment, kept)?;
+    mark_keys(intent, &rows, there);
+    Ok(())
 }
 
 // Marks the items whose keys are among these rows.
@@ -105,7 +101,7 @@ fn mark_keys(intent: &Intent, rows: &SegmentView<'_>, there: &mut [bool; FLAGS])
     ensures { AlsoIn intent.now rows.now there.old there.new }
 {
     for i in 0..intent.len() {
-        if rows.find(&item_key(&intent.item(i))).is_ok() {
+        if rows.find(&intent.item(i).key()).is_ok() {
             there[i as usize] = true;
         }
     }

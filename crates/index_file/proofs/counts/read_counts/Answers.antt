@@ -1,4 +1,5 @@
 use Rattle.std.proofs.Common.{◌≡◌, inl, ◌≤◌, ℕ, ◌+◌, ◌*◌, ◌^◌, List, refl, sym, ap, subst, ◌∙◌, arith}
+use Rattle.std.proofs.lemmas.Result.{err_from_is_err_and}
 use Rattle.density_rule.specs.Marks.{no_marks}
 use Rattle.station.proofs.Composition.{no_steps, same_on, told_on}
 use Rattle.header_gate.specs.declared.layout.Layout.{Layout}
@@ -67,49 +68,54 @@ loop-first-preserved g c =
       counted = λ told.
           let same = i.steps.held told in
           moved c.args.layout.now c.loop-first.tally.height c.args.tally.now.height (c.loop-first.first + c.min-count.result) c.read_count_piece.new.tally.counts (g.S.Station.view c.loop-first.station).held (g.S.Station.view c.args.station.now).held tall same
-          (c.in-Ok.ensures.counted (told_on i.steps.frame told)
+          (c.in_ok-read_count_piece.ensures.counted (told_on i.steps.frame told)
           (moved c.args.layout.now c.args.tally.now.height c.loop-first.tally.height c.loop-first.first c.loop-first.tally.counts (g.S.Station.view c.args.station.now).held (g.S.Station.view c.loop-first.station).held (sym tall) (sym same) (i.counted told)));
       travel = counts_on c.args.layout.now c.loop-first.first c.min-count.result _ _ _ (omega (arith, c.loop-first-test.true)) i.travel c.read_count_piece.ensures.travel;
       calls = called g (goal.at.loop-first-preserved g c).After-read_count_piece;
     }
 
-pub returns-in-Err-clause-counts : goal.returns-in-Err-clause-counts
-returns-in-Err-clause-counts g c = record {
+pub returns-in_err-read_count_piece-clause-counts : goal.returns-in_err-read_count_piece-clause-counts
+returns-in_err-read_count_piece-clause-counts g c = record {
   kept = c.read_count_piece.ensures.counts.kept ∙ ap (λ (t : TallyView). record t { counts = c.read_count_piece.new.tally.counts }) c.loop-first.invariant.kept;
   is_tally = c.read_count_piece.ensures.counts.is_tally;
 }
 
-pub returns-in-Err-clause-refused : goal.returns-in-Err-clause-refused
-returns-in-Err-clause-refused g c told place e =
+pub returns-in_err-read_count_piece-clause-refused : goal.returns-in_err-read_count_piece-clause-refused
+returns-in_err-read_count_piece-clause-refused g c =
+    let p = err_from_is_err_and c.from_residual.result c.from_residual.ensures.1 in
+    rw (p.1, p.2) (λ told place e.
     let i = c.loop-first.invariant in
     let tall : c.loop-first.tally.height ≡ c.args.tally.now.height = ap (λ (t : TallyView). t.height) i.kept in
     let same = i.steps.held told in
-    let fails = c.in-Err.ensures.refused (told_on i.steps.frame told)
+    let fails = c.in_err-read_count_piece.ensures.refused (told_on i.steps.frame told)
     (moved c.args.layout.now c.args.tally.now.height c.loop-first.tally.height c.loop-first.first c.loop-first.tally.counts (g.S.Station.view c.args.station.now).held (g.S.Station.view c.loop-first.station).held (sym tall) (sym same) (i.counted told)) place e in
     count_fails_more c.args.layout.now c.args.tally.now.height (c.loop-first.first + c.min-count.result) (2 ^ c.args.tally.now.height) (g.S.Station.view c.args.station.now).held place (omega (arith, c.segment_count-end.ensures.count, c.loop-first-test.true))
-    (fails_moved c.args.layout.now c.loop-first.tally.height c.args.tally.now.height (c.loop-first.first + c.min-count.result) (g.S.Station.view c.loop-first.station).held (g.S.Station.view c.args.station.now).held place tall same fails)
+    (fails_moved c.args.layout.now c.loop-first.tally.height c.args.tally.now.height (c.loop-first.first + c.min-count.result) (g.S.Station.view c.loop-first.station).held (g.S.Station.view c.args.station.now).held place tall same fails))
 
 -- the place is that of a count of the piece that was read last
-pub returns-in-Err-clause-named : goal.returns-in-Err-clause-named
-returns-in-Err-clause-named g c place e =
-    let is = c.in-Err.ensures.named place e in
+pub returns-in_err-read_count_piece-clause-named : goal.returns-in_err-read_count_piece-clause-named
+returns-in_err-read_count_piece-clause-named g c =
+    let p = err_from_is_err_and c.from_residual.result c.from_residual.ensures.1 in
+    rw (p.1, p.2) (λ place e.
+    let is = c.in_err-read_count_piece.ensures.named place e in
     record {
       segment = is.0;
       read = c.loop-first.first + c.min-count.result;
       place_is = is.3;
       among = record { below = is.2; most = omega (arith, c.segment_count-end.ensures.count, c.loop-first-test.true); last = inl (omega (arith, is.1, c.min-count.ensures)) };
       travel = counts_on c.args.layout.now c.loop-first.first c.min-count.result _ _ _ (omega (arith, c.loop-first-test.true)) c.loop-first.invariant.travel c.read_count_piece.ensures.travel;
-    }
+    })
 
 pub returns-clause-counted : goal.returns-clause-counted
 returns-clause-counted g c told =
     let done : c.loop-first.first ≡ 2 ^ c.args.tally.now.height = omega (arith, c.loop-first.invariant.within, c.segment_count-end.ensures.count, c.loop-first-test.false) in
     subst (λ (n : ℕ). AreCounted c.args.layout.now c.args.tally.now.height n c.loop-first.tally.counts (g.S.Station.view c.args.station.now).held) done (c.loop-first.invariant.counted told)
 
-pub returns-in-Err-clause-reads : goal.returns-in-Err-clause-reads
-returns-in-Err-clause-reads g c =
-    let inv = c.loop-first.invariant in
-    let is = called g (goal.at.returns-in-Err-clause-reads g c).After-read_count_piece in
+pub returns-in_err-read_count_piece-clause-reads : goal.returns-in_err-read_count_piece-clause-reads
+returns-in_err-read_count_piece-clause-reads g c =
+    let p = err_from_is_err_and c.from_residual.result c.from_residual.ensures.1 in
+    rw (p.1, p.2) (let inv = c.loop-first.invariant in
+    let is = called g (goal.at.returns-in_err-read_count_piece-clause-reads g c).After-read_count_piece in
     record {
       steps = same_on inv.steps c.read_count_piece.ensures.steps;
       travel = tt;
@@ -119,8 +125,8 @@ returns-in-Err-clause-reads g c =
         now_is = counts_on c.args.layout.now c.loop-first.first c.min-count.result _ _ _ (omega (arith, c.loop-first-test.true)) inv.travel c.read_count_piece.ensures.travel;
       };
       calls = omega (arith, is.2, is.1.few);
-      failed = λ failed. omega (arith, inv.steps.frame.disk_faults, c.in-Err.ensures.failed failed);
-    }
+      failed = λ failed. omega (arith, inv.steps.frame.disk_faults, c.in_err-read_count_piece.ensures.failed failed);
+    })
 
 pub returns-clause-reads : goal.returns-clause-reads
 returns-clause-reads g c =

@@ -1,4 +1,5 @@
 use Rattle.std.proofs.Common.{◌≡◌, inr, ℕ, ◌+◌, ◌*◌, ◌^◌, ◌≤◌, List, Some, refl, sym, ap, subst, ◌∙◌, arith}
+use Rattle.std.proofs.lemmas.Result.{err_from_is_err_and}
 use Rattle.std.proofs.Math.Pow.{pow_mono}
 use Rattle.header_gate.specs.declared.reason.Reason.TheVariants.{Index}
 use Rattle.map_model.specs.Reasons.{first_reason}
@@ -25,7 +26,7 @@ first_segment-requires-clause-small g c =
 pub returns-in-None-clause-counted : goal.returns-in-None-clause-counted
 returns-in-None-clause-counted g c told =
     let tall : 2 ^ c.read_counts.new.tally.height ≡ 2 ^ c.args.tally.now.height = ap (λ (t : TallyView). 2 ^ t.height) c.read_counts.ensures.counts.kept in
-    counts_are_read c.args.layout.now c.args.tally.now.height c.read_counts.new.tally.counts (g.S.Station.view c.args.station.now).held (c.read_counts.ensures.counts.is_tally.size ∙ tall) (c.in-Ok.ensures.counted told)
+    counts_are_read c.args.layout.now c.args.tally.now.height c.read_counts.new.tally.counts (g.S.Station.view c.args.station.now).held (c.read_counts.ensures.counts.is_tally.size ∙ tall) (c.in_ok-read_counts.ensures.counted told)
 
 pub returns-in-None-clause-balanced : goal.returns-in-None-clause-balanced
 returns-in-None-clause-balanced g c = c.in-None.ensures.balanced refl
@@ -36,7 +37,7 @@ returns-in-Some-clause-refused g c told place e =
     let w = c.in-Some.window in
     let tall : c.read_counts.new.tally.height ≡ c.args.tally.now.height = ap (λ (t : TallyView). t.height) c.read_counts.ensures.counts.kept in
     let counts : c.read_counts.new.tally.counts ≡ counts_read c.args.layout.now c.args.tally.now.height (g.S.Station.view c.args.station.now).held =
-    counts_are_read c.args.layout.now c.args.tally.now.height c.read_counts.new.tally.counts (g.S.Station.view c.args.station.now).held (c.read_counts.ensures.counts.is_tally.size ∙ ap (λ (h : ℕ). 2 ^ h) tall) (c.in-Ok.ensures.counted told) in
+    counts_are_read c.args.layout.now c.args.tally.now.height c.read_counts.new.tally.counts (g.S.Station.view c.args.station.now).held (c.read_counts.ensures.counts.is_tally.size ∙ ap (λ (h : ℕ). 2 ^ h) tall) (c.in_ok-read_counts.ensures.counted told) in
     let same : count_place c.args.layout.now (c.in-Some.window.number * 2 ^ c.in-Some.window.height) ≡ place = ap (count_place c.args.layout.now) (sym c.first_segment.ensures) ∙ wrong_one (count_place c.args.layout.now c.first_segment.result) place (sym c.wrong_count.ensures ∙ e) in
     subst (λ (p : ℕ). windows_reason c.args.layout.now c.args.tally.now.height (g.S.Station.view c.args.station.now).held ≡ Some (Index p)) same
     (subst (λ (ns : List ℕ). first_reason (row_reason c.args.layout.now c.args.tally.now.height ns) (c.args.tally.now.height + 1) ≡ Some (Index (count_place c.args.layout.now (c.in-Some.window.number * 2 ^ c.in-Some.window.height)))) counts
@@ -51,11 +52,14 @@ returns-in-Some-clause-named g c place e =
       read = 2 ^ c.args.tally.now.height;
       place_is = sym (wrong_one (count_place c.args.layout.now c.first_segment.result) place (sym c.wrong_count.ensures ∙ e));
       among = record { below = omega (arith, c.first_segment.ensures, c.in-Some.ensures.broken.1, tall); most = omega arith; last = inr refl };
-      travel = c.in-Ok.ensures.reads.travel;
+      travel = c.in_ok-read_counts.ensures.reads.travel;
     }
 
-pub returns-in-Err-clause-refused : goal.returns-in-Err-clause-refused
-returns-in-Err-clause-refused g c told place e = count_fails_reason c.args.layout.now c.args.tally.now.height (g.S.Station.view c.args.station.now).held place (c.in-Err.ensures.refused told place e)
+pub returns-in_err-read_counts-clause-refused : goal.returns-in_err-read_counts-clause-refused
+returns-in_err-read_counts-clause-refused g c =
+    let p = err_from_is_err_and c.from_residual.result c.from_residual.ensures.1 in
+    rw (p.1, p.2) (λ told place e.
+    count_fails_reason c.args.layout.now c.args.tally.now.height (g.S.Station.view c.args.station.now).held place (c.in_err-read_counts.ensures.refused told place e))
 
 pub returns-in-Some-clause-reads : goal.returns-in-Some-clause-reads
 returns-in-Some-clause-reads g c = record {

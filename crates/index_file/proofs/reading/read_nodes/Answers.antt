@@ -1,4 +1,5 @@
 use Rattle.std.proofs.Common.{◌≡◌, inl, ◌≤◌, ℕ, ◌+◌, ◌-◌, ◌*◌, ◌^◌, List, refl, sym, ap, subst, ◌∙◌, arith}
+use Rattle.std.proofs.lemmas.Result.{err_from_is_err_and}
 use Rattle.station.proofs.Composition.{no_steps, same_on, told_on}
 use Rattle.index_file.specs.Area.{node_place}
 use Rattle.index_file.specs.Reading.{FailsAt, after_part}
@@ -41,57 +42,62 @@ loop-first-preserved g c =
       steps = same_on i.steps c.read_node_piece.ensures.steps;
       taken = λ told.
           let same = i.steps.held told in
-          let next = c.in-Ok.ensures.taken (told_on i.steps.frame told) (subst (λ (f : List ℕ). AreNodesOf c.args.layout.now.format c.args.layout.now c.args.h c.loop-first.index.fences c.loop-first.first f) (sym same) (i.taken told)) in
+          let next = c.in_ok-read_node_piece.ensures.taken (told_on i.steps.frame told) (subst (λ (f : List ℕ). AreNodesOf c.args.layout.now.format c.args.layout.now c.args.h c.loop-first.index.fences c.loop-first.first f) (sym same) (i.taken told)) in
           subst (λ (f : List ℕ). AreNodesOf c.args.layout.now.format c.args.layout.now c.args.h c.read_node_piece.new.index.fences (c.loop-first.first + c.min-count.result) f) same next;
       travel = nodes_on c.args.layout.now c.loop-first.first c.min-count.result _ _ _ (omega (arith, c.loop-first-test.true)) i.travel c.read_node_piece.ensures.travel;
       calls = called g (goal.at.loop-first-preserved g c).After-read_node_piece;
     }
 
-pub returns-in-Err-clause-refused : goal.returns-in-Err-clause-refused
-returns-in-Err-clause-refused g c told place e =
+pub returns-in_err-read_node_piece-clause-refused : goal.returns-in_err-read_node_piece-clause-refused
+returns-in_err-read_node_piece-clause-refused g c =
+    let p = err_from_is_err_and c.from_residual.result c.from_residual.ensures.1 in
+    rw (p.1, p.2) (λ told place e.
     let i = c.loop-first.invariant in
     let same = i.steps.held told in
-    let fails = c.in-Err.ensures.refused (told_on i.steps.frame told) (subst (λ (f : List ℕ). AreNodesOf c.args.layout.now.format c.args.layout.now c.args.h c.loop-first.index.fences c.loop-first.first f) (sym same) (i.taken told)) place e in
+    let fails = c.in_err-read_node_piece.ensures.refused (told_on i.steps.frame told) (subst (λ (f : List ℕ). AreNodesOf c.args.layout.now.format c.args.layout.now c.args.h c.loop-first.index.fences c.loop-first.first f) (sym same) (i.taken told)) place e in
     fails_more c.args.layout.now c.args.h (c.loop-first.first + c.min-count.result) (2 ^ c.args.h - 1) (g.S.Station.view c.args.station.now).held place (omega (arith, c.node_count-end.ensures, c.loop-first-test.true))
-    (subst (λ (f : List ℕ). FailsAt c.args.layout.now c.args.h (c.loop-first.first + c.min-count.result) f place) same fails)
+    (subst (λ (f : List ℕ). FailsAt c.args.layout.now c.args.h (c.loop-first.first + c.min-count.result) f place) same fails))
 
 pub returns-clause-taken : goal.returns-clause-taken
 returns-clause-taken g c told =
     let done : c.loop-first.first ≡ 2 ^ c.args.h - 1 = omega (arith, c.loop-first.invariant.within, c.node_count-end.ensures, c.loop-first-test.false) in
     subst (λ (n : ℕ). AreNodesOf c.args.layout.now.format c.args.layout.now c.args.h c.loop-first.index.fences n (g.S.Station.view c.args.station.now).held) done (c.loop-first.invariant.taken told)
 
-pub returns-in-Err-clause-front : goal.returns-in-Err-clause-front
-returns-in-Err-clause-front g c = record {
+pub returns-in_err-read_node_piece-clause-front : goal.returns-in_err-read_node_piece-clause-front
+returns-in_err-read_node_piece-clause-front g c = record {
   bytes = 64 * (c.loop-first.first + c.min-count.result);
   most = omega (arith, c.node_count-end.ensures, c.loop-first-test.true);
   now_is = nodes_on c.args.layout.now c.loop-first.first c.min-count.result _ _ _ (omega (arith, c.loop-first-test.true)) c.loop-first.invariant.travel c.read_node_piece.ensures.travel;
 }
 
 -- the place is that of a node of the piece that was read last
-pub returns-in-Err-clause-named : goal.returns-in-Err-clause-named
-returns-in-Err-clause-named g c place e =
-    let is = c.in-Err.ensures.named place e in
+pub returns-in_err-read_node_piece-clause-named : goal.returns-in_err-read_node_piece-clause-named
+returns-in_err-read_node_piece-clause-named g c =
+    let p = err_from_is_err_and c.from_residual.result c.from_residual.ensures.1 in
+    rw (p.1, p.2) (λ place e.
+    let is = c.in_err-read_node_piece.ensures.named place e in
     record {
       position = is.0;
       read = c.loop-first.first + c.min-count.result;
       place_is = is.3;
       among = record { below = is.2; most = omega (arith, c.node_count-end.ensures, c.loop-first-test.true); last = inl (omega (arith, is.1, c.min-count.ensures)) };
       travel = nodes_on c.args.layout.now c.loop-first.first c.min-count.result _ _ _ (omega (arith, c.loop-first-test.true)) c.loop-first.invariant.travel c.read_node_piece.ensures.travel;
-    }
+    })
 
 pub returns-clause-front : goal.returns-clause-front
 returns-clause-front g c = record { bytes = 64 * c.loop-first.first; most = omega (arith, c.loop-first.invariant.within); now_is = c.loop-first.invariant.travel }
 
-pub returns-in-Err-clause-reads : goal.returns-in-Err-clause-reads
-returns-in-Err-clause-reads g c =
-    let inv = c.loop-first.invariant in
-    let is = called g (goal.at.returns-in-Err-clause-reads g c).After-read_node_piece in
+pub returns-in_err-read_node_piece-clause-reads : goal.returns-in_err-read_node_piece-clause-reads
+returns-in_err-read_node_piece-clause-reads g c =
+    let p = err_from_is_err_and c.from_residual.result c.from_residual.ensures.1 in
+    rw (p.1, p.2) (let inv = c.loop-first.invariant in
+    let is = called g (goal.at.returns-in_err-read_node_piece-clause-reads g c).After-read_node_piece in
     record {
       steps = same_on inv.steps c.read_node_piece.ensures.steps;
       travel = tt;
       calls = omega (arith, is.2, is.1.few);
-      failed = λ failed. omega (arith, inv.steps.frame.disk_faults, c.in-Err.ensures.failed failed);
-    }
+      failed = λ failed. omega (arith, inv.steps.frame.disk_faults, c.in_err-read_node_piece.ensures.failed failed);
+    })
 
 pub returns-clause-reads : goal.returns-clause-reads
 returns-clause-reads g c =

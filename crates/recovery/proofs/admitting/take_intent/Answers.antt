@@ -1,5 +1,6 @@
 use Rattle.std.proofs.Common.{◌≡◌, ◌&&◌, ◌==◌, nat_le, ◌+◌, ◌-◌, ◌<◌, ◌≤◌, ◌↔◌, inl, ℕ, List, Bool, true, false, Option, Some, None, refl, sym, ap, subst, ◌∙◌, arith}
 use Rattle.std.specs.Prelude.{is_some}
+use Rattle.std.proofs.lemmas.Result.{err_from_is_err_and}
 use Rattle.std.proofs.lemmas.Bool.{leb-true}
 use mathlib.Core.Bool.{true≢false}
 use Rattle.station.specs.View.{Told}
@@ -25,7 +26,7 @@ use Rattle.recovery.proofs.Intents.{none_waits, none_wrong, some_waits, some_wro
 use Rattle.recovery.proofs.Opening.{refused_back}
 use Rattle.recovery.proofs.ReadBacks.{still_back}
 use Rattle.recovery.proofs.admitting.take_intent.Goals as goal
-use Rattle.recovery.proofs.admitting.take_intent.Goals.{After-read_intent, In-Ok-None, In-Ok-Some, After-admit}
+use Rattle.recovery.proofs.admitting.take_intent.Goals.{After-read_intent, In_default, In-Some, After-admit}
 
 pub admit-requires : goal.admit-requires
 admit-requires g c = record {
@@ -53,22 +54,22 @@ reads g c told =
 
 -- No intent is to be applied.
 
-idle : (g : _) (c : In-Ok-None g) → Told (g.S.Station.view c.args.station.now) → has_intent c.args.parts.now.place.layout (g.S.Station.view c.args.station.now).held ≡ false
-idle g c told = (c.in-Ok-None.ensures.even told).0 c.in-Ok-None.field-0-is
+idle : (g : _) (c : In_default g) → Told (g.S.Station.view c.args.station.now) → has_intent c.args.parts.now.place.layout (g.S.Station.view c.args.station.now).held ≡ false
+idle g c told = (c.in_ok-intent.ensures.even told).0 c.in_default.is
 
-pub returns-in-Ok-None-clause-intent : goal.returns-in-Ok-None-clause-intent
-returns-in-Ok-None-clause-intent g c told =
-    let at = goal.at.returns-in-Ok-None-clause-intent g c in
-    none_waits c.args.parts.now.place.layout (g.S.Station.view c.args.station.now).held (layout_is g at.After-read_intent told) (idle g at.In-Ok-None told)
+pub returns-in_default-clause-intent : goal.returns-in_default-clause-intent
+returns-in_default-clause-intent g c told =
+    let at = goal.at.returns-in_default-clause-intent g c in
+    none_waits c.args.parts.now.place.layout (g.S.Station.view c.args.station.now).held (layout_is g at.After-read_intent told) (idle g at.In_default told)
 
-pub returns-in-Ok-None-clause-sound : goal.returns-in-Ok-None-clause-sound
-returns-in-Ok-None-clause-sound g c told =
-    let at = goal.at.returns-in-Ok-None-clause-sound g c in
-    none_wrong c.args.parts.now.place.layout (g.S.Station.view c.args.station.now).held (layout_is g at.After-read_intent told) (idle g at.In-Ok-None told)
+pub returns-in_default-clause-sound : goal.returns-in_default-clause-sound
+returns-in_default-clause-sound g c told =
+    let at = goal.at.returns-in_default-clause-sound g c in
+    none_wrong c.args.parts.now.place.layout (g.S.Station.view c.args.station.now).held (layout_is g at.After-read_intent told) (idle g at.In_default told)
 
-pub returns-in-Ok-None-clause-reads : goal.returns-in-Ok-None-clause-reads
-returns-in-Ok-None-clause-reads g c told =
-    reads g (goal.at.returns-in-Ok-None-clause-reads g c).After-read_intent told
+pub returns-in_default-clause-reads : goal.returns-in_default-clause-reads
+returns-in_default-clause-reads g c told =
+    reads g (goal.at.returns-in_default-clause-reads g c).After-read_intent told
 
 -- One is.
 
@@ -76,18 +77,18 @@ odd : {X : Type 0} (b : Bool) (o : Option X) (x : X) → o ≡ Some x → (o ≡
 odd true o x is even = refl
 odd false o x is even = absurd (true≢false (ap is_some (sym is ∙ even.1 refl)))
 
-some : (g : _) (c : In-Ok-Some g) → Told (g.S.Station.view c.args.station.now) → has_intent c.args.parts.now.place.layout (g.S.Station.view c.args.station.now).held ≡ true
-some g c told = odd (has_intent c.args.parts.now.place.layout (g.S.Station.view c.args.station.now).held) c.in-Ok-Some.field-0 c.in-Ok-Some.intent c.in-Ok-Some.field-0-is (c.in-Ok-Some.ensures.even told)
+some : (g : _) (c : In-Some g) → Told (g.S.Station.view c.args.station.now) → has_intent c.args.parts.now.place.layout (g.S.Station.view c.args.station.now).held ≡ true
+some g c told = odd (has_intent c.args.parts.now.place.layout (g.S.Station.view c.args.station.now).held) _ c.in-Some.intent c.in-Some.is (c.in_ok-intent.ensures.even told)
 
-items_are : (g : _) (c : In-Ok-Some g) → Told (g.S.Station.view c.args.station.now) → c.in-Ok-Some.intent ≡ items_in (intent_area (g.S.Station.view c.args.station.now).held)
-items_are g c told = c.in-Ok-Some.ensures.items told c.in-Ok-Some.intent c.in-Ok-Some.field-0-is
+items_are : (g : _) (c : In-Some g) → Told (g.S.Station.view c.args.station.now) → c.in-Some.intent ≡ items_in (intent_area (g.S.Station.view c.args.station.now).held)
+items_are g c told = c.in_ok-intent.ensures.items told c.in-Some.intent c.in-Some.is
 
-pub returns-in-Ok-clause-intent : goal.returns-in-Ok-clause-intent
-returns-in-Ok-clause-intent g c told =
-    let at = goal.at.returns-in-Ok-clause-intent g c in
+pub returns-clause-intent : goal.returns-clause-intent
+returns-clause-intent g c told =
+    let at = goal.at.returns-clause-intent g c in
     let image = (g.S.Station.view c.args.station.now).held in
-    ap Some (items_are g at.In-Ok-Some told)
-    ∙ some_waits c.args.parts.now.place.layout image (layout_is g at.After-read_intent told) (some g at.In-Ok-Some told) (c.in-Ok-Some.ensures.sound told)
+    ap Some (items_are g at.In-Some told)
+    ∙ some_waits c.args.parts.now.place.layout image (layout_is g at.After-read_intent told) (some g at.In-Some told) (c.in_ok-intent.ensures.sound told)
 
 -- what is found wrong with its items is what is wrong with the intent of the file
 validated : (layout : Layout) (image now : List ℕ) (intent : List Update) (answer : Option Reason) → layout_in image ≡ layout → has_intent layout image ≡ true → form_reason layout image ≡ None → intent ≡ items_in (intent_area image) → now ≡ image
@@ -95,31 +96,33 @@ validated : (layout : Layout) (image now : List ℕ) (intent : List Update) (ans
 validated layout image now intent answer is some right same held found =
     some_wrong layout image is some right answer ((λ t. reason_at (place_among (sym same t) (first_full (height_limit layout) (map_of (sym held t)) (sym same t)))) ∙ found)
 
-pub returns-in-Ok-clause-sound : goal.returns-in-Ok-clause-sound
-returns-in-Ok-clause-sound g c told =
-    let at = goal.at.returns-in-Ok-clause-sound g c in
+pub returns-clause-sound : goal.returns-clause-sound
+returns-clause-sound g c told =
+    let at = goal.at.returns-clause-sound g c in
     let steps = c.read_intent.ensures.steps in
-    validated c.args.parts.now.place.layout (g.S.Station.view c.args.station.now).held (g.S.Station.view c.read_intent.new.station).held c.in-Ok-Some.intent None
-    (layout_is g at.After-read_intent told) (some g at.In-Ok-Some told) (c.in-Ok-Some.ensures.sound told) (items_are g at.In-Ok-Some told) (steps.held told)
-    (ap (λ (o : Option ℕ). reason_at (place_among c.in-Ok-Some.intent o)) (c.in-Ok.ensures.room (told_on steps.frame told)))
+    validated c.args.parts.now.place.layout (g.S.Station.view c.args.station.now).held (g.S.Station.view c.read_intent.new.station).held c.in-Some.intent None
+    (layout_is g at.After-read_intent told) (some g at.In-Some told) (c.in_ok-intent.ensures.sound told) (items_are g at.In-Some told) (steps.held told)
+    (ap (λ (o : Option ℕ). reason_at (place_among c.in-Some.intent o)) (c.in_ok-admit.ensures.room (told_on steps.frame told)))
 
-pub returns-in-Err-admit-clause-refused : goal.returns-in-Err-admit-clause-refused
-returns-in-Err-admit-clause-refused g c r is told =
-    let at = goal.at.returns-in-Err-admit-clause-refused g c in
+pub returns-in_err-admit-clause-refused : goal.returns-in_err-admit-clause-refused
+returns-in_err-admit-clause-refused g c =
+    let p = err_from_is_err_and c.from_residual-in_err-admit.result c.from_residual-in_err-admit.ensures.1 in
+    rw (p.1, p.2) (λ r is told.
+    let at = goal.at.returns-in_err-admit-clause-refused g c in
     let steps = c.read_intent.ensures.steps in
-    validated c.args.parts.now.place.layout (g.S.Station.view c.args.station.now).held (g.S.Station.view c.read_intent.new.station).held c.in-Ok-Some.intent (Some r)
-    (layout_is g at.After-read_intent told) (some g at.In-Ok-Some told) (c.in-Ok-Some.ensures.sound told) (items_are g at.In-Ok-Some told) (steps.held told)
-    (c.in-Err-admit.ensures.full r is (told_on steps.frame told))
+    validated c.args.parts.now.place.layout (g.S.Station.view c.args.station.now).held (g.S.Station.view c.read_intent.new.station).held c.in-Some.intent (Some r)
+    (layout_is g at.After-read_intent told) (some g at.In-Some told) (c.in_ok-intent.ensures.sound told) (items_are g at.In-Some told) (steps.held told)
+    (c.in_err-admit.ensures.full r is (told_on steps.frame told)))
 
-pub returns-in-Ok-clause-steps : goal.returns-in-Ok-clause-steps
-returns-in-Ok-clause-steps g c = same_on c.read_intent.ensures.steps c.admit.ensures.steps
+pub returns-clause-steps : goal.returns-clause-steps
+returns-clause-steps g c = same_on c.read_intent.ensures.steps c.admit.ensures.steps
 
-pub returns-in-Err-admit-clause-steps : goal.returns-in-Err-admit-clause-steps
-returns-in-Err-admit-clause-steps g c = same_on c.read_intent.ensures.steps c.admit.ensures.steps
+pub returns-in_err-admit-clause-steps : goal.returns-in_err-admit-clause-steps
+returns-in_err-admit-clause-steps g c = same_on c.read_intent.ensures.steps c.admit.ensures.steps
 
 -- the look
 looked : (g : _) (c : After-admit g) → Told (g.S.Station.view c.args.station.now) → has_intent c.args.parts.now.place.layout (g.S.Station.view c.args.station.now).held ≡ true
-    → layout_in (g.S.Station.view c.args.station.now).held ≡ c.args.parts.now.place.layout → c.in-Ok-Some.intent ≡ items_in (intent_area (g.S.Station.view c.args.station.now).held)
+    → layout_in (g.S.Station.view c.args.station.now).held ≡ c.args.parts.now.place.layout → c.in-Some.intent ≡ items_in (intent_area (g.S.Station.view c.args.station.now).held)
     → (g.S.Station.view c.admit.new.station).travel.read ≤ (g.S.Station.view c.read_intent.new.station).travel.read + look_reads (g.S.Station.view c.args.station.now).held
 looked g c told some is same =
     let parts = c.args.parts.now in
@@ -129,7 +132,7 @@ looked g c told some is same =
     let pending_is = some_pending image (ap (λ (l : Layout). has_intent l image) is ∙ some) ∙ sym same in
     omega (
       arith,
-      look_within parts.place.layout parts.place.region parts.tally.height parts.tally.counts image c.in-Ok-Some.intent (end - from) (c.requires.back.stands image (inl (told, refl))) pending_is
+      look_within parts.place.layout parts.place.region parts.tally.height parts.tally.counts image c.in-Some.intent (end - from) (c.requires.back.stands image (inl (told, refl))) pending_is
           (λ few. omega (arith, c.admit.ensures.unread few)) (omega (arith, c.admit.ensures.reads)),
     )
 
@@ -141,7 +144,7 @@ has_version layout image is = by_test (nat_le INTENT_VERSION layout.version) (in
     by_test false odd e is = absurd (true≢false (sym is))
 
 taken : (g : _) (c : After-admit g) → Told (g.S.Station.view c.args.station.now) → has_intent c.args.parts.now.place.layout (g.S.Station.view c.args.station.now).held ≡ true
-    → layout_in (g.S.Station.view c.args.station.now).held ≡ c.args.parts.now.place.layout → c.in-Ok-Some.intent ≡ items_in (intent_area (g.S.Station.view c.args.station.now).held)
+    → layout_in (g.S.Station.view c.args.station.now).held ≡ c.args.parts.now.place.layout → c.in-Some.intent ≡ items_in (intent_area (g.S.Station.view c.args.station.now).held)
     → (g.S.Station.view c.admit.new.station).travel.read ≤ (g.S.Station.view c.args.station.now).travel.read + intent_reads (g.S.Station.view c.args.station.now).held
 taken g c told some is same =
     let a = g.S.Station.view c.args.station.now in
@@ -150,20 +153,20 @@ taken g c told some is same =
     reads_by layout a.held a.travel.read (g.S.Station.view c.read_intent.new.station).travel.read (g.S.Station.view c.admit.new.station).travel.read is read.unread (read.gate_alone told) read.reads
     (λ low. absurd (omega (arith, low, has_version layout a.held some))) (λ none. absurd (true≢false (sym some ∙ none))) (looked g c told some is same)
 
-pub returns-in-Ok-clause-reads : goal.returns-in-Ok-clause-reads
-returns-in-Ok-clause-reads g c told =
-    let at = goal.at.returns-in-Ok-clause-reads g c in
-    taken g at.After-admit told (some g at.In-Ok-Some told) (layout_is g at.After-read_intent told) (items_are g at.In-Ok-Some told)
+pub returns-clause-reads : goal.returns-clause-reads
+returns-clause-reads g c told =
+    let at = goal.at.returns-clause-reads g c in
+    taken g at.After-admit told (some g at.In-Some told) (layout_is g at.After-read_intent told) (items_are g at.In-Some told)
 
-pub returns-in-Err-admit-clause-reads : goal.returns-in-Err-admit-clause-reads
-returns-in-Err-admit-clause-reads g c told =
-    let at = goal.at.returns-in-Err-admit-clause-reads g c in
-    taken g at.After-admit told (some g at.In-Ok-Some told) (layout_is g at.After-read_intent told) (items_are g at.In-Ok-Some told)
+pub returns-in_err-admit-clause-reads : goal.returns-in_err-admit-clause-reads
+returns-in_err-admit-clause-reads g c told =
+    let at = goal.at.returns-in_err-admit-clause-reads g c in
+    taken g at.After-admit told (some g at.In-Some told) (layout_is g at.After-read_intent told) (items_are g at.In-Some told)
 
 -- The calls.
 
 looked_in : (g : _) (c : After-admit g) → Told (g.S.Station.view c.args.station.now) → has_intent c.args.parts.now.place.layout (g.S.Station.view c.args.station.now).held ≡ true
-    → layout_in (g.S.Station.view c.args.station.now).held ≡ c.args.parts.now.place.layout → c.in-Ok-Some.intent ≡ items_in (intent_area (g.S.Station.view c.args.station.now).held)
+    → layout_in (g.S.Station.view c.args.station.now).held ≡ c.args.parts.now.place.layout → c.in-Some.intent ≡ items_in (intent_area (g.S.Station.view c.args.station.now).held)
     → (g.S.Station.view c.admit.new.station).calls ≤ (g.S.Station.view c.args.station.now).calls + intent_calls (g.S.Station.view c.args.station.now).held
 looked_in g c told some is same =
     let parts = c.args.parts.now in
@@ -173,7 +176,7 @@ looked_in g c told some is same =
     let end = (g.S.Station.view c.admit.new.station).calls in
     let pending_is = some_pending image (ap (λ (l : Layout). has_intent l image) is ∙ some) ∙ sym same in
     let look =
-    look_called parts.place.layout parts.place.region parts.tally.height parts.tally.counts image c.in-Ok-Some.intent (end - from) (c.requires.back.stands image (inl (told, refl))) pending_is
+    look_called parts.place.layout parts.place.region parts.tally.height parts.tally.counts image c.in-Some.intent (end - from) (c.requires.back.stands image (inl (told, refl))) pending_is
     (λ few. omega (arith, c.admit.ensures.uncalled few)) (omega (arith, c.admit.ensures.calls)) in
     omega (arith, calls_within parts.place.layout image (end - start) is (λ none. absurd (true≢false (sym some ∙ none))) (omega (arith, look, c.read_intent.ensures.calls)))
 
@@ -185,35 +188,38 @@ asked g c told =
     let read = c.read_intent.ensures in
     omega (arith, calls_within c.args.parts.now.place.layout (g.S.Station.view c.args.station.now).held (end - start) (layout_is g c told) (λ none. omega (arith, read.one_call told none)) (omega (arith, read.calls)))
 
-pub returns-in-Ok-None-clause-calls_told : goal.returns-in-Ok-None-clause-calls_told
-returns-in-Ok-None-clause-calls_told g c told = asked g (goal.at.returns-in-Ok-None-clause-calls_told g c).After-read_intent told
+pub returns-in_default-clause-calls_told : goal.returns-in_default-clause-calls_told
+returns-in_default-clause-calls_told g c told = asked g (goal.at.returns-in_default-clause-calls_told g c).After-read_intent told
 
-pub returns-in-Err-clause-calls_told : goal.returns-in-Err-clause-calls_told
-returns-in-Err-clause-calls_told g c told = asked g (goal.at.returns-in-Err-clause-calls_told g c).After-read_intent told
+pub returns-in_err-intent-clause-calls_told : goal.returns-in_err-intent-clause-calls_told
+returns-in_err-intent-clause-calls_told g c told = asked g (goal.at.returns-in_err-intent-clause-calls_told g c).After-read_intent told
 
-pub returns-in-Ok-clause-calls_told : goal.returns-in-Ok-clause-calls_told
-returns-in-Ok-clause-calls_told g c told =
-    let at = goal.at.returns-in-Ok-clause-calls_told g c in
-    looked_in g at.After-admit told (some g at.In-Ok-Some told) (layout_is g at.After-read_intent told) (items_are g at.In-Ok-Some told)
+pub returns-clause-calls_told : goal.returns-clause-calls_told
+returns-clause-calls_told g c told =
+    let at = goal.at.returns-clause-calls_told g c in
+    looked_in g at.After-admit told (some g at.In-Some told) (layout_is g at.After-read_intent told) (items_are g at.In-Some told)
 
-pub returns-in-Err-admit-clause-calls_told : goal.returns-in-Err-admit-clause-calls_told
-returns-in-Err-admit-clause-calls_told g c told =
-    let at = goal.at.returns-in-Err-admit-clause-calls_told g c in
-    looked_in g at.After-admit told (some g at.In-Ok-Some told) (layout_is g at.After-read_intent told) (items_are g at.In-Ok-Some told)
+pub returns-in_err-admit-clause-calls_told : goal.returns-in_err-admit-clause-calls_told
+returns-in_err-admit-clause-calls_told g c told =
+    let at = goal.at.returns-in_err-admit-clause-calls_told g c in
+    looked_in g at.After-admit told (some g at.In-Some told) (layout_is g at.After-read_intent told) (items_are g at.In-Some told)
 
 -- Its form is wrong, or the disk failed.
 
-pub returns-in-Err-clause-refused : goal.returns-in-Err-clause-refused
-returns-in-Err-clause-refused g c r is told =
-    form_wrong c.args.parts.now.place.layout (g.S.Station.view c.args.station.now).held (layout_is g (goal.at.returns-in-Err-clause-refused g c).After-read_intent told) r
-    (c.in-Err.ensures.refused told r (refused_back c.in-Err.fault r (sym c.of_header.ensures ∙ is)))
+pub returns-in_err-intent-clause-refused : goal.returns-in_err-intent-clause-refused
+returns-in_err-intent-clause-refused g c =
+    let p = err_from_is_err_and c.from_residual.result c.from_residual.ensures.1 in
+    rw (p.1, p.2) (λ r is told. form_wrong c.args.parts.now.place.layout (g.S.Station.view c.args.station.now).held (layout_is g (goal.at.returns-in_err-intent-clause-refused g c).After-read_intent told) r
+    (c.in_err-intent.ensures.refused told r (refused_back c.in_err-intent.field-0.0 r is)))
 
-pub returns-in-Err-clause-reads : goal.returns-in-Err-clause-reads
-returns-in-Err-clause-reads g c told = reads g (goal.at.returns-in-Err-clause-reads g c).After-read_intent told
+pub returns-in_err-intent-clause-reads : goal.returns-in_err-intent-clause-reads
+returns-in_err-intent-clause-reads g c told = reads g (goal.at.returns-in_err-intent-clause-reads g c).After-read_intent told
 
 caused : (fault : HeaderFault) → ((r : Reason) → fault ≡ header.NotStore r → (place : ℕ) × (r ≡ Intent place)) → IsIntentFault (fault_of fault)
 caused header.Failed reason = tt
 caused (header.NotStore r) reason = let named = reason r refl in λ early. subst IsEarly named.1 early
 
-pub returns-in-Err-clause-causes : goal.returns-in-Err-clause-causes
-returns-in-Err-clause-causes g c = subst IsIntentFault (sym c.of_header.ensures) (caused c.in-Err.fault c.in-Err.ensures.reason)
+pub returns-in_err-intent-clause-causes : goal.returns-in_err-intent-clause-causes
+returns-in_err-intent-clause-causes g c =
+    let p = err_from_is_err_and c.from_residual.result c.from_residual.ensures.1 in
+    rw (p.1, p.2) (caused c.in_err-intent.field-0.0 c.in_err-intent.ensures.reason)

@@ -37,7 +37,7 @@ loop-i-preserved c =
     let invariant = c.loop-i.invariant in
     let lt : i < length items = omega (arith, c.len-i-end.ensures.count, c.loop-i-test.true) in
     let item : update_of c.item-item.result ≡ get_or items i d = c.item-item.ensures d in
-    let size : c.item_len-place.result ≡ length (item_bytes (get_or items i d)) = c.item_len-place.ensures.size ∙ ap (λ (u : Update). length (item_bytes u)) item in
+    let size : c.len.result ≡ length (item_bytes (get_or items i d)) = c.len.ensures.size ∙ ap (λ (u : Update). length (item_bytes u)) item in
     let next : length (flat_map item_bytes (take (i + 1) items)) ≡ length (flat_map item_bytes (take i items)) + length (item_bytes (get_or items i d)) =
     ap (λ (n : ℕ). length (flat_map item_bytes (take n items))) (add-one i) ∙ place_next items i d lt in
     let room : meets_by (get_or items i d) present c.loop-i.records c.args.most ≡ false =
@@ -45,7 +45,7 @@ loop-i-preserved c =
     let behind : c.records_behind-records.result ≡ records_by (get_or items i d) present c.loop-i.records = c.records_behind-records.ensures ∙ ap (λ (u : Update). records_by u present c.loop-i.records) item in
     record {
       place_is = omega (arith, invariant.place_is, size, next);
-      place_low = omega (arith, invariant.place_low, c.item_len-place.ensures.most);
+      place_low = omega (arith, invariant.place_low, c.len.ensures.most);
       few = omega (arith, invariant.few, behind, records_most (get_or items i d) present c.loop-i.records);
       have = λ limit m counted. subst (λ (n : ℕ). HaveRoom limit m items n c.records_behind-records.result) (sym (add-one i))
           (room_now limit m items c.args.there.now c.args.most c.args.records i c.loop-i.records d lt c.len-i-end.ensures.intent.distinct counted (invariant.have limit m counted) room c.records_behind-records.result behind);

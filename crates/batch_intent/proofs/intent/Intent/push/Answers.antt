@@ -23,11 +23,11 @@ invariant_of-self c =
     let u = update_of c.args.item in
     let reads = kept_reads items bytes c.self.inside.end c.self.invariant in
     let few : length items < MOST_ITEMS = omega (arith, reads.count, c.from.ensures, c.if-from-ge-MOST_ITEMS.false) in
-    let other : has_item (key_of u) items ≡ false = ap (λ (k : List ℕ). has_item k items) (sym c.item_key.ensures) ∙ sym c.find_item.ensures ∙ c.if-find_item.false in
-    let fits : length (intent_bytes items) + length (item_bytes u) ≤ INTENT_SIZE = omega (arith, c.if-end-gt-INTENT_SIZE.false, c.item_len.ensures.size, c.self.invariant.end_is) in
-    let pushed = pushed_kept u bytes c.write_item.new.bytes c.self.inside.end c.self.invariant few other c.item_len.ensures.sizes fits (omega (arith, c.write_item.auto.bytes, c.self.told)) c.write_item.ensures.written c.write_item.ensures.rest in
+    let other : has_item (key_of u) items ≡ false = ap (λ (k : List ℕ). has_item k items) (sym c.key.ensures) ∙ sym c.find_item.ensures ∙ c.if-find_item.false in
+    let fits : length (intent_bytes items) + length (item_bytes u) ≤ INTENT_SIZE = omega (arith, c.if-end-gt-INTENT_SIZE.false, c.len.ensures.size, c.self.invariant.end_is) in
+    let pushed = pushed_kept u bytes c.write_item.new.bytes c.self.inside.end c.self.invariant few other c.len.ensures.sizes fits (omega (arith, c.write_item.auto.bytes, c.self.told)) c.write_item.ensures.written c.write_item.ensures.rest in
     let new = slice_set c.write_item.new.bytes 0 (byte bytes 0 + 1) in
-    subst (λ (n : ℕ). KeepsBy (items_in new) new (c.self.inside.end + n)) (sym c.item_len.ensures.size) pushed.1
+    subst (λ (n : ℕ). KeepsBy (items_in new) new (c.self.inside.end + n)) (sym c.len.ensures.size) pushed.1
 
 pub returns-clause-outcome : goal.returns-clause-outcome
 returns-clause-outcome c =
@@ -36,9 +36,9 @@ returns-clause-outcome c =
     let u = update_of c.args.item in
     let reads = kept_reads items bytes c.self.inside.end c.self.invariant in
     let few : length items < MOST_ITEMS = omega (arith, reads.count, c.from.ensures, c.if-from-ge-MOST_ITEMS.false) in
-    let other : has_item (key_of u) items ≡ false = ap (λ (k : List ℕ). has_item k items) (sym c.item_key.ensures) ∙ sym c.find_item.ensures ∙ c.if-find_item.false in
-    let fits : length (intent_bytes items) + length (item_bytes u) ≤ INTENT_SIZE = omega (arith, c.if-end-gt-INTENT_SIZE.false, c.item_len.ensures.size, c.self.invariant.end_is) in
-    let pushed = pushed_kept u bytes c.write_item.new.bytes c.self.inside.end c.self.invariant few other c.item_len.ensures.sizes fits (omega (arith, c.write_item.auto.bytes, c.self.told)) c.write_item.ensures.written c.write_item.ensures.rest in (
+    let other : has_item (key_of u) items ≡ false = ap (λ (k : List ℕ). has_item k items) (sym c.key.ensures) ∙ sym c.find_item.ensures ∙ c.if-find_item.false in
+    let fits : length (intent_bytes items) + length (item_bytes u) ≤ INTENT_SIZE = omega (arith, c.if-end-gt-INTENT_SIZE.false, c.len.ensures.size, c.self.invariant.end_is) in
+    let pushed = pushed_kept u bytes c.write_item.new.bytes c.self.inside.end c.self.invariant few other c.len.ensures.sizes fits (omega (arith, c.write_item.auto.bytes, c.self.told)) c.write_item.ensures.written c.write_item.ensures.rest in (
       ap (λ (us : List Update). push_fault us u) (sym c.self.view_is) ∙ no_fault items u few other fits,
       pushed.0 ∙ ap (λ (us : List Update). us ++ u ∷ []) c.self.view_is,
     )
