@@ -25,8 +25,9 @@ pub fn close_index<S: Station>(station: &mut S) -> Result<(), Failed>
     ensures clean { KeepsClean (S.view station.old) (S.view station.new) }
     // On Ok the clean gate is even if the file has an index and there is no reason against its header.
     ensures shut { OnOk result (Told (S.view station.old) → header_reason (S.view station.old).held ≡ None → IsShut (S.view station.new).held) }
-    // On Ok nothing is pending, if nothing was.
+    // On Ok nothing is pending, if nothing was, or if the index was open.
     ensures settled { OnOk result (NothingPending (S.view station.old) → NothingPending (S.view station.new)) }
+    ensures synced { OnOk result (Told (S.view station.old) → IsOpenIndex (S.view station.old).held → NothingPending (S.view station.new)) }
     // Whatever is answered, a file that the header refuses, one without an index and one with an even clean gate keep every byte
     // at every moment, and nothing is written.
     ensures kept { Told (S.view station.old) → ¬ IsOpenIndex (S.view station.old).held → LeavesFile (S.view station.old) (S.view station.new) }

@@ -11,6 +11,7 @@ use Rattle.station.proofs.Composition.{andthen, each_held, no_steps, weaken}
 use Rattle.station.proofs.Sayings.{leaves_in, leaves_on, run_of_steps, run_on}
 use Rattle.line_source.specs.Lines.{raw_lines}
 use Rattle.line_source.specs.SourceView.{SourceView, SourceTold}
+use Rattle.header_gate.specs.Header.{layout_in}
 use Rattle.header_gate.specs.declared.layout.Layout.{Layout}
 use Rattle.header_gate.specs.declared.layout.TheConstants.{PAIRED}
 use Rattle.header_gate.specs.InPlace.{IsBare}
@@ -33,7 +34,7 @@ use Rattle.pma_engine.specs.Carrying.{layout_on, session_in}
 use Rattle.pma_engine.specs.Closing.{LeavesIndex, StaysShut, ending_cost, leaving_calls, leaving_cost}
 use Rattle.pma_engine.specs.Ending.{EndsRun, IsSettledStatus}
 use Rattle.pma_engine.specs.Outcome.{IsRunStatus, RunsOpened, Serves, ServesScript, fresh_session}
-use Rattle.pma_engine.specs.Serving.{AsksNothing, EndsServed, IsAtState, IsStopped, ScriptPair, StopsRun, fresh_reader}
+use Rattle.pma_engine.specs.Serving.{AsksNothing, HasLayout, EndsServed, IsAtState, IsStopped, ScriptPair, StopsRun, fresh_reader}
 use Rattle.pma_engine.specs.Costs.{session_cost}
 use Rattle.pma_engine.specs.Session.{IsPartSaid, replies_after}
 use Rattle.pma_engine.specs.declared.status.TheConstants.{DONE, REFUSED, DISK_FAULT, SCRIPT_FAULT, REPLY_FAULT, OUT_OF_MEMORY, TOO_LONG}
@@ -358,8 +359,8 @@ serves_stopped {status} {most} {l} {x} {s0} {s1} {a} {b} is serves = record {
     other n refused disk e = elim is [ inl k ↦ refused (sym e ∙ k) | inr k ↦ disk (sym e ∙ k) ]
 
 pub runs_stopped : (status most : ℕ) (s : StoreView) (s0 s1 : SourceView) (a b : View) → (status ≡ REFUSED) ⊎ (status ≡ DISK_FAULT) → EachHeld IsShut a → ServesScript status most (layout_on s) (session_in (fresh_session s) a.held) s0 s1 a b → StaysShut a b
-    → (AsksNothing (layout_on s).format s0 → b.travel ≡ a.travel) → RunsOpened status most s s0 s1 a b
-runs_stopped status most s s0 s1 a b is shut serves stays unread = record {
+    → (AsksNothing (layout_on s).format s0 → b.travel ≡ a.travel) → HasLayout (layout_on s) a b → RunsOpened status most s s0 s1 a b
+runs_stopped status most s s0 s1 a b is shut serves stays unread kept = record {
   serves = serves_stopped is serves;
   clean = keeps_staying (λ told. ap (λ (f : Fixed). f.tells_held) serves.run.fixed ∙ told) shut stays;
   left = λ e. absurd (elim is [ inl k ↦ omega (arith, e, k) | inr k ↦ omega (arith, e, k) ]);
@@ -368,11 +369,12 @@ runs_stopped status most s s0 s1 a b is shut serves stays unread = record {
     | inr k ↦ elim cut [ inl i ↦ omega (arith, i, k) | inr (inl i) ↦ omega (arith, i, k) | inr (inr i) ↦ omega (arith, i, k) ]
   ]);
   unread = λ asks. ap (λ (t : Travel). t.read) (unread asks);
+  kept = kept;
 }
 
 -- and one that was ended
 module _ (status served most : ℕ) (s t : StoreView) (s0 s1 : SourceView) (a b c : View) (law : Lawful a) (shut : EachHeld IsShut a) (serves : ServesScript served most (layout_on s) (session_in (fresh_session s) a.held) s0 s1 a b) (is : IsSettledStatus served) (opened : IsOpenOn t b)
-    (layout : t.place.layout ≡ layout_on s) (stays : StaysShut a b) (unread : AsksNothing (layout_on s).format s0 → b.travel ≡ a.travel) (ends : EndsRun served status t b c) where
+    (layout : t.place.layout ≡ layout_on s) (stays : StaysShut a b) (unread : AsksNothing (layout_on s).format s0 → b.travel ≡ a.travel) (kept : HasLayout (layout_on s) a b) (ends : EndsRun served status t b c) where
   on_end : Told a → Told b
   on_end told = ap (λ (f : Fixed). f.tells_held) serves.run.fixed ∙ told
 
@@ -398,4 +400,8 @@ module _ (status served most : ℕ) (s t : StoreView) (s0 s1 : SourceView) (a b 
       | inr (inr k) ↦ cut_is REPLY_FAULT (λ i. omega (arith, i)) (λ i. omega (arith, i)) k
     ]) (on_end told);
     unread = λ asks. ends.unread ∙ ap (λ (t : Travel). t.read) (unread asks);
+    kept = record {
+      held = λ told. (ends.steps.held (on_end told)).0 ∙ layout;
+      moments = leaves_on (λ image said. layout_in image ≡ layout_on s) serves.run.fixed serves.run.calls kept.moments ends.steps.moments (λ honest image said is. is) (λ honest image said now. now.1.2.0 ∙ layout);
+    };
   }

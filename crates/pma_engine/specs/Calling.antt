@@ -17,7 +17,7 @@ use Rattle.pma_store.specs.Damaging.{picked}
 use Rattle.pma_store.specs.Store.{StoreView}
 
 -- that many calls are those of an update, by what the kept counts ask for in one segment, to which the key belongs; the first one
--- reads that segment
+-- reads that segment, and where they ask for nothing the commit makes nine behind it, at version 4 six
 pub record IsForUpdate (change : Change) (key : Bytes) (s : StoreView) (a : View) (calls : ℕ) : Type 0 where
   pub at : ℕ
   pub within : at < 2 ^ s.tally.height

@@ -7,7 +7,7 @@ use Rattle.header_gate.specs.Header.{clean_gate}
 use Rattle.header_gate.specs.declared.layout.Layout.{Layout}
 use Rattle.header_gate.specs.declared.layout.TheConstants.{INDEXED}
 use Rattle.recovery.specs.Restores.{LeavesFile}
-use Rattle.index_file.specs.Clean.{IsCleanPlace, IsLeft, IsOpenIndex, IsShut, Leaves}
+use Rattle.index_file.specs.Clean.{IsClean, IsCleanPlace, IsLeft, IsOpenIndex, IsShut, Leaves}
 use Rattle.index_file.specs.Reading.{area_calls}
 use Rattle.pma_store.specs.Calling.{clear_calls}
 use Rattle.pma_store.specs.Readying.{clear_cost}
@@ -30,6 +30,15 @@ pub record ClosesAtMost (a b : View) : Type 0 where
   pub steps : Steps (Touched IsCleanPlace) a b
   pub kept : Told a → (IsOpenIndex a.held → ⊥) → LeavesFile a b
   pub most : b.travel.written ≤ a.travel.written + 1
+
+-- No byte but the clean gate is changed before that gate is even, whether the file was clean or not.
+pub record ClosesFirst (a b : View) : Type 0 where
+  -- the bytes held at the return are those at the entry but for the clean gate, or clean, if the station tells them
+  pub held : Told a → Touched IsCleanPlace a.held b.held ⊎ IsClean b.held
+  -- and whatever a crash leaves at any moment is clean, or an image that one might have left at the entry but for the clean gate; if
+  -- nothing is pending there, or the index of the bytes that are held there is open
+  pub moments : NothingPending a ⊎ (Told a × IsOpenIndex a.held) →
+      LeavesOnly (λ image said. (start : List ℕ) × a.may_leave start × (Touched IsCleanPlace start image ⊎ IsClean image)) a b
 
 -- an index that means nothing means nothing at every moment, and after it
 pub record StaysShut (a b : View) : Type 0 where

@@ -4,6 +4,7 @@ ghost use Rattle.std.specs.Prelude.{◌≡◌, None, Some, false};
 ghost use Rattle.station.specs.View.{NamedBy, NothingPending, Rose};
 ghost use Rattle.index_file.specs.Clean.{KeepsClean};
 ghost use Rattle.pma_store.specs.Store.{IsOpenOn};
+ghost use Rattle.pma_engine.specs.Closing.{ClosesFirst};
 ghost use Rattle.pma_engine.specs.Dumping.{DumpsFile, DumpsOpened, IsDumpStatus};
 
 use crate::attaching::{end_unopened, open_file};
@@ -28,6 +29,7 @@ pub(crate) fn dump_file<S: Station>(alloc: Global, station: &mut S, name: &str) 
     ensures status { IsDumpStatus result }
     ensures attached { (S.view station.new).attached ≡ Some false }
     ensures clean { KeepsClean (S.view station.old) (S.view station.new) }
+    ensures closes { ClosesFirst (S.view station.old) (S.view station.new) }
     ensures dumped { DumpsFile result (S.view station.old) (S.view station.new) }
     ensures disk { result ≡ DISK_FAULT → Rose (S.view station.old).disk_faults (S.view station.new).disk_faults }
     ensures reply { result ≡ REPLY_FAULT → Rose (S.view station.old).say_faults (S.view station.new).say_faults }

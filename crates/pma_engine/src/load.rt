@@ -8,7 +8,7 @@ ghost use Rattle.header_gate.specs.InPlace.{IsBare};
 ghost use Rattle.index_file.specs.Clean.{KeepsClean};
 ghost use Rattle.pma_store.specs.Readying.{clear_cost};
 ghost use Rattle.pma_store.specs.Store.{IsOpenOn};
-ghost use Rattle.pma_engine.specs.Closing.{StaysShut};
+ghost use Rattle.pma_engine.specs.Closing.{ClosesFirst, StaysShut};
 ghost use Rattle.pma_engine.specs.Jobs.{TakesNothing};
 ghost use Rattle.pma_engine.specs.Loading.{LoadsFile, LoadsOpened, IsLoadStatus, line_of_load, status_of_load};
 ghost use Rattle.pma_engine.specs.Refusing.{SaysLine, line_text};
@@ -41,6 +41,7 @@ pub(crate) fn load_file<I: Source, S: Station>(
     ensures status { IsLoadStatus result }
     ensures attached { (S.view station.new).attached ≡ Some false }
     ensures clean { KeepsClean (S.view station.old) (S.view station.new) }
+    ensures closes { ClosesFirst (S.view station.old) (S.view station.new) }
     ensures loaded { LoadsFile result most (I.view source.old) (I.view source.new) (S.view station.old) (S.view station.new) }
     ensures untaken { TakesNothing (Some Load) result (S.view station.old) → source.new ≡ source.old }
     ensures disk { result ≡ DISK_FAULT → Rose (S.view station.old).disk_faults (S.view station.new).disk_faults }

@@ -7,7 +7,7 @@ ghost use Rattle.header_gate.specs.InPlace.{IsBare};
 ghost use Rattle.index_file.specs.Clean.{KeepsClean};
 ghost use Rattle.pma_store.specs.Readying.{clear_cost};
 ghost use Rattle.pma_store.specs.Store.{IsOpenOn};
-ghost use Rattle.pma_engine.specs.Closing.{StaysShut};
+ghost use Rattle.pma_engine.specs.Closing.{ClosesFirst, StaysShut};
 ghost use Rattle.pma_engine.specs.Refusing.{SaysLine, line_text};
 ghost use Rattle.pma_engine.specs.Upgrading.{UpgradesFile, UpgradesOpened, IsUpgradeStatus, line_of_upgrade, status_of_upgrade};
 
@@ -35,6 +35,7 @@ pub(crate) fn upgrade_file<S: Station>(alloc: Global, station: &mut S, name: &st
     ensures status { IsUpgradeStatus result }
     ensures attached { (S.view station.new).attached ≡ Some false }
     ensures clean { KeepsClean (S.view station.old) (S.view station.new) }
+    ensures closes { ClosesFirst (S.view station.old) (S.view station.new) }
     ensures upgraded { UpgradesFile result (S.view station.old) (S.view station.new) }
     ensures disk { result ≡ DISK_FAULT → Rose (S.view station.old).disk_faults (S.view station.new).disk_faults }
 {

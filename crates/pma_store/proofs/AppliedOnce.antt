@@ -1,5 +1,5 @@
 -- The outcome of a batch that was committed at once.
-use Rattle.std.proofs.Common.{◌≡◌, inl, inr, ℕ, ◌+◌, ◌*◌, ◌^◌, ◌<◌, ◌≤◌, ◌&&◌, nat_le, cond, Bool, true, List, [], length, Option, Some, None, is_some, is_none, Ok, Err, refl, sym, ap, subst, ◌∙◌, arith}
+use Rattle.std.proofs.Common.{◌≡◌, inl, inr, ℕ, ◌+◌, ◌-◌, ◌*◌, ◌^◌, ◌<◌, ◌≤◌, ◌&&◌, nat_le, cond, Bool, true, List, [], length, Option, Some, None, is_some, is_none, Ok, Err, refl, sym, ap, subst, ◌∙◌, arith}
 use Rattle.std.proofs.lemmas.Bool.Decides.{nat_tests}
 use Rattle.std.proofs.lemmas.List.{take_all}
 use Rattle.std.proofs.lemmas.Nat.{pow_pos}
@@ -38,10 +38,12 @@ use Rattle.pma_store.specs.Answers.{state_in}
 use Rattle.pma_store.specs.AtOnce.{CommitsEdits, CommitsFrames, CommitsPages}
 use Rattle.pma_store.specs.Batching.{AppliesBatch, MakesAtOnce, done_by, items_made, map_after_batch, version_of}
 use Rattle.pma_store.specs.BatchCalls.{CallsBatch, LooksOnce}
+use Rattle.pma_store.specs.Calling.{runs_calls}
 use Rattle.pma_store.specs.Changing.{most_written}
 use Rattle.pma_store.specs.Costing.{updates_cost, WritesSome}
 use Rattle.pma_store.specs.Validating.{counts_of as counts_validated, edits_of, validated_of, total}
 use Rattle.pma_store.specs.Once.{edited_segments}
+use Rattle.pma_store.specs.Rewrites.{spared_bytes}
 use Rattle.pma_store.specs.Store.{StoreView, Stands, limit_of}
 use Rattle.pma_store.proofs.BatchCalls.{commit_behind, runs_few}
 use Rattle.pma_store.proofs.Batched.{fault_batch}
@@ -52,6 +54,7 @@ use Rattle.pma_store.proofs.Effects.{charges_edits, costs_edits, edits_in}
 use Rattle.pma_store.proofs.Making.{no_fault, stands_again}
 use Rattle.pma_store.proofs.OnceLaws.{used_few}
 use Rattle.pma_store.proofs.Outcomes.{has_is}
+use Rattle.pma_store.proofs.Sums.{counts_once}
 
 -- Products, and sums with them.
 
@@ -111,7 +114,7 @@ module _ {a : View} (items : List Update) (s : StoreView) (numbers : List ℕ) (
         let own = costs_edits s.place.layout (state_in s a.held) items no_items (holds items s numbers b look validated changes ready told) (balanced items s numbers b look validated changes ready told) room in
         omega (arith, times_up (8196 * s.place.layout.format) look.count (edits_of validated) few, own, ap (λ (n : ℕ). 8196 * s.place.layout.format * n) edits)
 
-    writes : (c : View) → c.travel.written ≤ a.travel.written + (8196 * s.place.layout.format * look.count + 6) → WritesSome s.place.layout (state_in s a.held) (items_made (version_of s) (limit_of s) (map_of a.held) items) (a.travel.written + 514) c.travel.written
+    writes : (c : View) → c.travel.written ≤ a.travel.written + (8196 * s.place.layout.format * look.count + 6 - spared_bytes s.place.layout) → WritesSome s.place.layout (state_in s a.held) (items_made (version_of s) (limit_of s) (map_of a.held) items) (a.travel.written + 514) c.travel.written
     writes c cost = subst (λ (us : List Update). WritesSome s.place.layout (state_in s a.held) us (a.travel.written + 514) c.travel.written) (sym all_items) (record {
       made = length items;
       some = omega arith;
@@ -122,14 +125,14 @@ module _ {a : View} (items : List Update) (s : StoreView) (numbers : List ℕ) (
   few_runs : run_count b.numbers ≤ look.count
   few_runs = omega (arith, ap run_count ready.loaded.held.pages, runs_few s.place.layout.format (segments_in s.place.layout.format b.numbers), ready.loaded.count_is)
 
-  pub once_looked : {start c : View} (looked : LooksOnce items s.tally.height start a) → look.count ≤ length looked.looked → (Told start → look.count ≤ length (edited_segments (array_of start.held) items)) → c.calls ≤ a.calls + (8 + run_count b.numbers) → CallsBatch items s start c
+  pub once_looked : {start c : View} (looked : LooksOnce items s.tally.height start a) → look.count ≤ length looked.looked → (Told start → look.count ≤ length (edited_segments (array_of start.held) items)) → c.calls ≤ a.calls + runs_calls s.place.layout (run_count b.numbers) → CallsBatch items s start c
   once_looked looked few_looked used calls = commit_behind items s (run_count b.numbers) looked (omega (arith, few_runs, few_looked)) (λ told. omega (arith, few_runs, used told)) calls
 
   -- no more segments than the items edit
   pub few_used : Told a → look.count ≤ length (edited_segments (array_of a.held) items)
   few_used told = omega (arith, ready.loaded.count_is, used_few s.place.layout (array_of a.held) items b look.whole ready.loaded.held (ready.used told))
 
-  once_made : {c : View} → Steps (CommitsPages s.place look.count b) a c → c.travel.written ≤ a.travel.written + (8196 * s.place.layout.format * look.count + 6) → (look.count ≡ 0 → c.travel.written ≡ a.travel.written) → Told a → MakesAtOnce items s a c
+  once_made : {c : View} → Steps (CommitsPages s.place look.count b) a c → c.travel.written ≤ a.travel.written + (8196 * s.place.layout.format * look.count + 6 - spared_bytes s.place.layout) → (look.count ≡ 0 → c.travel.written ≡ a.travel.written) → Told a → MakesAtOnce items s a c
   once_made steps cost none told =
       let edited = edited_segments (array_of a.held) items in
       record {
@@ -254,6 +257,9 @@ module _ {a : View} (items : List Update) (s : StoreView) (numbers : List ℕ) (
         calls = once_looked looked few_looked few_used commits.frames.calls;
         at_once = λ told are. once_made commits.frames.steps commits.frames.cost commits.frames.none told;
         paid = omega (arith, commits.paid, ready.fits.listed, all);
+        counted =
+            counts_once items _ s.tally.height (2 * edits_of validated) changes s.tally.counts tally.counts (counts_validated validated)
+            (λ k d lt. omega (arith, ready.fits.in_store k d lt, ready.store.tally.size)) ready.fits.fit ready.fits.counted ready.fits.counts_are (ap (λ (t : TallyView). t.counts) commits.counted);
         met = tt;
         complete = λ told calm. refl;
       };

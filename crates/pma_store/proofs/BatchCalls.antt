@@ -22,6 +22,7 @@ use Rattle.segment_frames.proofs.PageNumbers.{call_few}
 use Rattle.window_tally.specs.View.{TallyView}
 use Rattle.pma_store.specs.Answers.{state_in}
 use Rattle.pma_store.specs.BatchCalls.{AreForItems, AreOwnSegments, CallsBatch, CallsIntent, IsForItem, IsForItems, LooksOnce}
+use Rattle.pma_store.specs.Calling.{runs_calls}
 use Rattle.pma_store.specs.Looked.{BelongThere, ReadsOnce}
 use Rattle.pma_store.specs.Once.{AreOneCommit, edited_segments}
 use Rattle.pma_store.specs.Store.{StoreView}
@@ -163,16 +164,16 @@ runs_few format (n ∷ ns) = omega (arith, run_count_joined (format * n) format 
 -- the keys were looked for alone
 pub look_alone : {a b : View} (items : List Update) (s : StoreView) → LooksOnce items s.tally.height a b → CallsBatch items s a b
 look_alone items s looks = record {
-  calls = length looks.looked + 8;
-  is_for = record { looked = looks.looked; are_own = looks.are_own; behind = 8; is_for = inl (record { runs = 0; few = omega arith; is = omega arith }); is = refl; at_once = λ told are. record { runs = 0; few = omega arith; is = omega arith } };
+  calls = length looks.looked + runs_calls s.place.layout 0;
+  is_for = record { looked = looks.looked; are_own = looks.are_own; behind = runs_calls s.place.layout 0; is_for = inl (record { runs = 0; few = omega arith; is = refl }); is = refl; at_once = λ told are. record { runs = 0; few = omega arith; is = refl } };
   most = omega (arith, looks.most);
 }
 
 -- and then a commit was made
-pub commit_behind : {a b c : View} (items : List Update) (s : StoreView) (runs : ℕ) (looks : LooksOnce items s.tally.height a b) → runs ≤ length looks.looked → (Told a → runs ≤ length (edited_segments (array_of a.held) items)) → c.calls ≤ b.calls + (8 + runs) → CallsBatch items s a c
+pub commit_behind : {a b c : View} (items : List Update) (s : StoreView) (runs : ℕ) (looks : LooksOnce items s.tally.height a b) → runs ≤ length looks.looked → (Told a → runs ≤ length (edited_segments (array_of a.held) items)) → c.calls ≤ b.calls + runs_calls s.place.layout runs → CallsBatch items s a c
 commit_behind items s runs looks few used most = record {
-  calls = length looks.looked + (8 + runs);
-  is_for = record { looked = looks.looked; are_own = looks.are_own; behind = 8 + runs; is_for = inl (record { runs = runs; few = few; is = refl }); is = refl; at_once = λ told are. record { runs = runs; few = used told; is = refl } };
+  calls = length looks.looked + runs_calls s.place.layout runs;
+  is_for = record { looked = looks.looked; are_own = looks.are_own; behind = runs_calls s.place.layout runs; is_for = inl (record { runs = runs; few = few; is = refl }); is = refl; at_once = λ told are. record { runs = runs; few = used told; is = refl } };
   most = omega (arith, looks.most, most);
 }
 

@@ -1,6 +1,6 @@
 -- The outcome of a batch, at each way out of the calls that make it.
-use Rattle.std.proofs.Common.{◌^◌, ◌⊎◌, ◌≡◌, inl, inr, ℕ, ◌+◌, ◌*◌, ◌<◌, ◌≤◌, ◌&&◌, nat_le, cond, Bool, true, false, T, List, [], length, Option, Some, None, is_some, is_none, Result, Ok, Err, refl, sym, ap, subst, ◌∙◌, arith}
-use Rattle.std.specs.Prelude.{IfOk, IsErrOf, IsOk}
+use Rattle.std.proofs.Common.{◌^◌, ◌⊎◌, ◌≡◌, inl, inr, ℕ, ◌+◌, ◌-◌, ◌*◌, ◌<◌, ◌≤◌, ◌&&◌, nat_le, cond, Bool, true, false, T, List, [], length, Option, Some, None, is_some, is_none, Result, Ok, Err, refl, sym, ap, subst, ◌∙◌, arith}
+use Rattle.std.specs.Prelude.{IfOk, IsErrOf, IsOk, sum}
 use Rattle.std.proofs.lemmas.Result.{IfOk-weaker, IfErr-weaker, on_ok_weaker}
 use Rattle.std.specs.List.{list_all}
 use Rattle.std.proofs.lemmas.Bool.Decides.{nat_tests}
@@ -24,7 +24,7 @@ use Rattle.segment.specs.declared.fault.StoreFault.TheVariants.{Failed}
 use Rattle.pma_store.specs.declared.answers.Batch.{Batch}
 use Rattle.pma_store.specs.declared.answers.Batch.TheVariants.{Done, Full, NoBatch}
 use Rattle.pma_store.specs.Answers.{state_in}
-use Rattle.pma_store.specs.Batching.{AppliesBatch, MakesAtOnce, IsBatchPlace, IsRefusal, batch_answer, charge_in, done_by, intent_cost_in, items_made, map_after_batch, version_of}
+use Rattle.pma_store.specs.Batching.{AppliesBatch, CountsBatch, MakesAtOnce, IsBatchPlace, IsRefusal, batch_answer, charge_in, done_by, intent_cost_in, items_made, map_after_batch, version_of}
 use Rattle.pma_store.specs.BatchCalls.{CallsBatch, CallsIntent, LooksOnce}
 use Rattle.pma_store.specs.Costing.{most_of, updates_cost, WritesSome}
 use Rattle.pma_store.specs.Items.{IsItemPlace, MakesItems}
@@ -33,6 +33,7 @@ use Rattle.pma_store.specs.Damaging.{IsMetLooking, IsMetMid}
 use Rattle.pma_store.specs.Looking.{TellsOther}
 use Rattle.pma_store.specs.Meaning.{BecomesMeant}
 use Rattle.pma_store.specs.Once.{AreOneCommit, edited_segments}
+use Rattle.pma_store.specs.Rewrites.{spared_bytes}
 use Rattle.pma_store.specs.Store.{StoreView, Stands, StandsOn, IsOpenOn, limit_of}
 use Rattle.pma_store.proofs.BatchCalls.{are_from, intent_alone, look_alone, no_looks}
 use Rattle.pma_store.proofs.Making.{no_fault, same_fault, stands_again, stands_on, stands_there}
@@ -70,6 +71,7 @@ fault_batch {a} {c} items fault s t meant touched layout closed most spent calls
     calls = calls;
     at_once = at_once;
     paid = tt;
+    counted = tt;
     met = met;
     complete = fails_by a c fault damaged failed;
   };
@@ -123,6 +125,7 @@ module _ {a c : View} (items : List Update) (s : StoreView) (law : Lawful a) (is
       calls = look_alone items s looks;
       at_once = still_once;
       paid = omega (arith, nothing done refusal);
+      counted = as_many done refusal (sum s.tally.counts);
       met = tt;
       complete = λ told calm. refl;
     };
@@ -138,6 +141,11 @@ module _ {a c : View} (items : List Update) (s : StoreView) (law : Lawful a) (is
       nothing (Done stored replaced removed absent charge) refusal = absurd refusal
       nothing (Full most) refusal = refl
       nothing NoBatch refusal = refl
+
+      as_many : (done : Batch) → IsRefusal done → (records : ℕ) → CountsBatch items done records records
+      as_many (Done stored replaced removed absent charge) refusal records = absurd refusal
+      as_many (Full most) refusal records = refl
+      as_many NoBatch refusal records = refl
 
 -- a file of a version without batches
 pub no_batch : {a : View} (items : List Update) (s : StoreView) → IsOpenOn s a → Lawful a → Steps Same a a → version_of s < INTENT_VERSION → AppliesBatch items (Ok NoBatch) s s a a
@@ -221,10 +229,11 @@ validated_then {a} {b} {c} items r s t is law first unwritten looks calls some a
             let own = made.at_once (told_on_b told) (subst (λ (x : List ℕ). AreOneCommit s.place.layout (state_in s x) items) (sym same) are) in
             record {
               touched = on_same first own.touched (λ d. untouched d d refl);
-              written = subst (λ (x : List ℕ). c.travel.written ≤ a.travel.written + (8196 * s.place.layout.format * length (edited_segments (array_of x) items) + 6)) same (omega (arith, own.written, unwritten));
+              written = subst (λ (x : List ℕ). c.travel.written ≤ a.travel.written + (8196 * s.place.layout.format * length (edited_segments (array_of x) items) + 6 - spared_bytes s.place.layout)) same (omega (arith, own.written, unwritten));
               unwritten = λ none. own.unwritten (subst (λ (x : List ℕ). edited_segments (array_of x) items ≡ []) (sym same) none) ∙ unwritten;
             };
         paid = made.paid;
+        counted = made.counted;
         met = IfErr-weaker r _ _ (λ fault met. elim met [ inl disk ↦ inl disk | inr more ↦ elim more [ inl looked ↦ inr (inl (looked.0, looked.1 ∙ unwritten)) | inr mid ↦ inr (inr mid) ] ]) made.met;
         complete = λ told calm. made.complete (told_on_b told) (λ rose. calm (omega (arith, rose, first.frame.disk_faults)));
       };
@@ -327,8 +336,8 @@ module _ {a b : View} (items : List Update) (s : StoreView) (is : IsOpenOn s a) 
         (run_most t (Err fault) law_b settled opened cost makes) (omega (arith, makes.spent, cost)) (intent_alone items s (intent_called t (Err fault) four makes) unfit) (λ told are. absurd (unfit told are)) (λ told. makes.damaged (told_on writes.frame told)) makes.counted (elim makes.met [ inl disk ↦ inl disk | inr mid ↦ inr (inr mid) ])
         (λ failed. omega (arith, makes.failed (same_fault fault (λ e. e) failed), writes.frame.disk_faults))
 
-    pub whole_batch : (charge : ℕ) → MakesItems items (Ok charge) s t b c → AppliesBatch items (Ok (done_by counts charge)) s t a c
-    whole_batch charge makes = record {
+    pub whole_batch : (charge : ℕ) → CountsBatch items (done_by counts charge) (sum s.tally.counts) (sum t.tally.counts) → MakesItems items (Ok charge) s t b c → AppliesBatch items (Ok (done_by counts charge)) s t a c
+    whole_batch charge counted makes = record {
       batch = record {
         answer = λ told.
             let facts_here = facts told in
@@ -353,6 +362,7 @@ module _ {a b : View} (items : List Update) (s : StoreView) (is : IsOpenOn s a) 
         calls = intent_alone items s (intent_called t (Ok charge) four makes) unfit;
         at_once = λ told are. absurd (unfit told are);
         paid = makes.paid;
+        counted = counted;
         met = tt;
         complete = λ told calm. refl;
       };

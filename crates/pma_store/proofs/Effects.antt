@@ -25,6 +25,7 @@ use Rattle.one_commit.proofs.Alike.{both_true, neither_true, not_true}
 use Rattle.pma_store.specs.Changing.{most_written, window_cost, effect_outcome}
 use Rattle.pma_store.specs.Costing.{report_cost, update_cost_in, updates_cost}
 use Rattle.pma_store.specs.Charging.{changes}
+use Rattle.pma_store.proofs.ClearCosts.{spared_few}
 
 -- how many of the items edit a segment, by what they do
 abbrev pub edits_in : ItemCounts → ℕ
@@ -76,11 +77,11 @@ least_cost : (l : Layout) (height : ℕ) (r : UpdateReport) → 8196 * l.format 
 least_cost l height r = by r.resized r.spread
   where
     windows : (w : Option Window) → 8196 * l.format ≤ window_cost l w
-    windows None = omega arith
+    windows None = omega (arith, spared_few l)
     windows (Some w) = let some = pow_pos w.height in let split : most_written l w.height ≡ (65568 * l.format + 24) * 2 ^ w.height = refl in omega (arith, split, times_up (65568 * l.format + 24) 1 (2 ^ w.height) some)
 
     by : (b : Bool) (w : Option Window) → 8196 * l.format ≤ report_cost l height (record { spread = w; cause = r.cause; resized = b })
-    by true w = omega arith
+    by true w = omega (arith, spared_few l)
     by false w = windows w
 
 has_one : (l : Layout) (s : ArrayState) (u : Update) → HoldsMap (height_limit l) s.map s.height s.array → meets_full (height_limit l) s.map u ≡ false → 8196 * l.format * one u (contains_key s.map (key_of u)) ≤ update_cost_in l s u

@@ -1,6 +1,6 @@
 -- What an update meets, from the finding of its location on.
 use Rattle.std.proofs.Common.{◌≡◌, inl, inr, ℕ, zero, suc, ◌+◌, ◌^◌, ◌<◌, ◌≤◌, [], ◌∷◌, length, take, get_or, Bool, true, false, List, Result, Ok, Err, refl, sym, ap, subst, ◌∙◌, arith}
-use Rattle.std.specs.Prelude.{IfErr, IsSome}
+use Rattle.std.specs.Prelude.{IfErr, IsSome, sum}
 use Rattle.std.proofs.lemmas.List.{get_or_default}
 use Rattle.std.proofs.lemmas.Result.{IfErr-weaker, IfOk-weaker, on_err_weaker}
 use Rattle.station.specs.View.{View}
@@ -22,6 +22,7 @@ use Rattle.pma_store.specs.Updating.{need_of}
 use Rattle.pma_store.proofs.Making.{quiet_report}
 use Rattle.pma_store.specs.Answers.{reported}
 use Rattle.pma_store.specs.Calling.{commit_calls, update_calls}
+use Rattle.pma_store.specs.Counting.{SumsIf}
 use Rattle.pma_store.specs.Damaging.{AreNextTallies, IsMetBehind, IsMetLate, IsMetMid, IsNextTally, IsOrderly, MeetsItem, UpdatesAt, UpdatesIn, change_in, moved, picked, report_at}
 use Rattle.pma_store.specs.Readying.{broken_in, readied, resizes}
 use Rattle.pma_store.specs.Rewrites.{commit_cost}
@@ -50,6 +51,7 @@ first_met u fault changed_in report_in s t rows found orderly = record {
   own = found.at_own;
   report = tt;
   counts = tt;
+  sums = tt;
   met = inl (record { damage = found.damage; read = found.read }, orderly);
   asked = omega (arith, found.calls);
   calls = tt;
@@ -69,6 +71,7 @@ module _ {T : Type 0} {a b c : View} (u : Update) (location : Location) (r : Res
     own = found.at_own;
     report = updates_at.report;
     counts = updates_at.counts;
+    sums = updates_at.sums;
     met = IfErr-weaker r _ _ (λ fault late. inr late) updates_at.late;
     asked = omega (arith, updates_at.asked, found.calls);
     calls = IfOk-weaker r _ _ (λ done calls. omega (arith, calls, found.calls)) updates_at.calls;
@@ -86,6 +89,7 @@ met_as {T} {U} {a} {b} u x y changed_x changed_y in_x in_y s t changed same met 
   own = met.own;
   report = ap (λ (r : Report). reported r) (sym same) ∙ met.report ∙ ap (λ (b : Bool). report_at b (change_in u) met.at s.tally) changed;
   counts = met.counts;
+  sums = subst (λ (b : Bool). SumsIf b (change_in u) (sum s.tally.counts) (sum t.tally.counts)) changed met.sums;
   met = tt;
   asked = met.asked;
   calls = subst (λ (r : Report). b.calls ≤ a.calls + (1 + update_calls s.place.layout s.tally.height t.tally.height r)) same met.calls;
@@ -131,6 +135,7 @@ met_err u fault changed_x changed_y in_x in_y s t next tally place is = record {
   own = is.own;
   report = tt;
   counts = tt;
+  sums = tt;
   met = elim is.met [
     | inl first ↦ inl first
     | inr late ↦ inr (late_as (change_in u) is.at s t next fault tally place late)
@@ -157,10 +162,10 @@ moved_replaced (unbind key) true asks = absurd cc
 moved_replaced (unbind key) false asks = absurd cc
 
 pub quiet_within : {a : View} (u : Update) (i : ℕ) (s : StoreView) → UpdatesIn {T = Outcome × Report} (change_in u) i (Ok (Unchanged, quiet_report)) (λ done. moved u done.0) (λ done. done.1) s s a a
-quiet_within u i s = record { report = ap (λ (b : Bool). report_at b (change_in u) i s.tally) (sym (moved_none u)); counts = inl refl; late = tt; asked = omega arith; calls = omega arith; spared = λ none. tt; written = omega arith }
+quiet_within u i s = record { report = ap (λ (b : Bool). report_at b (change_in u) i s.tally) (sym (moved_none u)); counts = inl refl; sums = subst (λ (b : Bool). SumsIf b (change_in u) (sum s.tally.counts) (sum s.tally.counts)) (sym (moved_none u)) refl; late = tt; asked = omega arith; calls = omega arith; spared = λ none. tt; written = omega arith }
 
-pub replaced_within : {a b : View} (u : Update) (there : Bool) (i : ℕ) (s t : StoreView) → need_of u there ≡ need.Replace → t.tally ≡ s.tally → b.calls ≤ a.calls + commit_calls → b.travel.written ≤ a.travel.written + commit_cost s.place.layout → UpdatesIn {T = Outcome × Report} (change_in u) i (Ok (Replaced, quiet_report)) (λ done. moved u done.0) (λ done. done.1) s t a b
-replaced_within u there i s t asks same few cost = record { report = ap (λ (b : Bool). report_at b (change_in u) i s.tally) (sym (moved_replaced u there asks)); counts = inl same; late = tt; asked = omega (arith, few); calls = omega (arith, few); spared = λ none. tt; written = omega (arith, cost) }
+pub replaced_within : {a b : View} (u : Update) (there : Bool) (i : ℕ) (s t : StoreView) → need_of u there ≡ need.Replace → t.tally ≡ s.tally → b.calls ≤ a.calls + commit_calls s.place.layout → b.travel.written ≤ a.travel.written + commit_cost s.place.layout → UpdatesIn {T = Outcome × Report} (change_in u) i (Ok (Replaced, quiet_report)) (λ done. moved u done.0) (λ done. done.1) s t a b
+replaced_within u there i s t asks same few cost = record { report = ap (λ (b : Bool). report_at b (change_in u) i s.tally) (sym (moved_replaced u there asks)); counts = inl same; sums = subst (λ (b : Bool). SumsIf b (change_in u) (sum s.tally.counts) (sum t.tally.counts)) (sym (moved_replaced u there asks)) (ap (λ (x : TallyView). sum x.counts) same); late = tt; asked = omega (arith, few); calls = omega (arith, few); spared = λ none. tt; written = omega (arith, cost) }
 
 -- An item.
 

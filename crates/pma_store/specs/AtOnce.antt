@@ -1,8 +1,9 @@
 -- A batch as one commit: what it writes, and what it leaves in memory.
-use Rattle.std.specs.Prelude.{◌≡◌, ◌⊎◌, ℕ, ◌+◌, ◌*◌, ◌<◌, ◌≤◌, ◌^◌, true, false, All, List, length, get_or, Some, None, Result, Ok, Err, OnOk, OnErr}
+use Rattle.std.specs.Prelude.{◌≡◌, ◌⊎◌, ℕ, ◌+◌, ◌-◌, ◌*◌, ◌<◌, ◌≤◌, ◌^◌, true, false, All, List, length, get_or, Some, None, Result, Ok, Err, OnOk, OnErr, is_ok, sum}
 use Rattle.station.specs.View.{View, Told, Rose}
 use Rattle.station.specs.Steps.{Steps}
 use Rattle.cost_ledger.specs.Potential.{potential_of}
+use Rattle.density_rule.specs.Bounds.{upper_of}
 use Rattle.density_rule.specs.Windows.{IsBalanced}
 use Rattle.header_gate.specs.Recovered.{recovered, replayed_over}
 use Rattle.key_slot.specs.Record.{IsAscending}
@@ -28,10 +29,12 @@ use Rattle.pma_store.specs.declared.validation.Validated.{Validated as Validated
 use Rattle.pma_store.specs.declared.batch_scan.BatchScan.{BatchScan}
 use Rattle.pma_store.specs.Answers.{state_in}
 use Rattle.pma_store.specs.Batching.{AppliesBatch, done_by}
-use Rattle.pma_store.specs.Validating.{ValidatesItems, counts_of, edits_of}
+use Rattle.pma_store.specs.Calling.{runs_calls}
+use Rattle.pma_store.specs.Validating.{AreCounted, CountsFound, counted_first, ValidatesItems, counts_of, edits_of, there_in}
 use Rattle.pma_store.specs.Looked.{BelongThere, HasFound}
 use Rattle.pma_store.specs.Once.{AreOneCommit}
-use Rattle.pma_store.specs.Store.{StoreView}
+use Rattle.pma_store.specs.Rewrites.{spared_bytes}
+use Rattle.pma_store.specs.Store.{StoreView, limit_of}
 
 -- number k of the segments of a batch
 abbrev pub number_of : ℕ → Batch → ℕ → ℕ
@@ -54,6 +57,8 @@ pub record FitsCommit (numbers : List ℕ) (items : List Update) (look : BatchSc
   pub changes_are : (array : Array) → 0 < length array → IsAscending (rows array) → BelongThere array numbers items →
       HasFound array numbers items look.found (2 ^ tally.height) → changes ≡ changes_in array items
   pub fit : fit_one_commit tally.height tally.counts changes ≡ true
+  pub counted : AreCounted changes (counts_of validated)
+  pub counts_are : counts_of validated ≡ counted_first items (λ k. is_ok (get_or look.found k (Err 0))) (length items)
 
 -- Why they don't: not each segment that they edit is in frames, more are there than items edit one, or the changes don't fit.
 abbrev pub IsUnfit : List ℕ → List Update → BatchScan → ValidatedItems → TallyView → Type 0
@@ -75,10 +80,10 @@ pub record CommitsFrames (place : Place) (count : ℕ) (result : Result (Unit {0
   pub laid : OnOk result (Told a → recovered place.layout c.held ≡ replayed_over place.layout place.region b.numbers (frame_byte b.slots) (recovered place.layout a.held))
   pub rests : OnOk result (RestsAt place.layout turn c)
   pub none : count ≡ 0 → c.travel.written ≡ a.travel.written
-  pub cost : c.travel.written ≤ a.travel.written + (8196 * place.layout.format * count + 6)
+  pub cost : c.travel.written ≤ a.travel.written + (8196 * place.layout.format * count + 6 - spared_bytes place.layout)
   pub unread : c.travel.read ≡ a.travel.read
-  -- where there are any, eight calls, and one for each run of neighbouring pages
-  pub calls : c.calls ≤ a.calls + (8 + run_count b.numbers)
+  -- where there are any, eight calls, with two journals five, and one for each run of neighbouring pages
+  pub calls : c.calls ≤ a.calls + runs_calls place.layout (run_count b.numbers)
   pub cause : OnErr result (Rose a.disk_faults c.disk_faults)
 
 -- Besides, the fences of the edited segments were set, and the changes counted, but not where it failed.
@@ -98,6 +103,7 @@ pub record CommitsEdits (place : Place) (look : BatchScan) (changes : List ItemC
 -- commit; or it was made, with two images charged for each item that edits a segment.
 abbrev pub TriesOnce : List Update → Result Attempt StoreFault → StoreView → StoreView → View → View → Type 0
 TriesOnce items (Ok Full) s t a b = ValidatesItems items (Ok None) s t a b
-TriesOnce items (Ok (Validated validated)) s t a b = ValidatesItems items (Ok (Some validated)) s t a b × (Told a → ¬ AreOneCommit s.place.layout (state_in s a.held) items)
+TriesOnce items (Ok (Validated validated)) s t a b = ValidatesItems items (Ok (Some validated)) s t a b × (Told a → ¬ AreOneCommit s.place.layout (state_in s a.held) items) ×
+    CountsFound items (there_in validated.found) (sum s.tally.counts) (upper_of (limit_of s)) (counts_of validated)
 TriesOnce items (Ok (Done validated)) s t a b = AppliesBatch items (Ok (done_by (counts_of validated) (2 * edits_of validated))) s t a b
 TriesOnce items (Err fault) s t a b = AppliesBatch items (Err fault) s t a b

@@ -10,7 +10,7 @@ use Rattle.map_model.specs.Image.{array_of}
 use Rattle.map_model.specs.Store.{Update, key_of}
 use Rattle.window_tally.specs.View.{TallyView}
 use Rattle.pma_store.specs.Answers.{state_in}
-use Rattle.pma_store.specs.Calling.{asked_calls}
+use Rattle.pma_store.specs.Calling.{asked_calls, runs_calls}
 use Rattle.pma_store.specs.Damaging.{IsNextTally, change_in, picked}
 use Rattle.pma_store.specs.Once.{AreOneCommit, edited_segments}
 use Rattle.pma_store.specs.Store.{StoreView}
@@ -51,11 +51,12 @@ pub record AreForItems (items : List Update) (s : StoreView) (a : View) (calls :
   pub last : TallyView
   pub are_for : IsForItems s.place.layout a (state_in s a.held) s.tally (take begun items) last calls
 
--- That many calls are those of one commit, which writes at most that many runs of neighbouring segments: eight, and one for each run.
-pub record IsForCommit (most calls : ℕ) : Type 0 where
+-- That many calls are those of one commit, which writes at most that many runs of neighbouring segments: eight, at version 4 five, and
+-- one for each run.
+pub record IsForCommit (l : Layout) (most calls : ℕ) : Type 0 where
   pub runs : ℕ
   pub few : runs ≤ most
-  pub is : calls ≡ 8 + runs
+  pub is : calls ≡ runs_calls l runs
 
 -- That many are those of the intent, and of the items under it: four write it, and two close its gate.
 pub record IsForIntent (items : List Update) (s : StoreView) (a : View) (calls : ℕ) : Type 0 where
@@ -69,11 +70,11 @@ pub record IsForBatch (items : List Update) (s : StoreView) (a : View) (calls : 
   pub looked : List ℕ
   pub are_own : AreOwnSegments items s.tally.height a looked
   pub behind : ℕ
-  pub is_for : IsForCommit (length looked) behind ⊎ IsForIntent items s a behind
+  pub is_for : IsForCommit s.place.layout (length looked) behind ⊎ IsForIntent items s a behind
   pub is : calls ≡ length looked + behind
   -- if bytes are told and the items are one commit in the state of the file, the commit, with no more runs than segments that
   -- they edit
-  pub at_once : Told a → AreOneCommit s.place.layout (state_in s a.held) items → IsForCommit (length (edited_segments (array_of a.held) items)) behind
+  pub at_once : Told a → AreOneCommit s.place.layout (state_in s a.held) items → IsForCommit s.place.layout (length (edited_segments (array_of a.held) items)) behind
 
 -- what the intent and the items under it come to
 pub record CallsIntent (items : List Update) (s : StoreView) (a b : View) : Type 0 where

@@ -1,5 +1,5 @@
 -- Several updates as one command: what it answers, and what it leaves at every moment.
-use Rattle.std.specs.Prelude.{◌≡◌, ◌^◌, ◌⊎◌, ℕ, ◌+◌, ◌*◌, ◌≤◌, nat_le, if◌then◌else◌, false, List, [], length, is_some, Result, IsOk, OnOk, IfOk, IfErr, IsErrOf}
+use Rattle.std.specs.Prelude.{◌≡◌, ◌^◌, ◌⊎◌, ℕ, ◌+◌, ◌-◌, ◌*◌, ◌≤◌, nat_le, if◌then◌else◌, false, List, [], length, sum, is_some, Result, IsOk, OnOk, IfOk, IfErr, IsErrOf}
 use Rattle.station.specs.Bytes.{Touched}
 use Rattle.station.specs.View.{View, Told, EachHeld, Rose}
 use Rattle.station.specs.Steps.{Steps}
@@ -13,6 +13,7 @@ use Rattle.map_model.specs.ArrayState.{ArrayState}
 use Rattle.map_model.specs.Image.{array_of, map_of}
 use Rattle.map_model.specs.Items.{ItemCounts, no_items, count_items, first_full, map_after_items, accepts, array_state_after_batch, charge_after_items}
 use Rattle.map_model.specs.Store.{Map, Update}
+use Rattle.recovery.specs.Intents.{puts_in}
 use Rattle.segment.specs.declared.fault.StoreFault.{StoreFault}
 use Rattle.segment.specs.declared.fault.StoreFault.TheVariants.{Failed}
 use Rattle.pma_store.specs.declared.answers.Batch.{Batch}
@@ -24,6 +25,7 @@ use Rattle.pma_store.specs.Damaging.{IsMetLooking, IsMetMid}
 use Rattle.pma_store.specs.Looking.{TellsOther}
 use Rattle.pma_store.specs.Meaning.{BecomesMeant}
 use Rattle.pma_store.specs.Once.{AreOneCommit, edited_segments}
+use Rattle.pma_store.specs.Rewrites.{spared_bytes}
 use Rattle.pma_store.specs.Store.{StoreView, StandsOn, LeavesAll, limit_of}
 use Rattle.pma_store.specs.Touching.{IsUpdatePlace}
 
@@ -65,6 +67,14 @@ intent_cost_in (Done stored replaced removed absent charge) = 514
 intent_cost_in (Full most) = 0
 intent_cost_in NoBatch = 0
 
+-- Each of the items is counted, the puts as stored or replaced; and the records behind them are those before them, with those that
+-- were stored and without those that were removed.
+abbrev pub CountsBatch : List Update → Batch → ℕ → ℕ → Type 0
+CountsBatch items (Done stored replaced removed absent charge) before after =
+    (stored + replaced ≡ puts_in items) × (stored + replaced + removed + absent ≡ length items) × (after + removed ≡ before + stored)
+CountsBatch items (Full most) before after = after ≡ before
+CountsBatch items NoBatch before after = after ≡ before
+
 -- a refusal
 abbrev pub IsRefusal : Batch → Type 0
 IsRefusal (Done stored replaced removed absent charge) = ⊥
@@ -79,9 +89,10 @@ IsBatchPlace l p = IsUpdatePlace l p ⊎ IsIntentPlace p
 pub record MakesAtOnce (items : List Update) (s : StoreView) (a b : View) : Type 0 where
   -- At no moment any byte of the intent or of its gate is touched.
   pub touched : Steps (Touched (IsUpdatePlace s.place.layout)) a b
-  -- At most `8196 * F * k + 6` bytes are written for the k segments that its items edit, with F pages a segment, and nothing if k
-  -- is 0.
-  pub written : b.travel.written ≤ a.travel.written + (8196 * s.place.layout.format * length (edited_segments (array_of a.held) items) + 6)
+  -- At most `8196 * F * k + 6` bytes are written for the k segments that its items edit, with F pages a segment, at version 4 a
+  -- byte less, and nothing if k is 0.
+  pub written : b.travel.written ≤ a.travel.written
+      + (8196 * s.place.layout.format * length (edited_segments (array_of a.held) items) + 6 - spared_bytes s.place.layout)
   pub unwritten : edited_segments (array_of a.held) items ≡ [] → b.travel.written ≡ a.travel.written
 
 -- A batch, as a store offers it.
@@ -120,6 +131,10 @@ pub record Batches (items : List Update) (result : Result Batch StoreFault) (s t
   pub at_once : Told a → AreOneCommit s.place.layout (state_in s a.held) items → MakesAtOnce items s a b
   -- On Ok its charge and the rise of the potential are together at most 514 for each item that was made, on every station.
   pub paid : IfOk result (λ done. charge_in done + potential_of t.tally ≤ potential_of s.tally + 514 * made_in (length items) done)
+  -- On Ok, on every station, each put is counted as stored or replaced, and each removal as removed or absent; and the kept numbers
+  -- of records come to those before it, one more for each that is counted as stored, and one less for each as removed. If it is
+  -- refused they are as many.
+  pub counted : IfOk result (λ done. CountsBatch items done (sum s.tally.counts) (sum t.tally.counts))
   -- It fails by the disk; or by damage of a segment that was read last while the keys were looked for, by its kept count and not
   -- that keys are out of order, with nothing written; or in one of its items, as an update does, by the counts that the items
   -- before it left.

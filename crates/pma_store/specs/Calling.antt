@@ -42,13 +42,21 @@ again_calls Grow = 1
 again_calls Shrink = 1
 again_calls AtLimit = 0
 
--- the commit of one segment
-abbrev pub commit_calls : ℕ
-commit_calls = 9
+-- what a commit spares with two journals: its pages aren't synced, and no gate is closed behind them, by a write and a sync
+unfoldable pub spared_calls : Layout → ℕ
+spared_calls l = if l.version == PAIRED then 3 else 0
+
+-- a commit of that many runs of neighbouring pages
+abbrev pub runs_calls : Layout → ℕ → ℕ
+runs_calls l runs = 8 + runs - spared_calls l
+
+-- the commit of one segment: nine calls, with two journals six
+abbrev pub commit_calls : Layout → ℕ
+commit_calls l = runs_calls l 1
 
 -- an update once its segment was found, by what is asked for
 abbrev pub asked_calls : Layout → ℕ → Pick → ℕ
-asked_calls l height pick = ready_calls l height pick + again_calls pick + commit_calls
+asked_calls l height pick = ready_calls l height pick + again_calls pick + commit_calls l
 
 -- by its report, and the heights between which it brings the store
 abbrev pub window_calls : Layout → Option Window → ℕ
@@ -56,4 +64,4 @@ window_calls l None = 0
 window_calls l (Some w) = spread_calls l w.height + 1
 
 abbrev pub update_calls : Layout → ℕ → ℕ → Report → ℕ
-update_calls l from to r = (if r.resized then resize_calls l from to + 1 else window_calls l r.rebalanced) + commit_calls
+update_calls l from to r = (if r.resized then resize_calls l from to + 1 else window_calls l r.rebalanced) + commit_calls l

@@ -1,5 +1,5 @@
 -- What the items of a batch would do, by whether their keys are there and by how many records there are.
-use Rattle.std.specs.Prelude.{◌≡◌, ◌^◌, ℕ, ◌+◌, ◌<◌, if◌then◌else◌, Bool, false, List, length, slice_index_or, Option, Some, None, is_some, Result, IfOk, IfErr, IsErrOf, is_ok, Err}
+use Rattle.std.specs.Prelude.{◌≡◌, ◌^◌, ℕ, zero, suc, ◌+◌, ◌<◌, if◌then◌else◌, Bool, true, false, List, [], ◌∷◌, length, slice_index_or, Option, Some, None, is_some, Result, IfOk, IfErr, IsErrOf, is_ok, Err}
 use Rattle.std.specs.FinMap.{contains_key}
 use Rattle.station.specs.Bytes.{Same}
 use Rattle.station.specs.View.{View, Told, Rose}
@@ -7,8 +7,11 @@ use Rattle.station.specs.Steps.{Steps}
 use Rattle.map_model.specs.Image.{map_of}
 use Rattle.map_model.specs.Items.{ItemCounts, no_items, count_items, first_full}
 use Rattle.map_model.specs.Store.{Map, Update, bind, unbind, key_of}
+use Rattle.one_commit.specs.declared.changes.ItemChange.{ItemChange}
+use Rattle.recovery.specs.Intents.{meets_by, records_by}
 use Rattle.segment.specs.declared.fault.StoreFault.{StoreFault}
 use Rattle.segment.specs.declared.fault.StoreFault.TheVariants.{Failed}
+use Rattle.window_tally.specs.Choice.{adds}
 use Rattle.pma_store.specs.declared.validation.Validated.{Validated}
 use Rattle.pma_store.specs.BatchCalls.{LooksOnce}
 use Rattle.pma_store.specs.Damaging.{IsMetLooking}
@@ -60,6 +63,63 @@ found_at (Some found) i = Some (slice_index_or found i false)
 abbrev pub found_in : Option Validated → Option (List Bool)
 found_in None = None
 found_in (Some j) = Some j.found
+
+-- What is counted by what was found, whatever the station tells.
+
+-- the numbers of the first k items, by which of their keys are there
+abbrev pub counted_first : List Update → (ℕ → Bool) → ℕ → ItemCounts
+counted_first items there zero = no_items
+counted_first items there (suc k) = counted_by (slice_index_or items k (unbind [])) (there k) (counted_first items there k)
+
+-- how many records there are behind them, of that many before
+abbrev pub records_first : List Update → (ℕ → Bool) → ℕ → ℕ → ℕ
+records_first items there records zero = records
+records_first items there records (suc k) = records_by (slice_index_or items k (unbind [])) (there k) (records_first items there records k)
+
+-- none of the first n items meets a full store of `most` records
+abbrev pub HaveRoom : List Update → (ℕ → Bool) → ℕ → ℕ → ℕ → Type 0
+HaveRoom items there records most n = (k : ℕ) → k < n → meets_by (slice_index_or items k (unbind [])) (there k) (records_first items there records k) most ≡ false
+
+-- Items were counted as their keys were found, in a store of that many records, and none of them meets a full store.
+pub record CountsFound (items : List Update) (there : ℕ → Bool) (records most : ℕ) (counts : ItemCounts) : Type 0 where
+  pub counts_are : counts ≡ counted_first items there (length items)
+  pub room : HaveRoom items there records most (length items)
+
+-- which keys are there, as they were found
+abbrev pub there_in : List Bool → ℕ → Bool
+there_in found k = slice_index_or found k false
+
+-- what an item makes of a number of records, by whether its key is there
+abbrev pub SumsBy : Update → Bool → ℕ → ℕ → Type 0
+SumsBy (bind key value) true before after = after ≡ before
+SumsBy (bind key value) false before after = after ≡ before + 1
+SumsBy (unbind key) true before after = after + 1 ≡ before
+SumsBy (unbind key) false before after = after ≡ before
+
+-- so it does as its key was found, if it was looked for, and the store isn't full
+abbrev pub SumsItem : Option Bool → Update → ℕ → ℕ → ℕ → Type 0
+SumsItem None u most before after = Unit {0}
+SumsItem (Some there) u most before after = meets_by u there before most ≡ false → SumsBy u there before after
+
+-- and all items do
+abbrev pub SumsFound : Option (List Bool) → List Update → ℕ → ℕ → ℕ → Type 0
+SumsFound None items most before after = Unit {0}
+SumsFound (Some found) items most before after = HaveRoom items (there_in found) before most (length items) →
+    after + (counted_first items (there_in found) (length items)).removed ≡ before + (counted_first items (there_in found) (length items)).stored
+
+-- how many of the changes add a record, and how many take one
+abbrev pub adds_in : List ItemChange → ℕ
+adds_in [] = 0
+adds_in (c ∷ cs) = (if adds c.change then 1 else 0) + adds_in cs
+
+abbrev pub takes_in : List ItemChange → ℕ
+takes_in [] = 0
+takes_in (c ∷ cs) = (if adds c.change then 0 else 1) + takes_in cs
+
+-- the changes are as many as were counted
+pub record AreCounted (changes : List ItemChange) (counts : ItemCounts) : Type 0 where
+  pub adds_are : adds_in changes ≡ counts.stored
+  pub takes_are : takes_in changes ≡ counts.removed
 
 -- The keys of items were looked for, which changes nothing: what they would do, and which of them are there.
 pub record ValidatesItems (items : List Update) (result : Result (Option Validated) StoreFault) (s t : StoreView) (a b : View) : Type 0 where

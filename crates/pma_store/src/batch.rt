@@ -3,7 +3,7 @@
 //! A batch whose items ask for no rebalance and no resize is one commit. Any other is written down as an intent first, and its
 //! items are then made one after another; where a crash stops that, the next opening makes them.
 
-ghost use Rattle.std.specs.Prelude.{◌≡◌, ◌^◌, ◌<◌, ◌≤◌, ◌↔◌, Some, OnOk, IfOk, IfErr, IsErrOf, is_err, length, T, IsTrue, is_ok, is_some};
+ghost use Rattle.std.specs.Prelude.{◌≡◌, ◌^◌, ◌<◌, ◌≤◌, ◌↔◌, Some, OnOk, IfOk, IfErr, IsErrOf, is_err, length, sum, T, IsTrue, is_ok, is_some};
 ghost use Rattle.std.specs.List.{list_all};
 ghost use Rattle.station.specs.View.{Told, Rose};
 ghost use Rattle.batch_intent.specs.Spelling.{fits_item};
@@ -21,7 +21,7 @@ ghost use Rattle.pma_store.specs.Batching.{AppliesBatch, Batches, IsRefusal, ver
 ghost use Rattle.pma_store.specs.Charging.{changes, charge_told, work_by};
 ghost use Rattle.pma_store.specs.Damaging.{IsOrderly};
 ghost use Rattle.pma_store.specs.Items.{CountsAsFound, IsAsFound, IsContradicted, MakesItem, MakesItems};
-ghost use Rattle.pma_store.specs.Validating.{AreAllFound, counts_of, validated_of, found_at};
+ghost use Rattle.pma_store.specs.Validating.{AreAllFound, CountsFound, SumsFound, SumsItem, counts_of, validated_of, found_at, there_in};
 ghost use Rattle.pma_store.specs.Looking.{TellsOther};
 ghost use Rattle.pma_store.specs.Once.{AreOneCommit};
 ghost use Rattle.pma_store.specs.Locations.{FindsLocation};
@@ -215,6 +215,7 @@ impl OpenArray {
         requires validated { Told (S.view station.old) → Some (counts_of validated.now) ≡ validated_of (limit_of self.old) (map_of (S.view station.old).held) intent.now }
         requires found { Told (S.view station.old) → AreAllFound (Some validated.now.found) intent.now (map_of (S.view station.old).held) }
         requires unfit { Told (S.view station.old) → ¬ AreOneCommit self.old.place.layout (state_in self.old (S.view station.old).held) intent.now }
+        requires counted { CountsFound intent.now (there_in validated.now.found) (sum self.old.tally.counts) (upper_of (limit_of self.old)) (counts_of validated.now) }
         ensures made { IfOk result (λ done. ¬ IsRefusal done) }
         ensures intent { CallsIntent intent.now self.old (S.view station.old) (S.view station.new) }
         ensures applied { AppliesBatch intent.now result self.old self.new (S.view station.old) (S.view station.new) }
@@ -248,7 +249,8 @@ impl OpenArray {
         requires on { StandsOn self.old (S.view station.old) }
         requires fit { T (list_all (fits_item self.old.place.layout.format) intent.now) }
         requires found { Told (S.view station.old) → AreAllFound found intent.now (map_of (S.view station.old).held) }
-        ensures { MakesItems intent.now result self.old self.new (S.view station.old) (S.view station.new) }
+        ensures made { MakesItems intent.now result self.old self.new (S.view station.old) (S.view station.new) }
+        ensures sums { OnOk result (SumsFound found intent.now (upper_of (limit_of self.old)) (sum self.old.tally.counts) (sum self.new.tally.counts)) }
     {
         let mut charges = 0;
         for i in 0..intent.len() {
@@ -279,6 +281,7 @@ impl OpenArray {
             (segment_at (array_of (S.view station.old).held) (segment_for (array_of (S.view station.old).held) (key_of (update_of update.now)))))) }
         ensures made { MakesItem (update_of update.now) result self.old self.new (S.view station.old) (S.view station.new) }
         ensures as_found { OnOk result (CountsAsFound found (update_of update.now) self.old.tally self.new.tally) }
+        ensures sums { OnOk result (SumsItem found (update_of update.now) (upper_of (limit_of self.old)) (sum self.old.tally.counts) (sum self.new.tally.counts)) }
     {
         match self.find_as(station, update, found, rows) {
             Ok(location) => match self.apply_at(station, update, location, rows) {

@@ -88,7 +88,7 @@ fn commit_rows<S: Station>(
     ensures rests { OnOk result (RestsAt place.now.layout frames.new.turn (S.view station.new)) }
     ensures journal { frames.new.journal ≡ frames.old.journal }
     ensures cost { (S.view station.new).travel.written ≤ (S.view station.old).travel.written + commit_cost place.now.layout }
-    ensures calls { (S.view station.new).calls ≤ (S.view station.old).calls + commit_calls }
+    ensures calls { (S.view station.new).calls ≤ (S.view station.old).calls + commit_calls place.now.layout }
     ensures cause { OnErr result (Rose (S.view station.old).disk_faults (S.view station.new).disk_faults) }
 {
     load_frame(frames, place.layout.format, segment, rows);

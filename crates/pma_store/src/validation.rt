@@ -16,7 +16,7 @@ ghost use Rattle.recovery.specs.Intents.{meets_by, records_by};
 ghost use Rattle.window_tally.specs.View.{IsTally};
 ghost use Rattle.pma_store.specs.AtOnce.{FitsCommit, IsUnfit};
 ghost use Rattle.pma_store.specs.Batching.{done_by};
-ghost use Rattle.pma_store.specs.Validating.{AreFoundAt, counts_in, counts_of, edits_of, validated_of, counted_by, total};
+ghost use Rattle.pma_store.specs.Validating.{AreCounted, AreFoundAt, CountsFound, counted_first, counts_in, counts_of, edits_of, validated_of, counted_by, total};
 ghost use Rattle.pma_store.specs.Looked.{BelongThere, HasFound};
 ghost use Rattle.pma_store.specs.Updating.{update_of};
 
@@ -74,6 +74,7 @@ pub(crate) fn validate_items(
     ensures validated { (hmax : ℕ) (m : Map) → most ≡ upper_of hmax → records ≡ len m → AreFoundAt found.now intent.now m → counts_in result ≡ validated_of hmax m intent.now }
     ensures found { IfSome result (λ validated. (k : ℕ) → k < length intent.now → slice_index_or validated.found k false ≡ is_ok (slice_index_or found.now k (Err 0))) }
     ensures total { IfSome result (λ validated. total validated ≡ length intent.now) }
+    ensures as_found { IfSome result (λ validated. CountsFound intent.now (λ k. is_ok (slice_index_or found.now k (Err 0))) records most (counts_of validated)) }
 {
     let mut records = records;
     let mut validated = Validated {
@@ -141,6 +142,7 @@ pub(crate) fn list_fitting(
     requires balanced { IsBalanced tally.now.height tally.now.counts }
     requires segments { length segments.now ≡ length intent.now }
     requires within { (k : ℕ) → k < length segments.now → slice_index_or segments.now k 0 < 2 ^ tally.now.height }
+    requires counted { counts_of validated.now ≡ counted_first intent.now (λ k. is_ok (slice_index_or look.now.found k (Err 0))) (length intent.now) }
     ensures most { IfSome result (λ count. count ≤ 16) }
     ensures fits { IfSome result (λ count. FitsCommit segments.now intent.now look.now validated.now tally.now (take count changes.new)) }
     ensures unfit { result ≡ None → IsUnfit segments.now intent.now look.now validated.now tally.now }
@@ -167,6 +169,7 @@ pub(crate) fn list_changes(
     requires found { length found.now ≡ 16 }
     ensures few { result ≤ length intent.now }
     ensures in_store { (n : ℕ) → ((k : ℕ) → k < length segments.now → slice_index_or segments.now k 0 < n) → All (λ c. c.segment < n) (take result changes.new) }
+    ensures counted { AreCounted (take result changes.new) (counted_first intent.now (λ k. is_ok (slice_index_or found.now k (Err 0))) (length intent.now)) }
     ensures listed { (array : Array) (n : ℕ) → 0 < length array → IsAscending (rows array) →
         BelongThere array segments.now intent.now → ((k : ℕ) → k < length segments.now → slice_index_or segments.now k 0 < n) →
         HasFound array segments.now intent.now found.now n → take result changes.new ≡ changes_in array intent.now }

@@ -39,6 +39,13 @@ returns-then-is_open-clause-clean g c =
 pub returns-then-is_open-clause-kept : goal.returns-then-is_open-clause-kept
 returns-then-is_open-clause-kept g c told shut = absurd (shut (record { sound = c.in-Ok.ensures.sound told; indexed = version g c told; odd = odd g c told }))
 
+pub returns-else-is_open-clause-synced : goal.returns-else-is_open-clause-synced
+returns-else-is_open-clause-synced g c told here =
+    let header = c.in-Ok.ensures.header told in
+    let clean : c.in-Ok.header.clean ≡ true = header.clean_is.1 here.odd in
+    let indexed : INDEXED ≤ c.in-Ok.header.layout.version = omega (arith, here.indexed, ap (λ (l : Layout). l.version) header.layout_is) in
+    absurd (grind (arith, nat_tests, c.is_open.ensures, c.if-is_open.false, clean, indexed))
+
 pub returns-else-is_open-clause-clean : goal.returns-else-is_open-clause-clean
 returns-else-is_open-clause-clean g c = keeps_same (g.met.S.Station.lawful c.args.station.now) c.read_header.ensures.steps
 

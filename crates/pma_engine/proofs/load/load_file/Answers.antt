@@ -2,6 +2,7 @@ use Rattle.std.proofs.Common.{ap, subst, sym, ◌∙◌, refl, arith}
 use Rattle.station.specs.View.{Fixed, Told}
 use Rattle.pma_engine.proofs.Loading.{Comes, comes_opened, comes_unopened, untaken_of}
 use Rattle.pma_engine.proofs.Closing.{keeps_staying}
+use Rattle.pma_engine.proofs.ClosingFirst.{first_opened, first_unopened}
 use Rattle.pma_engine.proofs.Opening.{clean_opened, clean_unopened}
 use Rattle.pma_engine.proofs.load.load_file.Goals as goal
 
@@ -18,6 +19,7 @@ returns-in-Err g c =
       status = comes.status_is;
       attached = comes.attached;
       clean = clean_unopened a (g.S.Station.view c.open_file.new.station) d (g.met.S.Station.lawful c.args.station.now) (g.met.S.Station.lawful c.open_file.new.station) c.open_file.ensures.opens.steps c.open_file.ensures.opens.clean c.end_unopened.ensures.says;
+      closes = first_unopened a (g.S.Station.view c.open_file.new.station) d (g.met.S.Station.lawful c.args.station.now) (g.met.S.Station.lawful c.open_file.new.station) c.open_file.ensures.opens.steps c.open_file.ensures.opens.closes c.end_unopened.ensures.says;
       loaded = comes.loaded;
       untaken = λ none. refl;
       disk = comes.disk;
@@ -41,6 +43,7 @@ returns-in-Ok g c =
       status = comes.status_is;
       attached = comes.attached;
       clean = clean_opened a b d (g.met.S.Station.lawful c.args.station.now) law_b c.open_file.ensures.opens.steps c.open_file.ensures.opens.clean c.in-Ok.ensures.opens.settled (keeps_staying on c.in-Ok.ensures.opens.opened.shut (c.load_opened.ensures.shut));
+      closes = first_opened a b d (g.met.S.Station.lawful c.args.station.now) law_b c.open_file.ensures.opens.steps c.open_file.ensures.opens.closes c.in-Ok.ensures.opens.settled c.in-Ok.ensures.opens.opened.shut (keeps_staying on c.in-Ok.ensures.opens.opened.shut (c.load_opened.ensures.shut));
       loaded = comes.loaded;
       untaken = λ none. c.load_opened.ensures.untaken (untaken_of c.args.most s0 s1 a b law c.open_file.ensures.opens.steps c.in-Ok.store c.in-Ok.ensures.opens.opened c.load_opened.result d c.load_opened.ensures.loads none);
       disk = comes.disk;

@@ -5,7 +5,7 @@ use Rattle.pma_store.specs.Store.{StoreView, IsOpenOn}
 use Rattle.pma_engine.specs.Carrying.{SessionView, layout_on, session_in, with_cursors}
 use Rattle.pma_engine.specs.Ending.{EndsRun, IsSettledStatus}
 use Rattle.pma_engine.specs.Outcome.{ServesScript, fresh_session}
-use Rattle.pma_engine.specs.Serving.{AsksNothing}
+use Rattle.pma_engine.specs.Serving.{AsksNothing, HasLayout}
 use Rattle.pma_engine.specs.declared.status.TheConstants.{REFUSED, DISK_FAULT}
 use Rattle.pma_engine.proofs.EndedRuns.{runs_ended, runs_stopped}
 use Rattle.pma_engine.proofs.run.run_opened.Goals as goal
@@ -21,6 +21,9 @@ serves g c =
 
 unread : (g : _) (c : After-serve_opened-status g) → AsksNothing (layout_on c.args.store).format (g.I.Source.view c.args.source.now) → (g.S.Station.view c.serve_opened-status.new.station).travel ≡ (g.S.Station.view c.args.station.now).travel
 unread g c asks = c.serve_opened-status.ensures.unread (subst (λ (s : StoreView). AsksNothing (layout_on s).format (g.I.Source.view c.args.source.now)) (sym c.new-metered.ensures.store) asks)
+
+kept : (g : _) (c : After-serve_opened-status g) → HasLayout (layout_on c.args.store) (g.S.Station.view c.args.station.now) (g.S.Station.view c.serve_opened-status.new.station)
+kept g c = subst (λ (s : StoreView). HasLayout (layout_on s) (g.S.Station.view c.args.station.now) (g.S.Station.view c.serve_opened-status.new.station)) c.new-metered.ensures.store c.serve_opened-status.ensures.kept
 
 -- the status of a serving behind which the run is ended
 settled_status : (g : _) (c : After-serve_opened-status g) → (c.serve_opened-status.result ≡ REFUSED → ⊥) → (c.serve_opened-status.result ≡ DISK_FAULT → ⊥) → IsSettledStatus c.serve_opened-status.result
@@ -41,7 +44,7 @@ returns-then-status-eq-REFUSED g c =
       | then-status-eq-REFUSED-via-else-status-eq-REFUSED+then-status-eq-DISK_FAULT w ↦ inr (grind (arith, nat_tests, w.if-status-eq-DISK_FAULT.true))
     ] in
     runs_stopped c.serve_opened-status.result c.args.most c.args.store (g.I.Source.view c.args.source.now) (g.I.Source.view c.serve_opened-status.new.source) (g.S.Station.view c.args.station.now) (g.S.Station.view c.serve_opened-status.new.station)
-    is c.requires.shut (serves g here) c.serve_opened-status.ensures.shut (unread g here)
+    is c.requires.shut (serves g here) c.serve_opened-status.ensures.shut (unread g here) (kept g here)
 
 pub end_run-requires-clause-status : goal.end_run-requires-clause-status
 end_run-requires-clause-status g c =
@@ -64,4 +67,4 @@ returns g c =
     let t = c.serve_opened-status.new.store in
     let layout : t.store.place.layout ≡ layout_on c.args.store = c.serve_opened-status.ensures.layout ∙ ap (λ (s : StoreView). s.place.layout) c.new-metered.ensures.store in
     runs_ended c.end_run.result c.serve_opened-status.result c.args.most c.args.store t.store (g.I.Source.view c.args.source.now) (g.I.Source.view c.serve_opened-status.new.source) (g.S.Station.view c.args.station.now) b d (g.met.S.Station.lawful c.args.station.now) c.requires.shut
-    (serves g here) is (c.serve_opened-status.ensures.open is) layout c.serve_opened-status.ensures.shut (unread g here) (subst (λ (s : StoreView). EndsRun c.serve_opened-status.result c.end_run.result s b d) c.into_store.ensures c.end_run.ensures)
+    (serves g here) is (c.serve_opened-status.ensures.open is) layout c.serve_opened-status.ensures.shut (unread g here) (kept g here) (subst (λ (s : StoreView). EndsRun c.serve_opened-status.result c.end_run.result s b d) c.into_store.ensures c.end_run.ensures)

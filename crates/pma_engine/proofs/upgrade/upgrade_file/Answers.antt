@@ -2,6 +2,7 @@ use Rattle.std.proofs.Common.{ap, subst, sym, ◌∙◌}
 use Rattle.station.specs.View.{Fixed, Told}
 use Rattle.pma_engine.proofs.Upgrading.{Comes, comes_opened, comes_unopened}
 use Rattle.pma_engine.proofs.Closing.{keeps_staying}
+use Rattle.pma_engine.proofs.ClosingFirst.{first_opened, first_unopened}
 use Rattle.pma_engine.proofs.Opening.{clean_opened, clean_unopened}
 use Rattle.pma_engine.proofs.upgrade.upgrade_file.Goals as goal
 
@@ -13,7 +14,7 @@ returns-in-Err g c =
     subst (λ n. Comes n a d) (sym c.end_unopened.ensures.status)
     (comes_unopened a (g.S.Station.view c.open_file.new.station) (g.met.S.Station.lawful c.args.station.now) c.open_file.ensures.opens.steps d c.in-Err.fault c.in-Err.ensures.opens.unopened
     (λ none. ap g.S.Station.view (c.end_unopened.ensures.silent none)) c.end_unopened.ensures.says c.end_unopened.ensures.line) in
-    record { status = comes.status_is; attached = comes.attached; clean = clean_unopened a (g.S.Station.view c.open_file.new.station) d (g.met.S.Station.lawful c.args.station.now) (g.met.S.Station.lawful c.open_file.new.station) c.open_file.ensures.opens.steps c.open_file.ensures.opens.clean c.end_unopened.ensures.says; upgraded = comes.upgraded; disk = comes.disk }
+    record { status = comes.status_is; attached = comes.attached; clean = clean_unopened a (g.S.Station.view c.open_file.new.station) d (g.met.S.Station.lawful c.args.station.now) (g.met.S.Station.lawful c.open_file.new.station) c.open_file.ensures.opens.steps c.open_file.ensures.opens.clean c.end_unopened.ensures.says; closes = first_unopened a (g.S.Station.view c.open_file.new.station) d (g.met.S.Station.lawful c.args.station.now) (g.met.S.Station.lawful c.open_file.new.station) c.open_file.ensures.opens.steps c.open_file.ensures.opens.closes c.end_unopened.ensures.says; upgraded = comes.upgraded; disk = comes.disk }
 
 pub returns-in-Ok : goal.returns-in-Ok
 returns-in-Ok g c =
@@ -24,7 +25,7 @@ returns-in-Ok g c =
     let on : Told b → Told d = λ told. ap (λ (f : Fixed). f.tells_held) (c.upgrade_opened.ensures.upgrades.run.fixed) ∙ told in
     let comes : Comes c.upgrade_opened.result a d =
     comes_opened a b (g.met.S.Station.lawful c.args.station.now) c.open_file.ensures.opens.steps c.in-Ok.store c.in-Ok.ensures.opens.opened c.upgrade_opened.result d c.upgrade_opened.ensures.upgrades c.upgrade_opened.ensures.shut in
-    record { status = comes.status_is; attached = comes.attached; clean = clean_opened a b d (g.met.S.Station.lawful c.args.station.now) law_b c.open_file.ensures.opens.steps c.open_file.ensures.opens.clean c.in-Ok.ensures.opens.settled (keeps_staying on c.in-Ok.ensures.opens.opened.shut (c.upgrade_opened.ensures.shut)); upgraded = comes.upgraded; disk = comes.disk }
+    record { status = comes.status_is; attached = comes.attached; clean = clean_opened a b d (g.met.S.Station.lawful c.args.station.now) law_b c.open_file.ensures.opens.steps c.open_file.ensures.opens.clean c.in-Ok.ensures.opens.settled (keeps_staying on c.in-Ok.ensures.opens.opened.shut (c.upgrade_opened.ensures.shut)); closes = first_opened a b d (g.met.S.Station.lawful c.args.station.now) law_b c.open_file.ensures.opens.steps c.open_file.ensures.opens.closes c.in-Ok.ensures.opens.settled c.in-Ok.ensures.opens.opened.shut (keeps_staying on c.in-Ok.ensures.opens.opened.shut (c.upgrade_opened.ensures.shut)); upgraded = comes.upgraded; disk = comes.disk }
 
 pub upgrade_opened-requires-clause-nothing : goal.upgrade_opened-requires-clause-nothing
 upgrade_opened-requires-clause-nothing g c = c.in-Ok.ensures.opens.settled

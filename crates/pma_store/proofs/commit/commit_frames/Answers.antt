@@ -1,10 +1,11 @@
-use Rattle.std.proofs.Common.{◌≡◌, ℕ, ◌*◌, List, [], ◌<◌, refl, sym, ap, subst, ◌∙◌, arith, inl, inr}
+use Rattle.std.proofs.Common.{◌≡◌, ℕ, ◌+◌, ◌*◌, List, [], length, ◌<◌, refl, sym, ap, subst, ◌∙◌, arith, inl, inr}
 use Rattle.std.proofs.lemmas.List.{nil_from_length}
 use Rattle.station.proofs.Composition.{no_steps, weaken}
 use Rattle.header_gate.specs.Recovered.{is_laid, replayed_over, live_table, recovered}
 use Rattle.redo_journal.specs.Commit.{frame_byte}
 use Rattle.std.proofs.lemmas.Result.{on_ok_weaker}
 use Rattle.redo_journal.proofs.Live.{next_small}
+use Rattle.pma_store.proofs.ClearCosts.{called_runs, commit_bytes}
 use Rattle.pma_store.proofs.FittingLaws.{laid_nothing}
 use Rattle.pma_store.proofs.Touching.{untouched}
 use Rattle.pma_store.proofs.commit.commit_frames.Goals as goal
@@ -41,9 +42,15 @@ returns-clause-committed g c =
       laid = c.commit.ensures.laid;
       rests = c.commit.ensures.rests;
       none = λ zero. absurd (omega (arith, zero, c.if-count-eq0.false));
-      cost = omega (arith, c.commit.ensures.cost, c.requires.pages);
+      cost =
+          omega (
+            arith,
+            commit_bytes place.layout (g.S.Station.view c.args.station.now).travel.written (g.S.Station.view c.commit.new.station).travel.written (8196 * length c.args.frames.now.numbers + 5) (omega (arith, c.commit.ensures.cost))
+                (λ paired. omega (arith, c.commit.ensures.cost_paired paired)),
+            c.requires.pages,
+          );
       unread = c.commit.ensures.no_reads;
-      calls = c.commit.ensures.calls;
+      calls = called_runs place.layout (g.S.Station.view c.args.station.now).calls (g.S.Station.view c.commit.new.station).calls _ c.commit.ensures.calls c.commit.ensures.calls_paired;
       cause = c.commit.ensures.cause;
     }
 

@@ -1,4 +1,4 @@
-use Rattle.std.proofs.Common.{◌≡◌, inl, ℕ, ◌+◌, ◌^◌, ◌<◌, List, [], ◌∷◌, length, All, refl, sym, ap, ◌∙◌, subst, arith}
+use Rattle.std.proofs.Common.{◌≡◌, inl, ℕ, ◌+◌, ◌*◌, ◌^◌, ◌<◌, List, [], ◌∷◌, length, All, refl, sym, ap, ◌∙◌, subst, arith}
 use Rattle.std.proofs.Math.Pow.{pow_mono}
 use Rattle.key_slot.proofs.SegmentLaws.{times_up}
 use Rattle.std.proofs.lemmas.Result.{on_ok_weaker}
@@ -12,6 +12,7 @@ use Rattle.redo_journal.specs.Commit.{Commits, frame_byte}
 use Rattle.segment_frames.specs.declared.runs.Runs.{Runs}
 use Rattle.segment_frames.specs.Lists.{numbers_of}
 use Rattle.segment_frames.proofs.PageNumbers.{few_runs, pages_back, whole_pages}
+use Rattle.pma_store.proofs.ClearCosts.{called_runs, commit_bytes}
 use Rattle.pma_store.proofs.Rewriting.{rewrites, has_rewritten, room_of, pages_within}
 use Rattle.pma_store.proofs.commit.commit_rows.Goals as goal
 use Rattle.pma_store.proofs.commit.commit_rows.Goals.{After-load_frame, After-commit}
@@ -49,7 +50,13 @@ commit-requires-clause-below g c =
     subst (λ (ns : List ℕ). All (λ n. n < 2 ^ c.args.place.now.layout.hmax) ns) (sym c.load_frame.ensures.numbers) (pages_within c.args.place.now.layout c.args.segment c.requires.layout c.requires.segment)
 
 pub returns-clause-cost : goal.returns-clause-cost
-returns-clause-cost g c = omega (arith, c.commit.ensures.cost, paged g (goal.at.returns-clause-cost g c).After-load_frame)
+returns-clause-cost g c =
+    let pages = paged g (goal.at.returns-clause-cost g c).After-load_frame in
+    omega (
+      arith,
+      commit_bytes c.args.place.now.layout (g.S.Station.view c.args.station.now).travel.written (g.S.Station.view c.commit.new.station).travel.written (8196 * c.args.place.now.layout.format + 5)
+          (omega (arith, c.commit.ensures.cost, pages)) (λ paired. omega (arith, c.commit.ensures.cost_paired paired, pages)),
+    )
 
 pub returns-clause-calls : goal.returns-clause-calls
 returns-clause-calls g c =
@@ -57,7 +64,8 @@ returns-clause-calls g c =
     let one : Runs = record { low = c.args.segment; low_len = 1; high = c.args.segment + 1; high_len = 0 } in
     let pages = c.load_frame.new.frames.numbers in
     let are = c.load_frame.ensures.numbers ∙ ap (pages_of_all format) (sym (one_number c.args.segment)) in
-    omega (arith, c.commit.ensures.calls, few_runs format pages one (whole_pages format pages (numbers_of one) c.requires.layout.format.least are) (pages_back format pages (numbers_of one) c.requires.layout.format.least are))
+    let few = few_runs format pages one (whole_pages format pages (numbers_of one) c.requires.layout.format.least are) (pages_back format pages (numbers_of one) c.requires.layout.format.least are) in
+    called_runs c.args.place.now.layout (g.S.Station.view c.args.station.now).calls (g.S.Station.view c.commit.new.station).calls 1 (omega (arith, c.commit.ensures.calls, few)) (λ paired. omega (arith, c.commit.ensures.calls_paired paired, few))
 
 -- the commit is one of its pages
 steps : (g : _) (c : After-commit g) → Steps (Commits c.args.place.now.layout c.args.place.now.region (pages_of_all c.args.place.now.layout.format (c.args.segment ∷ [])) (frame_byte c.load_frame.new.frames.slots)) (g.S.Station.view c.args.station.now) (g.S.Station.view c.commit.new.station)

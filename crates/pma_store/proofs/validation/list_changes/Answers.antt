@@ -8,7 +8,9 @@ use Rattle.map_model.specs.Store.{Update, unbind, key_of}
 use Rattle.one_commit.specs.declared.changes.ItemChange.{ItemChange}
 use Rattle.one_commit.specs.Fitting.{change_before, changes_in, is_put, with_change}
 use Rattle.segment.specs.Rows.{key_at}
+use Rattle.pma_store.specs.Validating.{AreCounted, counted_first}
 use Rattle.pma_store.specs.Looked.{BelongThere, HasFound}
+use Rattle.pma_store.proofs.CountedChanges.{counted_more}
 use Rattle.pma_store.proofs.Listed.{changes_next, all_more, change_is}
 use Rattle.std.proofs.lemmas.List.{get_or_default}
 use Rattle.pma_store.proofs.validation.list_changes.Goals as goal
@@ -31,6 +33,7 @@ loop-i-preserved c =
     let more = λ (array : Array) (n : ℕ) (some : 0 < length array) (ascends : IsAscending (rows array)) (belong : BelongThere array numbers items) (small : (k : ℕ) → k < length numbers → get_or numbers k 0 < n) (finds : HasFound array numbers items found n).
     change_is array numbers items found n some ascends belong finds i none lt (small i (omega (arith, lt, c.requires.segments))) c.is_put_item-puts.result puts (get_or found i (Err 0)) refl c.change_of.result
     (λ at ascending place. subst (λ (x : Result ℕ ℕ). change_before (is_ok x) array (get_or items i none) [] ≡ with_change c.change_of.result []) (get_or_default found i (_) (Err 0) there) (c.change_of.ensures.change array (get_or items i none) [] puts at ascending (subst (λ (x : Result ℕ ℕ). IfOk x (λ place. key_at (segment_at array (get_or numbers i 0)) place ≡ Some (key_of (get_or items i none)))) (get_or_default found i (Err 0) (_) there) place))) in
+    let counted = counted_more items (λ k. is_ok (get_or found k (Err 0))) i (take c.loop-i.count c.loop-i.changes) is.counted c.is_put_item-puts.result puts _ (ap is_ok (get_or_default found i _ (Err 0) there)) _ c.change_of.result c.change_of.ensures.change in
     elim c.match-change_of.branch [
       | in-Some w ↦
           let room : c.loop-i.count < length c.loop-i.changes = omega (arith, is.few, few, is.size) in
@@ -39,6 +42,7 @@ loop-i-preserved c =
             few = omega (arith, is.few, w.count-is);
             size = ap length w.changes-is ∙ length-set c.loop-i.changes c.loop-i.count w.in-Some.change ∙ is.size;
             in_store = λ n small. subst (All (λ (x : ItemChange). x.segment < n)) (sym longer) (all_more (λ (x : ItemChange). x.segment < n) (take c.loop-i.count c.loop-i.changes) w.in-Some.change (is.in_store n small) (omega (arith, w.in-Some.ensures.segment, small i (omega (arith, lt, c.requires.segments)))));
+            counted = subst (λ (l : List ItemChange). AreCounted l (counted_first items (λ k. is_ok (get_or found k (Err 0))) (i + 1))) (ap (λ o. take c.loop-i.count c.loop-i.changes ++ with_change o []) w.in-Some.is ∙ sym longer) counted;
             listed = λ array n some ascends belong small finds.
                 longer ∙ ap (λ (l : List ItemChange). l ++ w.in-Some.change ∷ []) (is.listed array n some ascends belong small finds)
                 ∙ ap (λ (l : List ItemChange). changes_in array (take i items) ++ l) (sym (more array n some ascends belong small finds ∙ ap (λ o. with_change o []) w.in-Some.is))
@@ -50,6 +54,7 @@ loop-i-preserved c =
             few = omega (arith, is.few, w.count-is);
             size = ap length w.changes-is ∙ is.size;
             in_store = λ n small. subst (All (λ (x : ItemChange). x.segment < n)) (sym same) (is.in_store n small);
+            counted = subst (λ (l : List ItemChange). AreCounted l (counted_first items (λ k. is_ok (get_or found k (Err 0))) (i + 1))) (ap (λ o. take c.loop-i.count c.loop-i.changes ++ with_change o []) w.in-None.is ∙ append-nil (take c.loop-i.count c.loop-i.changes) ∙ sym same) counted;
             listed = λ array n some ascends belong small finds.
                 same ∙ is.listed array n some ascends belong small finds ∙ sym (append-nil (changes_in array (take i items)))
                 ∙ ap (λ (l : List ItemChange). changes_in array (take i items) ++ l) (sym (more array n some ascends belong small finds ∙ ap (λ o. with_change o []) w.in-None.is))
@@ -61,3 +66,8 @@ pub returns-clause-listed : goal.returns-clause-listed
 returns-clause-listed c = λ array n some ascends belong small finds.
     let end : c.loop-i.i ≡ length c.args.intent.now = omega (arith, c.len-i-end.ensures.count, c.loop-i-test.false) in
     c.loop-i.invariant.listed array n some ascends belong small finds ∙ ap (changes_in array) (take_all c.loop-i.i c.args.intent.now (omega (arith, end)))
+
+pub returns-clause-counted : goal.returns-clause-counted
+returns-clause-counted c =
+    let end : c.loop-i.i ≡ length c.args.intent.now = omega (arith, c.len-i-end.ensures.count, c.loop-i-test.false) in
+    subst (λ (n : ℕ). AreCounted (take c.loop-i.count c.loop-i.changes) (counted_first c.args.intent.now (λ k. is_ok (get_or c.args.found.now k (Err 0))) n)) end c.loop-i.invariant.counted

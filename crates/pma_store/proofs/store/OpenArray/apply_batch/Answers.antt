@@ -1,4 +1,5 @@
-use Rattle.std.proofs.Common.{ℕ, List, Result, Ok, ◌<◌, ◌≤◌, subst, ap, ◌∙◌, arith, rules}
+use Rattle.std.proofs.Common.{ℕ, List, Result, Ok, ◌<◌, ◌≤◌, subst, sym, ap, ◌∙◌, arith, rules}
+use Rattle.std.specs.Prelude.{sum}
 use Rattle.std.proofs.lemmas.Grind.{common_steps}
 use Rattle.station.proofs.Composition.{no_steps, told_back}
 use Rattle.density_rule.specs.Bounds.{upper_of}
@@ -7,6 +8,7 @@ use Rattle.segment.specs.declared.fault.StoreFault.{StoreFault}
 use Rattle.pma_store.specs.declared.batch.Attempt.{Attempt}
 use Rattle.pma_store.specs.Answers.{state_in}
 use Rattle.pma_store.specs.AtOnce.{TriesOnce}
+use Rattle.pma_store.specs.Validating.{CountsFound, counts_of, there_in}
 use Rattle.pma_store.specs.Once.{AreOneCommit}
 use Rattle.pma_store.specs.BatchCalls.{CallsIntent}
 use Rattle.pma_store.specs.Batching.{AppliesBatch, version_of}
@@ -35,6 +37,12 @@ run_batch-requires-clause-unfit g c told =
     λ are. validates.1 before
     (subst (λ (x : List ℕ). AreOneCommit c.args.self.now.place.layout (state_in c.args.self.now x) c.args.intent.now) (validates.0.steps.held before)
     (subst (λ (v : StoreView). AreOneCommit v.place.layout (state_in v (g.S.Station.view c.try_at_once.new.station).held) c.args.intent.now) validates.0.store are))
+
+-- and they were counted as they were found
+pub run_batch-requires-clause-counted : goal.run_batch-requires-clause-counted
+run_batch-requires-clause-counted g c =
+    let validates = subst (λ (r : Result Attempt StoreFault). TriesOnce c.args.intent.now r c.args.self.now c.try_at_once.new.self (g.S.Station.view c.args.station.now) (g.S.Station.view c.try_at_once.new.station)) (c.in-Ok-Validated.is ∙ ap Ok c.in-Ok-Validated.field-0-is) c.try_at_once.ensures in
+    subst (λ (v : StoreView). CountsFound c.args.intent.now (there_in c.in-Ok-Validated.validated.found) (sum v.tally.counts) (upper_of (limit_of v)) (counts_of c.in-Ok-Validated.validated)) (sym validates.0.store) validates.2
 
 pub returns-in-Ok-Validated : goal.returns-in-Ok-Validated
 returns-in-Ok-Validated g c =

@@ -22,7 +22,7 @@ use Rattle.window_tally.specs.Choice.{adds, IsPossible, pick_of}
 use Rattle.window_tally.specs.View.{TallyView}
 use Rattle.map_model.specs.ArrayState.{next_state, report_by, report_of}
 use Rattle.pma_store.specs.Answers.{state_in, reported}
-use Rattle.pma_store.specs.Counting.{counted}
+use Rattle.pma_store.specs.Counting.{SumsIf, SumsOne, counted}
 use Rattle.pma_store.specs.Changing.{outcome_of, update_cost, picked_height}
 use Rattle.pma_store.specs.declared.answers.Outcome.TheVariants.{Changed}
 use Rattle.pma_store.specs.Rewrites.{HasRewritten, Rewrites, rewritten, commit_cost}
@@ -32,7 +32,7 @@ use Rattle.map_model.specs.ArrayUpdates.{edited}
 use Rattle.pma_store.specs.Updating.{FitsFormat, update_of}
 use Rattle.pma_store.proofs.Changes.{outcome_by, taken_some, height_same, report_same, final_array, final_holds, final_marks}
 use Rattle.pma_store.proofs.Outcomes.{needs_in, IsQuiet, limit_by, records_are, rows_len, rewritten_represents, state_after}
-use Rattle.pma_store.proofs.Picks.{most_cost, picked_is, limit_adds, balanced_next}
+use Rattle.pma_store.proofs.Picks.{most_cost, picked_is, limit_adds, balanced_next, sum_next}
 use Rattle.pma_store.proofs.Steps.{own_of, keeps_updates, keeps_then, rewrite_updates}
 use Rattle.pma_store.proofs.Touching.{rewrite_place, place_then}
 use Rattle.pma_store.proofs.store.OpenArray.change.Goals as goal
@@ -44,7 +44,7 @@ use Rattle.pma_store.proofs.Damages.{change_is, none_asks}
 use Rattle.pma_store.proofs.Making.{no_fault, stands_there, stands_again, quiet_applies, fault_applies, rewrite_faults, changes}
 use Rattle.pma_store.specs.Readying.{broken_in, readied, ready_cost, resizes}
 use Rattle.pma_store.specs.Damaging.{IsMetLate, change_in, picked, report_at}
-use Rattle.pma_store.specs.Calling.{asked_calls, update_calls}
+use Rattle.pma_store.specs.Calling.{asked_calls, commit_calls, update_calls}
 use Rattle.pma_store.proofs.Meeting.{moved_one, quiet_within}
 use Rattle.std.specs.Prelude.{is_ok}
 use Rattle.pma_store.proofs.store.OpenArray.change.Goals.{After-prepare, After-rewrite, Then-eq}
@@ -305,6 +305,34 @@ wide g c n le = subst (λ (p : Pick). n ≤ (g.S.Station.view c.args.station.now
 own : (g : _) (c : After-prepare g) → c.args.change ≡ change_in (update_of c.args.update.now)
 own g c = change_is (update_of c.args.update.now) (is_ok c.args.location.found) c.args.change c.requires.needs
 
+-- one record more, or one less
+summed : (g : _) (c : After-rewrite g) → c.rewrite.new.self.tally ≡ counted (Some c.args.change) c.in-Ok.next.segment c.prepare.new.self.tally → SumsOne c.args.change (sum c.args.self.now.tally.counts) (sum c.rewrite.new.self.tally.counts)
+summed g c counted_is =
+    let t = c.args.self.now.tally in
+    let u = update_of c.args.update.now in
+    let ready = c.in-Ok.ensures.ready in
+    let at = c.in-Ok.next.segment in
+    let is = ready.tally_is in
+    let kept = c.requires.kept in
+    let not_at : c.pick-pick.result ≢ AtLimit = first_of (search rules, grind (arith, common_steps)) in
+    let next = sum_next c.args.change c.args.location.segment t kept.tally kept.balanced c.requires.location.within
+    (taken_some u c.args.self.now c.args.location c.args.rows.now c.args.change c.requires.location c.requires.needs) (λ add. c.pick-pick.ensures.few add not_at)
+    at (subst (λ (t : TallyView). at < 2 ^ t.height) is ready.is_location.within)
+    (λ takes. subst (λ (t : TallyView). 1 ≤ get_or t.counts at 0) is (taken_some u c.prepare.new.self c.in-Ok.next c.prepare.new.rows c.args.change ready.is_location ready.needs takes)) in
+    subst (λ (v : TallyView). SumsOne c.args.change (sum t.counts) (sum v.counts)) (sym (counted_is ∙ ap (counted (Some c.args.change) at) is)) next
+
+pub returns-in-Ok-rewrite-clause-sums : goal.returns-in-Ok-rewrite-clause-sums
+returns-in-Ok-rewrite-clause-sums g c = λ _. summed g (goal.at.returns-in-Ok-rewrite-clause-sums g c).After-rewrite c.in-Ok-rewrite.ensures.counted
+
+-- a store with room isn't at its limit
+pub returns-then-eq-clause-sums : goal.returns-then-eq-clause-sums
+returns-then-eq-clause-sums g c = λ room.
+    let s = c.args.self.now in
+    let is : c.pick-pick.result ≡ AtLimit = first_of (search rules, grind (arith, common_steps)) in
+    let full = (subst (IsPossible s.tally) is c.pick-pick.ensures.possible).1 in
+    let add = limit_adds c.args.change c.args.location.segment s.tally (sym c.pick-pick.ensures.answer ∙ is) in
+    absurd (omega (arith, room add, full, ap (λ (h : ℕ). upper_of h) c.requires.kept.hmax))
+
 pub returns-then-eq-clause-within : goal.returns-then-eq-clause-within
 returns-then-eq-clause-within g c = quiet_within (update_of c.args.update.now) c.args.location.segment c.args.self.now
 
@@ -324,9 +352,11 @@ returns-in-Ok-rewrite-clause-within g c =
         there_in = subst (λ (h : ℕ). c.in-Ok.next.segment < 2 ^ h) (sym (ap (λ (t : TallyView). t.height) c.in-Ok-rewrite.ensures.counted)) c.in-Ok.ensures.ready.is_location.within;
         counts = c.in-Ok-rewrite.ensures.counted ∙ (λ τ. counted (Some (own g before τ)) c.in-Ok.next.segment (c.in-Ok.ensures.ready.tally_is τ)) ∙ ap (λ (ch : Change). counted (Some (change_in u)) c.in-Ok.next.segment (readied ch c.args.location.segment t)) (own g before);
       });
+      sums = subst (λ (b : Bool). SumsIf b (change_in u) (sum t.counts) (sum c.rewrite.new.self.tally.counts)) (sym (moved_one u))
+          (subst (λ (ch : Change). SumsOne ch (sum t.counts) (sum c.rewrite.new.self.tally.counts)) (own g before) (summed g (goal.at.returns-in-Ok-rewrite-clause-within g c).After-rewrite c.in-Ok-rewrite.ensures.counted));
       late = tt;
-      asked = few g before _ (omega (arith, c.in-Ok.ensures.kept.calls, c.in-Ok-rewrite.ensures.calls));
-      calls = omega (arith, c.in-Ok.ensures.kept.calls, c.in-Ok-rewrite.ensures.calls, c.report-report.ensures.calls, ap (λ (h : ℕ). update_calls c.args.self.now.place.layout t.height h c.report-report.result) (tall g (goal.at.returns-in-Ok-rewrite-clause-within g c).After-rewrite c.in-Ok-rewrite.ensures.counted));
+      asked = few g before _ (omega (arith, c.in-Ok.ensures.kept.calls, c.in-Ok-rewrite.ensures.calls, ap commit_calls c.in-Ok.ensures.kept.layout));
+      calls = omega (arith, c.in-Ok.ensures.kept.calls, c.in-Ok-rewrite.ensures.calls, ap commit_calls c.in-Ok.ensures.kept.layout, c.report-report.ensures.calls, ap (λ (h : ℕ). update_calls c.args.self.now.place.layout t.height h c.report-report.result) (tall g (goal.at.returns-in-Ok-rewrite-clause-within g c).After-rewrite c.in-Ok-rewrite.ensures.counted));
       spared = λ none. tt;
       written = wide g before _ (omega (arith, c.in-Ok.ensures.kept.cost, c.in-Ok-rewrite.ensures.cost, ap commit_cost c.in-Ok.ensures.kept.layout));
     }
@@ -340,8 +370,9 @@ returns-in-Err-rewrite-clause-within g c =
     record {
       report = tt;
       counts = tt;
+      sums = tt;
       late = inl one.disk;
-      asked = few g before _ (omega (arith, ready.calls, one.calls));
+      asked = few g before _ (omega (arith, ready.calls, one.calls, ap commit_calls ready.layout));
       calls = tt;
       spared = λ none.
           let fits : c.pick-pick.result ≡ Fits = c.pick-pick.ensures.answer ∙ ap (pick_of s.tally.hmax s.tally.height c.args.location.segment c.args.change) (ap (λ (ch : Change). broken_in ch c.args.location.segment s.tally) (own g before) ∙ none) in
@@ -356,6 +387,7 @@ returns-in-Err-clause-within g c =
     record {
       report = tt;
       counts = tt;
+      sums = tt;
       late = subst (λ (ch : Change). IsMetLate ch c.args.location.segment s c.prepare.new.self c.in-Err.fault (g.S.Station.view c.prepare.new.station)) same c.in-Err.ensures.late;
       asked = few g (goal.at.returns-in-Err-clause-within g c).After-prepare _ (omega (arith, c.in-Err.ensures.kept.calls));
       calls = tt;

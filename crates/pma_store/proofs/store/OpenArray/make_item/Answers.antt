@@ -1,7 +1,9 @@
 use Rattle.std.proofs.Common.{Bool, Option, Some, None, sym, ap, subst, ◌∙◌}
-use Rattle.std.specs.Prelude.{is_ok}
+use Rattle.std.specs.Prelude.{is_ok, sum}
+use Rattle.density_rule.specs.Bounds.{upper_of}
 use Rattle.pma_store.specs.Items.{ChangesNone, CountsAsFound, IsAsFound}
-use Rattle.pma_store.specs.Store.{StoreView, IsStore, StandsOn}
+use Rattle.pma_store.specs.Validating.{SumsItem}
+use Rattle.pma_store.specs.Store.{StoreView, IsStore, StandsOn, limit_of}
 use Rattle.pma_store.proofs.Making.{stands_on}
 use Rattle.pma_store.specs.Updating.{update_of}
 use Rattle.pma_store.proofs.ItemsApplied.{applied_behind, applied_item, failed_item, unfound_item}
@@ -41,3 +43,13 @@ returns-in-Ok-apply_at-clause-as_found g c = by c.args.found c.in-Ok.ensures.as_
     by : (o : Option Bool) → IsAsFound o (is_ok c.in-Ok.location.found) → CountsAsFound o (update_of c.args.update.now) c.args.self.now.tally c.apply_at.new.self.tally
     by None same = tt
     by (Some present) same = λ none. c.in-Ok-apply_at.ensures.counts (subst (ChangesNone (update_of c.args.update.now)) (sym same) none) ∙ ap (λ (v : StoreView). v.tally) c.find_as.ensures.location.store
+
+-- and the number of records goes by what was found
+pub returns-in-Ok-apply_at-clause-sums : goal.returns-in-Ok-apply_at-clause-sums
+returns-in-Ok-apply_at-clause-sums g c = by c.args.found c.in-Ok.ensures.as_found
+  where
+    by : (o : Option Bool) → IsAsFound o (is_ok c.in-Ok.location.found) → SumsItem o (update_of c.args.update.now) (upper_of (limit_of c.args.self.now)) (sum c.args.self.now.tally.counts) (sum c.apply_at.new.self.tally.counts)
+    by None same = tt
+    by (Some present) same =
+        subst (λ (b : Bool). SumsItem (Some b) (update_of c.args.update.now) (upper_of (limit_of c.args.self.now)) (sum c.args.self.now.tally.counts) (sum c.apply_at.new.self.tally.counts)) same
+        (subst (λ (s : StoreView). SumsItem (Some (is_ok c.in-Ok.location.found)) (update_of c.args.update.now) (upper_of (limit_of s)) (sum s.tally.counts) (sum c.apply_at.new.self.tally.counts)) c.find_as.ensures.location.store c.in-Ok-apply_at.ensures.sums)

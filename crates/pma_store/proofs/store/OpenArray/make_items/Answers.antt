@@ -1,22 +1,26 @@
 use Rattle.std.proofs.Common.{◌≡◌, ℕ, suc, ◌+◌, ◌<◌, ◌%◌, [], Bool, Option, Ok, Err, length, get_or, ap, subst, sym, ◌∙◌, arith}
-use Rattle.std.specs.Prelude.{is_some}
+use Rattle.std.specs.Prelude.{is_some, sum}
 use Rattle.batch_intent.specs.Spelling.{fits_item}
 use Rattle.batch_intent.proofs.Kept.{all_at}
+use Rattle.density_rule.specs.Bounds.{upper_of}
 use Rattle.header_gate.specs.declared.layout.Layout.{Layout}
+use Rattle.header_gate.specs.Places.{height_limit}
 use Rattle.map_model.specs.Array.{segment_at, segment_for}
 use Rattle.map_model.specs.Image.{array_of}
 use Rattle.map_model.specs.Store.{Update, unbind, key_of}
 use Rattle.segment.specs.Rows.{value_of}
 use Rattle.pma_store.specs.Items.{IsAsFound, MakesItem}
-use Rattle.pma_store.specs.Validating.{found_at}
+use Rattle.pma_store.specs.Validating.{SumsItem, found_at}
+use Rattle.pma_store.specs.Store.{limit_of}
 use Rattle.pma_store.specs.Updating.{FitsFormat, update_of}
 use Rattle.pma_store.proofs.ItemsApplied.{fits_format}
 use Rattle.pma_store.proofs.ItemsMade.{HasMade, none_made, one_more, one_fails, as_found, all_made, not_closed}
 use Rattle.pma_store.proofs.Resting.{rests_closed}
+use Rattle.pma_store.proofs.Sums.{all_sums, next_sums, none_sums}
 use Rattle.pma_store.proofs.store.OpenArray.make_items.Goals as goal
 
 pub loop-i-init : goal.loop-i-init
-loop-i-init g c = record { made = none_made c.args.intent.now c.args.self.now c.requires.on }
+loop-i-init g c = record { made = none_made c.args.intent.now c.args.self.now c.requires.on; sums = none_sums c.args.found c.args.intent.now _ _ }
 
 pub make_item-requires-clause-fits : goal.make_item-requires-clause-fits
 make_item-requires-clause-fits g c =
@@ -41,8 +45,8 @@ make_item-requires-clause-found g c told =
     subst (λ (o : Option Bool). IsAsFound o (is_some (value_of (key_of (update_of c.update_in-update.result)) (segment_at segments (segment_for segments (key_of (update_of c.update_in-update.result))))))) (sym c.found_of.ensures)
     (subst (λ (u : Update). IsAsFound (found_at c.args.found i) (is_some (value_of (key_of u) (segment_at segments (segment_for segments (key_of u)))))) (sym item) own)
 
-pub returns-in-Err : goal.returns-in-Err
-returns-in-Err g c =
+pub returns-in-Err-clause-made : goal.returns-in-Err-clause-made
+returns-in-Err-clause-made g c =
     let items = c.args.intent.now in
     let d : Update = unbind [] in
     let i = c.loop-i.i in
@@ -68,10 +72,16 @@ loop-i-preserved g c =
       made = subst (λ (n : ℕ). HasMade items n (c.loop-i.charges + c.in-Ok.charge) c.args.self.now c.make_item.new.self a e) next
           (one_more items i c.loop-i.charges c.args.self.now c.loop-i.self c.make_item.new.self a b e c.loop-i.invariant.made d lt c.in-Ok.charge (g.met.S.Station.lawful c.make_item.new.station)
           (subst (λ (u : Update). MakesItem u (Ok c.in-Ok.charge) c.loop-i.self c.make_item.new.self b e) item c.in-Ok.ensures.made));
+      sums =
+          let same : limit_of c.loop-i.self ≡ limit_of c.args.self.now = ap height_limit c.loop-i.invariant.made.layout in
+          next_sums c.args.found items i (upper_of (limit_of c.args.self.now)) (sum c.args.self.now.tally.counts) (sum c.loop-i.self.tally.counts) (sum c.make_item.new.self.tally.counts) lt c.loop-i.invariant.sums
+          (subst (λ (h : ℕ). SumsItem (found_at c.args.found i) (get_or items i d) (upper_of h) (sum c.loop-i.self.tally.counts) (sum c.make_item.new.self.tally.counts)) same
+          (subst (λ (u : Update). SumsItem (found_at c.args.found i) u (upper_of (limit_of c.loop-i.self)) (sum c.loop-i.self.tally.counts) (sum c.make_item.new.self.tally.counts)) item
+          (subst (λ (o : Option Bool). SumsItem o (update_of c.update_in-update.result) (upper_of (limit_of c.loop-i.self)) (sum c.loop-i.self.tally.counts) (sum c.make_item.new.self.tally.counts)) c.found_of.ensures c.in-Ok.ensures.sums)));
     }
 
-pub returns-in-Ok-close_intent : goal.returns-in-Ok-close_intent
-returns-in-Ok-close_intent g c =
+pub returns-in-Ok-close_intent-clause-made : goal.returns-in-Ok-close_intent-clause-made
+returns-in-Ok-close_intent-clause-made g c =
     let items = c.args.intent.now in
     let a = g.S.Station.view c.args.station.now in
     let b = g.S.Station.view c.loop-i.station in
@@ -82,8 +92,8 @@ returns-in-Ok-close_intent g c =
     (rests_closed c.loop-i.self.place.layout c.loop-i.self.turn (g.met.S.Station.lawful c.close_intent.new.station) made.on.rests c.in-Ok-close_intent.ensures.settled c.close_intent.ensures.steps)
     (λ told. ap (λ (n : ℕ). n % 2) (c.in-Ok-close_intent.ensures.closed told))
 
-pub returns-in-Err-close_intent : goal.returns-in-Err-close_intent
-returns-in-Err-close_intent g c =
+pub returns-in-Err-close_intent-clause-made : goal.returns-in-Err-close_intent-clause-made
+returns-in-Err-close_intent-clause-made g c =
     let items = c.args.intent.now in
     let a = g.S.Station.view c.args.station.now in
     let b = g.S.Station.view c.loop-i.station in
@@ -91,3 +101,6 @@ returns-in-Err-close_intent g c =
     let end : c.loop-i.i ≡ length items = omega (arith, c.len-i-end.ensures.count, c.loop-i-test.false) in
     let made = subst (λ (n : ℕ). HasMade items n c.loop-i.charges c.args.self.now c.loop-i.self a b) end c.loop-i.invariant.made in
     not_closed items c.loop-i.charges c.args.self.now c.loop-i.self a b e made c.close_intent.ensures.steps c.close_intent.ensures.cost c.close_intent.ensures.calls c.len-i-end.ensures.intent.most c.in-Err-close_intent.ensures.cause
+
+pub returns-in-Ok-close_intent-clause-sums : goal.returns-in-Ok-close_intent-clause-sums
+returns-in-Ok-close_intent-clause-sums g c = all_sums c.args.found c.args.intent.now c.loop-i.i _ _ _ (omega (arith, c.len-i-end.ensures.count, c.loop-i-test.false)) c.loop-i.invariant.sums

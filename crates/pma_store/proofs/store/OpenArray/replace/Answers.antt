@@ -104,4 +104,4 @@ pub returns-in-Ok-clause-within : goal.returns-in-Ok-clause-within
 returns-in-Ok-clause-within g c = replaced_within (update_of c.args.update.now) (is_ok c.args.location.found) c.args.location.segment c.args.self.now c.rewrite.new.self c.requires.needs c.in-Ok.ensures.counted c.rewrite.ensures.calls c.rewrite.ensures.cost
 
 pub returns-in-Err-clause-within : goal.returns-in-Err-clause-within
-returns-in-Err-clause-within g c = record { report = tt; counts = tt; late = inl c.in-Err.ensures.disk; asked = omega (arith, c.rewrite.ensures.calls); calls = tt; spared = λ none. c.in-Err.ensures.cost; written = omega (arith, c.in-Err.ensures.cost) }
+returns-in-Err-clause-within g c = record { report = tt; counts = tt; sums = tt; late = inl c.in-Err.ensures.disk; asked = omega (arith, c.rewrite.ensures.calls); calls = tt; spared = λ none. c.in-Err.ensures.cost; written = omega (arith, c.in-Err.ensures.cost) }

@@ -6,6 +6,7 @@ use Rattle.map_model.specs.Store.{Map}
 use Rattle.pma_store.specs.Validating.{AreAllFound, counts_of}
 use Rattle.pma_store.proofs.Batched.{stands_intent, state_intent, not_called, not_written, intent_called, items_fail, whole_batch}
 use Rattle.pma_store.proofs.Resting.{rests_written}
+use Rattle.pma_store.proofs.Sums.{counts_batch}
 use Rattle.pma_store.proofs.store.OpenArray.run_batch.Goals as goal
 
 pub make_items-requires-clause-on : goal.make_items-requires-clause-on
@@ -30,19 +31,20 @@ returns-in-Err-clause-intent g c =
 pub returns-in-Ok-make_items-clause-intent : goal.returns-in-Ok-make_items-clause-intent
 returns-in-Ok-make_items-clause-intent g c =
     intent_called c.args.intent.now c.args.self.now c.requires.open (g.met.S.Station.lawful c.args.station.now) c.requires.some c.write_intent.ensures.intent c.requires.fit c.requires.version (counts_of c.args.validated.now) c.requires.validated c.requires.unfit c.write_intent.ensures.steps
-    c.make_items.new.self (Ok c.in-Ok-make_items.charge) c.write_intent.ensures.calls c.in-Ok-make_items.ensures
+    c.make_items.new.self (Ok c.in-Ok-make_items.charge) c.write_intent.ensures.calls c.in-Ok-make_items.ensures.made
 
 pub returns-in-Err-make_items-clause-intent : goal.returns-in-Err-make_items-clause-intent
 returns-in-Err-make_items-clause-intent g c =
     intent_called c.args.intent.now c.args.self.now c.requires.open (g.met.S.Station.lawful c.args.station.now) c.requires.some c.write_intent.ensures.intent c.requires.fit c.requires.version (counts_of c.args.validated.now) c.requires.validated c.requires.unfit c.write_intent.ensures.steps
-    c.make_items.new.self (Err c.in-Err-make_items.fault) c.write_intent.ensures.calls c.in-Err-make_items.ensures
+    c.make_items.new.self (Err c.in-Err-make_items.fault) c.write_intent.ensures.calls c.in-Err-make_items.ensures.made
 
 pub returns-in-Ok-make_items-clause-applied : goal.returns-in-Ok-make_items-clause-applied
 returns-in-Ok-make_items-clause-applied g c =
     whole_batch c.args.intent.now c.args.self.now c.requires.open (g.met.S.Station.lawful c.args.station.now) c.requires.some c.write_intent.ensures.intent c.requires.fit c.requires.version (counts_of c.args.validated.now) c.requires.validated c.requires.unfit c.write_intent.ensures.steps
-    c.make_items.new.self (g.met.S.Station.lawful c.write_intent.new.station) c.in-Ok.ensures.settled c.in-Ok.ensures.opened (omega (arith, c.write_intent.ensures.cost)) c.write_intent.ensures.calls c.in-Ok-make_items.charge c.in-Ok-make_items.ensures
+    c.make_items.new.self (g.met.S.Station.lawful c.write_intent.new.station) c.in-Ok.ensures.settled c.in-Ok.ensures.opened (omega (arith, c.write_intent.ensures.cost)) c.write_intent.ensures.calls c.in-Ok-make_items.charge
+    (counts_batch c.args.intent.now c.args.validated.now.found _ _ _ c.in-Ok-make_items.charge (counts_of c.args.validated.now) c.requires.counted c.in-Ok-make_items.ensures.sums) c.in-Ok-make_items.ensures.made
 
 pub returns-in-Err-make_items-clause-applied : goal.returns-in-Err-make_items-clause-applied
 returns-in-Err-make_items-clause-applied g c =
     items_fail c.args.intent.now c.args.self.now c.requires.open (g.met.S.Station.lawful c.args.station.now) c.requires.some c.write_intent.ensures.intent c.requires.fit c.requires.version (counts_of c.args.validated.now) c.requires.validated c.requires.unfit c.write_intent.ensures.steps
-    c.make_items.new.self (g.met.S.Station.lawful c.write_intent.new.station) c.in-Ok.ensures.settled c.in-Ok.ensures.opened (omega (arith, c.write_intent.ensures.cost)) c.write_intent.ensures.calls c.in-Err-make_items.fault c.in-Err-make_items.ensures
+    c.make_items.new.self (g.met.S.Station.lawful c.write_intent.new.station) c.in-Ok.ensures.settled c.in-Ok.ensures.opened (omega (arith, c.write_intent.ensures.cost)) c.write_intent.ensures.calls c.in-Err-make_items.fault c.in-Err-make_items.ensures.made

@@ -1,4 +1,5 @@
 use Rattle.std.proofs.Common.{◌≡◌, ℕ, ◌+◌, ◌*◌, ◌^◌, ◌<◌, ◌≤◌, List, length, take, get_or, Result, Ok, Err, Some, None, refl, sym, ap, subst, ◌∙◌, arith}
+use Rattle.std.specs.Prelude.{is_ok, sum}
 use Rattle.std.proofs.lemmas.List.{length-take-le}
 use Rattle.station.specs.View.{Told}
 use Rattle.station.proofs.Composition.{told_back}
@@ -11,9 +12,10 @@ use Rattle.pma_store.specs.declared.batch.Attempt.{Attempt}
 use Rattle.pma_store.specs.declared.batch.Attempt.TheVariants.{Validated}
 use Rattle.pma_store.specs.AtOnce.{TriesOnce}
 use Rattle.pma_store.specs.BatchCalls.{CallsBatch}
+use Rattle.pma_store.specs.Calling.{runs_calls}
 use Rattle.pma_store.specs.Batching.{AppliesBatch, done_by, version_of}
 use Rattle.pma_store.specs.Inside.{view_of}
-use Rattle.pma_store.specs.Validating.{ValidatesItems, counts_of, edits_of, validated_of}
+use Rattle.pma_store.specs.Validating.{ValidatesItems, counts_of, edits_of, validated_of, there_in}
 use Rattle.pma_store.specs.Looked.{BelongThere, HasLooked}
 use Rattle.pma_store.specs.Once.{AreUsed}
 use Rattle.pma_store.specs.Store.{StoreView, IsOpenOn, limit_of}
@@ -26,6 +28,7 @@ use Rattle.pma_store.proofs.ItemsApplied.{tall_of}
 use Rattle.pma_store.proofs.Committed.{IsReadyAtOnce, validates, looks_fail}
 use Rattle.pma_store.proofs.Making.{opens_on, stands_there}
 use Rattle.pma_store.proofs.OnceLaws.{used_few}
+use Rattle.pma_store.proofs.Sums.{found_as}
 use Rattle.pma_store.proofs.Unfit.{not_once}
 use Rattle.pma_store.proofs.Resting.{readable_held}
 use Rattle.pma_store.proofs.Standing.{rows_ascend}
@@ -102,7 +105,13 @@ returns-in_default-list_fitting g c =
       λ told are.
           not_once items s a.held (stands_there s (opened g found).on told) c.find_segments.new.segments c.look_over.new.frames c.look_over.new.look validated looks.loaded (looks.looked told) (looks.used told) (belong g found told)
           c.len-len.ensures.intent.distinct (tells.validated told) are (c.in_default-list_fitting.ensures.unfit refl),
+      found_as items (λ k. is_ok (get_or c.look_over.new.look.found k (Err 0))) (there_in validated.found) c.records.result c.args.most (sum s.tally.counts) (upper_of (limit_of s)) (counts_of validated) (λ j lt. sym (c.in-Some.ensures.found j lt)) c.records.ensures (most g found)
+          c.in-Some.ensures.as_found,
     )
+
+-- the items were counted as they were found
+pub list_fitting-requires-clause-counted : goal.list_fitting-requires-clause-counted
+list_fitting-requires-clause-counted g c = c.in-Some.ensures.as_found.counts_are
 
 pub slice_bounds-changes-end : goal.slice_bounds-changes-end
 slice_bounds-changes-end g c = omega (arith, c.in-Some-list_fitting.ensures.most, c.type_inv.changes)
@@ -163,7 +172,7 @@ returns g c =
     let here_looked : look.count ≤ length looks.looked = c.in-Ok.ensures.looks.few in
     let looked = looks_behind items s.tally.height steps looks in
     let few : look.count ≤ length looked.0.looked = omega (arith, here_looked, looked.1) in
-    let calls : e.calls ≤ b.calls + (8 + run_count frames.numbers) → CallsBatch items s a e =
+    let calls : e.calls ≤ b.calls + runs_calls s.place.layout (run_count frames.numbers) → CallsBatch items s a e =
     λ few. once_looked items s numbers frames look validated changes ready law_b version validated_is c.in-Some.ensures.total {start = a} {c = e} looks here_looked (λ told. omega (arith, c.in-Ok.ensures.looks.loaded.count_is, used_few s.place.layout (array_of a.held) items frames look.whole c.in-Ok.ensures.looks.loaded.held (c.in-Ok.ensures.looks.used told))) few in
     let journal = c.commit_edits.ensures.journal ∙ c.look_over.ensures.looks.journal ∙ sym c.self.invariant.journal in
     subst (λ (v : StoreView). TriesOnce items c.match-commit_edits.result v (record s { tally = tally; index = index; journal = c.commit_edits.new.frames.journal; turn = turn }) a e) c.self.view_is (elim c.match-commit_edits.branch [

@@ -12,6 +12,7 @@ use Rattle.map_model.specs.Image.{array_of}
 use Rattle.window_tally.specs.declared.Change.{Change}
 use Rattle.window_tally.specs.View.{TallyView}
 use Rattle.pma_store.specs.Counting.{counted}
+use Rattle.pma_store.specs.Calling.{commit_calls}
 use Rattle.pma_store.specs.Rewrites.{Rewrites, rewritten, commit_cost}
 use Rattle.pma_store.specs.Store.{StoreView, Stands, limit_of}
 use Rattle.pma_store.specs.Inside.{view_of}
@@ -44,6 +45,9 @@ commit_rows-requires-clause-segment g c =
 
 cost : (g : _) (c : After-commit_rows g) → (g.S.Station.view c.commit_rows.new.station).travel.written ≤ (g.S.Station.view c.args.station.now).travel.written + commit_cost c.args.self.now.place.layout
 cost g c = subst (λ (s : StoreView). (g.S.Station.view c.commit_rows.new.station).travel.written ≤ (g.S.Station.view c.args.station.now).travel.written + commit_cost s.place.layout) c.self.view_is c.commit_rows.ensures.cost
+
+calls : (g : _) (c : After-commit_rows g) → (g.S.Station.view c.commit_rows.new.station).calls ≤ (g.S.Station.view c.args.station.now).calls + commit_calls c.args.self.now.place.layout
+calls g c = subst (λ (s : StoreView). (g.S.Station.view c.commit_rows.new.station).calls ≤ (g.S.Station.view c.args.station.now).calls + commit_calls s.place.layout) c.self.view_is c.commit_rows.ensures.calls
 
 pub commit_rows-requires-clause-fits : goal.commit_rows-requires-clause-fits
 commit_rows-requires-clause-fits g c = subst (λ (s : StoreView). T (list_all (is_record s.place.layout.format) c.args.rows.now)) (sym c.self.view_is) c.requires.fits
@@ -81,7 +85,7 @@ returns-in-Ok-clause-rewritten g c =
       kept = search rules;
       counted = search rules;
       cost = cost g here;
-      calls = c.commit_rows.ensures.calls;
+      calls = calls g here;
       disk = tt;
       failed = tt;
     }

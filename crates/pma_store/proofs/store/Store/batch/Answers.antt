@@ -24,6 +24,7 @@ returns-in-Err-clause-batch g c =
       calls = made.calls;
       at_once = made.at_once;
       paid = tt;
+      counted = tt;
       met = elim made.met [
         | inl disk ↦ inl disk
         | inr more ↦ elim more [
