@@ -1,16 +1,17 @@
 -- What the steps behind the header of a file come to, by where they end.
-use Rattle.std.proofs.Common.{◌≡◌, ◌≤◌, Ok, Err, ◌∙◌, arith}
-use Rattle.std.specs.Prelude.{Result, OnOk, IsErrOf}
+use Rattle.std.proofs.Common.{◌≡◌, ◌≤◌, ◌+◌, Ok, Err, ◌∙◌, arith}
+use Rattle.std.specs.Prelude.{Result, OnOk, IfErr, IsErrOf}
 use Rattle.std.proofs.lemmas.Result.{IfErr-weaker}
-use Rattle.station.specs.View.{View, Lawful, Rose}
+use Rattle.station.specs.View.{View, Lawful, Told, Rose}
 use Rattle.density_rule.specs.Repair.{repair_window}
 use Rattle.density_rule.specs.Windows.{IsBalanced}
 use Rattle.header_gate.specs.declared.header.Header.{Header}
 use Rattle.redo_journal.specs.Rest.{RestsAt}
 use Rattle.segment_frames.specs.Lists.{most_segments}
-use Rattle.recovery.specs.Costs.{repair_calls, mending_calls}
-use Rattle.recovery.specs.Opening.{Awaits, Repairs, BringsBack}
-use Rattle.recovery.specs.Restores.{LeavesFile}
+use Rattle.recovery.specs.Costs.{repair_calls, mending_calls, opening_cost, behind_calls, back_reads, back_calls}
+use Rattle.recovery.specs.Opening.{Awaits, Repairs, IsOpened, OpensFile}
+use Rattle.recovery.specs.Faults.{IsRereadFault}
+use Rattle.recovery.specs.Restores.{Opens, LeavesFile, IsAtRest}
 use Rattle.recovery.specs.declared.fault.OpenFault.{OpenFault}
 use Rattle.recovery.specs.declared.fault.OpenFault.TheVariants.{Failed}
 use Rattle.recovery.specs.declared.parts.Parts.{Parts}
@@ -19,6 +20,17 @@ use Rattle.recovery.proofs.Opening.{reread}
 use Rattle.recovery.proofs.Openings.{not_back, repaired, opened, cost, balanced, read_reread}
 use Rattle.recovery.proofs.ReadingBack.{ReadsBack}
 use Rattle.recovery.proofs.Repairing.{repairs_with}
+
+-- The outcome of the steps behind the header of a file, by parts that were made for it.
+pub record BringsBack (head : Header) (result : Result (Unit {0}) OpenFault) (old new : Parts) (a b : View) : Type 0 where
+  pub opened : OnOk result (IsOpened new a b)
+  pub place : new.place ≡ old.place
+  pub opens : OpensFile Opens IsAtRest back_reads result a b
+  pub cost : b.travel.written ≤ a.travel.written + opening_cost old.place.layout
+  pub calls : b.calls ≤ a.calls + behind_calls old.place.layout head.height
+  pub calls_at_rest : Told a → IsAtRest a.held → b.calls ≤ a.calls + back_calls a.held
+  pub causes : IfErr result IsRereadFault
+  pub failed : IsErrOf result Failed → Rose a.disk_faults b.disk_faults
 
 -- before the repair
 pub not_brought : (e : OpenFault) (head : Header) (old new : Parts) (a b : View) → Awaits head old a → ReadsBack head (Err e) old new a b → (e ≡ Failed → Rose a.disk_faults b.disk_faults) → BringsBack head (Err e) old new a b

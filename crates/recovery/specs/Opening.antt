@@ -22,11 +22,11 @@ use Rattle.veb_index.specs.View.{IndexView}
 use Rattle.window_tally.specs.View.{TallyView}
 use Rattle.batch_intent.specs.Means.{Means, opening_reason}
 use Rattle.redistribute.specs.Rearranged.{Rearranges}
-use Rattle.recovery.specs.Costs.{repair_cost, opening_cost, mending_calls, behind_calls, asked_behind, back_reads, back_calls}
-use Rattle.recovery.specs.Faults.{IsEarly, IsNoDamage, IsRepairFault, IsRereadFault}
+use Rattle.recovery.specs.Costs.{repair_cost, mending_calls, asked_behind}
+use Rattle.recovery.specs.Faults.{IsEarly, IsNoDamage, IsRepairFault}
 use Rattle.recovery.specs.Intents.{intent_of, IsIntentFor}
 use Rattle.recovery.specs.Parts.{AreParts, Fits, AgreesWith, HasFences, HasHeader}
-use Rattle.recovery.specs.Restores.{Restores, Opens, LeavesFile, IsAtRest}
+use Rattle.recovery.specs.Restores.{Restores, LeavesFile}
 use Rattle.recovery.specs.declared.fault.OpenFault.{OpenFault}
 use Rattle.recovery.specs.declared.fault.OpenFault.TheVariants.{Memory, Failed, NotStore}
 use Rattle.recovery.specs.declared.parts.Parts.{Parts}
@@ -126,14 +126,3 @@ pub record Repairs (result : Result (Unit {0}) OpenFault) (old new : Parts) (a b
   pub calls : b.calls ≤ a.calls + mending_calls (most_segments old.place.layout) (repair_window old.tally.height old.tally.counts)
   pub damaged : IfErr result (λ e. Told a → e ≡ Failed)
   pub causes : IfErr result IsRepairFault
-
--- The outcome of the steps behind the header of a file, by parts that were made for it.
-pub record BringsBack (head : Header) (result : Result (Unit {0}) OpenFault) (old new : Parts) (a b : View) : Type 0 where
-  pub opened : OnOk result (IsOpened new a b)
-  pub place : new.place ≡ old.place
-  pub opens : OpensFile Opens IsAtRest back_reads result a b
-  pub cost : b.travel.written ≤ a.travel.written + opening_cost old.place.layout
-  pub calls : b.calls ≤ a.calls + behind_calls old.place.layout head.height
-  pub calls_at_rest : Told a → IsAtRest a.held → b.calls ≤ a.calls + back_calls a.held
-  pub causes : IfErr result IsRereadFault
-  pub failed : IsErrOf result Failed → Rose a.disk_faults b.disk_faults
