@@ -7,6 +7,7 @@ use Rattle.std.proofs.lemmas.Bool.Decides.{nat_tests}
 use Rattle.std.proofs.lemmas.List.{take_all}
 use Rattle.std.proofs.lemmas.List.Sums.{sum_by-set}
 use Rattle.density_rule.specs.Updates.{counts_after}
+use Rattle.batch_intent.specs.Items.{is_put}
 use Rattle.density_rule.proofs.Changes.{length-counts_after}
 use Rattle.map_model.specs.Items.{ItemCounts, no_items}
 use Rattle.map_model.specs.Store.{Update, bind, unbind}
@@ -15,7 +16,7 @@ use Rattle.one_commit.specs.Editing.{counts_by}
 use Rattle.one_commit.specs.Fitting.{finds, fits_behind, follows, keep_places, stay_within, fit_one_commit}
 use Rattle.one_commit.proofs.Alike.{both_true}
 use Rattle.one_commit.proofs.Prefixes.{taken_there}
-use Rattle.recovery.specs.Intents.{is_put, meets_by, puts_in, records_by}
+use Rattle.recovery.specs.Intents.{meets_by, puts_in, records_by}
 use Rattle.window_tally.specs.declared.Change.{Change}
 use Rattle.window_tally.specs.declared.Change.TheVariants.{Add, Take}
 use Rattle.window_tally.specs.Choice.{adds}
