@@ -1,13 +1,10 @@
 //! Worked sessions with batches, what their updates are charged, and files that have no batches.
 
-use super::rows::{Part, answered, answered_on};
-use super::sessions::{SMOOTH, see_kept, see_session};
-use super::updates::with_bytes;
+use super::rows::{answered, answered_on, changed, see_kept, see_session};
 use Part::{Lines, Put, Remove};
-use station::Station;
+use mem_sessions::{Part, SMOOTH};
 use std::alloc::Global;
 use std::process::Abort;
-use std::test::Fail;
 
 // The height limit of a new store, and the parts of a script.
 type Row = (&'static str, &'static [Part]);
@@ -114,11 +111,10 @@ const BATCHES: &[Row] = &[
 ];
 
 #[test]
-fn batches_are_answered(rt: HostRuntime) -> Result<(), Fail> {
+fn batches_are_answered(rt: HostRuntime) {
     for (height, parts) in BATCHES {
-        answered(&rt, rt.alloc(), height, None, parts)?;
+        answered(&rt, rt.alloc(), height, parts);
     }
-    Ok(())
 }
 
 // Updates, and what they are charged in the run that makes them: the 65th and the 127th put grow the store, the 97th, 113th,
@@ -192,25 +188,23 @@ const COSTS: &[Row] = &[
 ];
 
 #[test]
-fn updates_are_charged(rt: HostRuntime) -> Result<(), Fail> {
+fn updates_are_charged(rt: HostRuntime) {
     for (height, parts) in COSTS {
-        answered(&rt, rt.alloc(), height, None, parts)?;
+        answered(&rt, rt.alloc(), height, parts);
     }
-    Ok(())
 }
 
 /// A run begins with no update, at the height that its store has then, and `cost` leaves every byte.
 #[test]
-fn a_run_is_charged_by_itself(rt: HostRuntime) -> Result<(), Fail> {
+fn a_run_is_charged_by_itself(rt: HostRuntime) {
     for (puts, want) in [
         (64, b"cost updates=0 charge=0 bound=32\n".as_slice()),
         (65, b"cost updates=0 charge=0 bound=128\n"),
         (127, b"cost updates=0 charge=0 bound=384\n"),
     ] {
-        let file = answered(&rt, rt.alloc(), "2", None, &[Put(1, puts)])?;
-        see_kept(&rt, rt.alloc(), &file, b"cost\n", (0, want))?;
+        let file = answered(&rt, rt.alloc(), "2", &[Put(1, puts)]);
+        see_kept(&rt, rt.alloc(), &file, b"cost\n", (0, want));
     }
-    Ok(())
 }
 
 // Makes a file one of version 1.
@@ -218,10 +212,10 @@ const OLD: &[(usize, u8)] = &[(3080, 1)];
 
 /// It is served but for batches, and whatever stands at the places of intent and gate stays there.
 #[test]
-fn a_file_of_version_1_has_no_batches(rt: HostRuntime) -> Result<(), Fail> {
-    let made = answered(&rt, rt.alloc(), "2", None, &[Put(1, 64)])?;
-    let old = with_bytes(rt.alloc(), &made, OLD)?;
-    let old = with_bytes(rt.alloc(), &old, &[(640, 1), (3584, 17)])?;
+fn a_file_of_version_1_has_no_batches(rt: HostRuntime) {
+    let made = answered(&rt, rt.alloc(), "2", &[Put(1, 64)]);
+    let old = changed(&rt, rt.alloc(), &made, OLD);
+    let old = changed(&rt, rt.alloc(), &old, &[(640, 1), (3584, 17)]);
     let refused =
         b"no batch\nno batch\nrepeated key\nbad words\ncost updates=0 charge=0 bound=32\n";
     see_kept(
@@ -230,7 +224,7 @@ fn a_file_of_version_1_has_no_batches(rt: HostRuntime) -> Result<(), Fail> {
         &old,
         b"batch put a\nbatch remove zz\nbatch put a ; put a\nbatch\ncost\n",
         (0, refused),
-    )?;
+    );
     let parts = [
         Put(65, 65),
         Lines(
@@ -238,24 +232,22 @@ fn a_file_of_version_1_has_no_batches(rt: HostRuntime) -> Result<(), Fail> {
             b"removed\nabsent\ncheck ok records=64 height=1\n",
         ),
     ];
-    let left = answered_on(&rt, rt.alloc(), &old, &parts)?;
+    let left = answered_on(&rt, rt.alloc(), &old, &parts);
     for (place, byte) in [(640, 1), (3080, 1), (3584, 17)] {
         assert_eq!(rt; left.get(place).copied(), Some(byte));
     }
-    Ok(())
 }
 
 // A script, what is said to it, and how many bytes are written.
 type Written = (&'static [u8], &'static [u8], u64);
 
 // Sees what is written of the file that these puts leave.
-fn see_written(rt: &impl Abort, alloc: Global, puts: u32, rows: &[Written]) -> Result<(), Fail> {
-    let file = answered(rt, alloc, "2", None, &[Put(1, puts)])?;
+fn see_written(rt: &impl Abort, alloc: Global, puts: u32, rows: &[Written]) {
+    let file = answered(rt, alloc, "2", &[Put(1, puts)]);
     for (script, said, written) in rows {
-        let station = see_session(rt, alloc, &file, script, SMOOTH, (0, said))?;
-        assert_eq!(rt; station.travel().written, *written);
+        let ended = see_session(rt, alloc, &file, script, SMOOTH, (0, said));
+        assert_eq!(rt; ended.travel.written, *written);
     }
-    Ok(())
 }
 
 // The bytes of a commit of one segment: two pages, its number, and what says that the journal holds it.
@@ -287,8 +279,8 @@ const ONE_COMMIT: &[Written] = &[
 
 /// A batch of one segment writes what one update writes, and one that changes nothing writes nothing.
 #[test]
-fn a_batch_of_one_commit_writes_its_segments(rt: HostRuntime) -> Result<(), Fail> {
-    see_written(&rt, rt.alloc(), 64, ONE_COMMIT)
+fn a_batch_of_one_commit_writes_its_segments(rt: HostRuntime) {
+    see_written(&rt, rt.alloc(), 64, ONE_COMMIT);
 }
 
 // In a store of two segments, whose second one begins with `k033`.
@@ -319,6 +311,6 @@ const ITEM_BY_ITEM: &[Written] = &[
 
 /// A batch writes at most 514 bytes more than its items by themselves: what it adds is its intent, where it is no one commit.
 #[test]
-fn a_batch_writes_its_intent_and_its_items(rt: HostRuntime) -> Result<(), Fail> {
-    see_written(&rt, rt.alloc(), 65, ITEM_BY_ITEM)
+fn a_batch_writes_its_intent_and_its_items(rt: HostRuntime) {
+    see_written(&rt, rt.alloc(), 65, ITEM_BY_ITEM);
 }

@@ -1,10 +1,11 @@
 //! Worked sessions with cursors: what they give while records come and go, what their names are, and how many there may be.
 
-use super::rows::{Part, answered, answered_on, push_lines};
-use super::sessions::{SMOOTH, created, push_key, see_kept, see_session};
+use super::rows::{answered, answered_on, made_by, see_kept, see_session};
 use super::upgrades::see_upgraded;
 use Part::{Back, Lines, Put};
-use std::test::Fail;
+use mem_sessions::{Part, SMOOTH, push_key, push_lines, script_of};
+use std::alloc::{AllocError, Global};
+use std::process::Abort;
 
 // A script on a new store of height limit 2, and its replies.
 type Row = (&'static [u8], &'static [u8]);
@@ -86,30 +87,30 @@ const NAMES: &[Row] = &[
 ];
 
 #[test]
-fn cursors_are_answered(rt: HostRuntime) -> Result<(), Fail> {
+fn cursors_are_answered(rt: HostRuntime) {
     for rows in [WALKS, NAMES] {
         for (script, want) in rows {
-            answered(&rt, rt.alloc(), "2", None, &[Lines(script, want)])?;
+            answered(&rt, rt.alloc(), "2", &[Lines(script, want)]);
         }
     }
-    Ok(())
 }
 
 #[test]
-fn cursors_go_back(rt: HostRuntime) -> Result<(), Fail> {
-    let narrow = answered(&rt, rt.alloc(), "3", None, &[])?;
-    let wide = see_upgraded(&rt, rt.alloc(), &narrow, (0, b""))?;
+fn cursors_go_back(rt: HostRuntime) {
+    let narrow = answered(&rt, rt.alloc(), "3", &[]);
+    let wide = see_upgraded(&rt, rt.alloc(), &narrow, (0, b""));
     for parts in WALKS_BACK {
-        answered_on(&rt, rt.alloc(), &narrow, parts)?;
-        answered_on(&rt, rt.alloc(), &wide, parts)?;
+        answered_on(&rt, rt.alloc(), &narrow, parts);
+        answered_on(&rt, rt.alloc(), &wide, parts);
     }
-    Ok(())
 }
 
-#[test]
-fn a_seventeenth_finds_no_room(rt: HostRuntime) -> Result<(), Fail> {
-    let mut script = Vec::new(rt.alloc());
-    let mut want = Vec::new(rt.alloc());
+// A script, and its replies.
+type Script = (Vec<u8>, Vec<u8>);
+
+// Sixteen cursors are opened, and then more.
+fn seventeen(alloc: Global) -> Result<Script, AllocError> {
+    let (mut script, mut want) = (Vec::new(alloc), Vec::new(alloc));
     for number in 1..=16u32 {
         script.extend_from_slice(b"open ")?;
         push_key(&mut script, number)?;
@@ -120,51 +121,56 @@ fn a_seventeenth_finds_no_room(rt: HostRuntime) -> Result<(), Fail> {
         b"open x * *\nopen k003 * *\nclose k003\nopen x * *\nopen k003 * *\nnext x\nopen k003 * *\n",
     )?;
     want.extend_from_slice(b"no room 16\ncursor open\nclosed\nopened\nno room 16\nend\nopened\n")?;
-    let (_, empty) = created(rt.alloc(), "0", None)?;
-    see_session(&rt, rt.alloc(), empty.held(), &script, SMOOTH, (0, &want))?;
+    Ok((script, want))
+}
+
+// Sees that a script on a new store of this height limit is answered so.
+fn see_script(rt: &impl Abort, alloc: Global, height: &str, script: Result<Script, AllocError>) {
+    let (script, want) = script.expect(rt, "memory");
+    let empty = made_by(rt, alloc, "create", b"", height, None);
+    see_session(rt, alloc, &empty.file, &script, SMOOTH, (0, &want));
+}
+
+#[test]
+fn a_seventeenth_finds_no_room(rt: HostRuntime) {
+    see_script(&rt, rt.alloc(), "0", seventeen(rt.alloc()));
+}
+
+// A put of each number from 66 to 127, and a step of the cursor behind each.
+fn push_growth(script: &mut Vec<u8>, want: &mut Vec<u8>) -> Result<(), AllocError> {
+    for number in 66..=127u32 {
+        push_lines(script, b"put ", number, number)?;
+        script.extend_from_slice(b"next x\n")?;
+        want.extend_from_slice(b"stored\n")?;
+        push_lines(want, b"record ", number - 65, number - 65)?;
+    }
     Ok(())
+}
+
+// A cursor is opened over 65 records, and steps while as many come.
+fn growing(alloc: Global) -> Result<Script, AllocError> {
+    let (mut script, mut want) = script_of(
+        alloc,
+        &[Put(1, 65), Lines(b"open x * *\n", b"opened\n")],
+    )?;
+    push_growth(&mut script, &mut want)?;
+    script.extend_from_slice(b"check\n")?;
+    want.extend_from_slice(b"check ok records=127 height=2\n")?;
+    Ok((script, want))
 }
 
 // The 127th record grows the store, and others before it spread its segments: the cursor goes on behind its key.
 #[test]
-fn a_cursor_goes_on_through_growth(rt: HostRuntime) -> Result<(), Fail> {
-    let mut script = Vec::new(rt.alloc());
-    let mut want = Vec::new(rt.alloc());
-    push_lines(&mut script, b"put ", 1, 65)?;
-    script.extend_from_slice(b"open x * *\n")?;
-    for _ in 1..=65 {
-        want.extend_from_slice(b"stored\n")?;
-    }
-    want.extend_from_slice(b"opened\n")?;
-    for number in 66..=127 {
-        push_lines(&mut script, b"put ", number, number)?;
-        script.extend_from_slice(b"next x\n")?;
-        want.extend_from_slice(b"stored\nrecord ")?;
-        push_key(&mut want, number - 65)?;
-        want.push(b'\n')?;
-    }
-    script.extend_from_slice(b"check\n")?;
-    want.extend_from_slice(b"check ok records=127 height=2\n")?;
-    let (_, empty) = created(rt.alloc(), "2", None)?;
-    see_session(&rt, rt.alloc(), empty.held(), &script, SMOOTH, (0, &want))?;
-    Ok(())
+fn a_cursor_goes_on_through_growth(rt: HostRuntime) {
+    see_script(&rt, rt.alloc(), "2", growing(rt.alloc()));
 }
 
 // Cursors end with the run, and what is asked of them leaves every byte of the file.
 #[test]
-fn cursors_end_with_the_run(rt: HostRuntime) -> Result<(), Fail> {
-    let file = answered(
-        &rt,
-        rt.alloc(),
-        "0",
-        None,
-        &[Lines(b"put a\nopen x * *\n", b"stored\nopened\n")],
-    )?;
-    see_kept(
-        &rt,
-        rt.alloc(),
-        &file,
-        b"next x\nopen x * *\nnext x\nnext x\n",
-        (0, b"no cursor\nopened\nrecord a\nend\n"),
-    )
+fn cursors_end_with_the_run(rt: HostRuntime) {
+    let parts = [Lines(b"put a\nopen x * *\n", b"stored\nopened\n")];
+    let file = answered(&rt, rt.alloc(), "0", &parts);
+    let script = b"next x\nopen x * *\nnext x\nnext x\n";
+    let said = b"no cursor\nopened\nrecord a\nend\n";
+    see_kept(&rt, rt.alloc(), &file, script, (0, said));
 }

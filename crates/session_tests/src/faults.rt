@@ -1,11 +1,10 @@
 //! The first event that ends a session: its status, and what was said by then.
 
-use super::rows::{Part, answered, push_lines};
-use super::sessions::{Plan, SMOOTH, see_session, session};
+use super::rows::{answered, see_session};
 use Part::{Lines, Put};
+use mem_sessions::{Part, Plan, SMOOTH, script_of, session};
 use std::alloc::Global;
 use std::process::Abort;
-use std::test::Fail;
 
 // The outlet takes three bytes.
 const NARROW: Plan<'static> = Plan { room: 3, ..SMOOTH };
@@ -49,83 +48,56 @@ const CAUSES: &[Cause] = &[
 ];
 
 #[test]
-fn each_cause_has_its_status(rt: HostRuntime) -> Result<(), Fail> {
-    let empty = answered(&rt, rt.alloc(), "0", None, &[])?;
+fn each_cause_has_its_status(rt: HostRuntime) {
+    let empty = answered(&rt, rt.alloc(), "0", &[]);
     for (script, plan, status, said) in CAUSES {
-        see_session(&rt, rt.alloc(), &empty, script, *plan, (*status, said))?;
+        see_session(&rt, rt.alloc(), &empty, script, *plan, (*status, said));
     }
-    Ok(())
 }
 
 #[test]
-fn a_reply_that_was_cut_is_kept(rt: HostRuntime) -> Result<(), Fail> {
-    let empty = answered(&rt, rt.alloc(), "0", None, &[])?;
-    let (_, cut) = session(rt.alloc(), &empty, b"put a 1\nget a\n", NARROW)?;
-    see_session(
-        &rt,
-        rt.alloc(),
-        cut.held(),
-        b"get a\n",
-        SMOOTH,
-        (0, b"found 1\n"),
-    )?;
-    Ok(())
+fn a_reply_that_was_cut_is_kept(rt: HostRuntime) {
+    let empty = answered(&rt, rt.alloc(), "0", &[]);
+    let cut = session(rt.alloc(), &empty, b"put a 1\nget a\n", NARROW).expect(&rt, "memory");
+    let want = (0, b"found 1\n".as_slice());
+    see_session(&rt, rt.alloc(), &cut.file, b"get a\n", SMOOTH, want);
 }
 
 #[test]
-fn a_long_line_is_one_bad_line(rt: HostRuntime) -> Result<(), Fail> {
+fn a_long_line_is_one_bad_line(rt: HostRuntime) {
     let parts = [
         Lines(b"put a 1\n", b"stored\n"),
         Lines(&[b'#'; 513], b"bad line\n"),
         Lines(b"\nget a", b"found 1\n"),
     ];
-    answered(&rt, rt.alloc(), "0", None, &parts)?;
-    Ok(())
+    answered(&rt, rt.alloc(), "0", &parts);
 }
 
 // Sees that a script whose read fails at a call of `take` is answered up to there, where 59 records are before it.
-fn see_failed_read(
-    rt: &impl Abort,
-    alloc: Global,
-    before: &[u8],
-    script: &[u8],
-    take: u32,
-) -> Result<(), Fail> {
+fn see_failed_read(rt: &impl Abort, alloc: Global, before: &[u8], script: &[u8], take: u32) {
     let fail = [take];
     let plan = Plan {
         broken: &fail,
         ..SMOOTH
     };
     let lines = take.min(13) * 7 / 9;
-    let (status, station) = session(alloc, before, script, plan)?;
-    assert_eq!(rt;
-        (status, station.said().len()),
-        (5, 7 * lines as usize),
-        "at {take}"
-    );
+    let ended = session(alloc, before, script, plan).expect(rt, "memory");
+    let want = (5, 7 * lines as usize);
+    assert_eq!(rt; (ended.status, ended.said.len()), want, "at {take}");
     let records = 59 + lines;
     let height = u32::from(records > 64);
-    let want = format!(in alloc; "end 0\ncheck ok records={records} height={height}\n")?;
+    let want = format!(in alloc; "end 0\ncheck ok records={records} height={height}\n");
+    let want = want.expect(rt, "memory");
     let script = b"range * k001\ncheck\n";
-    see_session(
-        rt,
-        alloc,
-        station.held(),
-        script,
-        SMOOTH,
-        (0, want.as_bytes()),
-    )?;
-    Ok(())
+    see_session(rt, alloc, &ended.file, script, SMOOTH, (0, want.as_bytes()));
 }
 
 /// A `take` gives seven bytes of a script of lines of nine: the complete lines that were taken are answered.
 #[test]
-fn a_failed_read_of_a_script_ends_it(rt: HostRuntime) -> Result<(), Fail> {
-    let before = answered(&rt, rt.alloc(), "2", None, &[Put(1, 59)])?;
-    let mut script = Vec::new(rt.alloc());
-    push_lines(&mut script, b"put ", 60, 69)?;
+fn a_failed_read_of_a_script_ends_it(rt: HostRuntime) {
+    let before = answered(&rt, rt.alloc(), "2", &[Put(1, 59)]);
+    let (script, _) = script_of(rt.alloc(), &[Put(60, 69)]).expect(&rt, "memory");
     for take in 0..=13u32 {
-        see_failed_read(&rt, rt.alloc(), &before, &script, take)?;
+        see_failed_read(&rt, rt.alloc(), &before, &script, take);
     }
-    Ok(())
 }

@@ -1,30 +1,13 @@
 //! Generated commands, and the same counts over an ordered map of the standard library.
 
-use super::sessions::{Plan, SMOOTH, status_over, words_of};
+use super::rows::see_end;
 use command_text::{Command, Reply, ReplyText};
 use key_slot::{Key, Value};
-use pma_engine::{Job, read_words};
-use station::MemStation;
-use std::alloc::Global;
+use mem_sessions::{Ended, generated};
+use std::alloc::{AllocError, Global};
 use std::collections::BTreeMap;
 use std::process::Abort;
-use std::test::Fail;
 use workload::{Summary, next_command, write_summary};
-
-// Says the summary of generated commands.
-fn generated(alloc: Global, count: &str, seed: &str) -> Result<(u8, MemStation), Fail> {
-    let words = words_of(alloc, &["gen", count, seed])?;
-    let Some(Job::Gen { .. }) = read_words(&words) else {
-        return Err("these words generate nothing".into());
-    };
-    let mut station = MemStation::new(alloc, b"", 0, 200, &[], None)?;
-    let plan = Plan {
-        broken: &[0],
-        ..SMOOTH
-    };
-    let status = status_over(alloc, &words, b"", plan, &mut station)?;
-    Ok((status, station))
-}
 
 // How many commands are generated, by what seed, and their summary.
 type Summed = (&'static str, &'static str, &'static [u8]);
@@ -57,14 +40,19 @@ const SUMMED: &[Summed] = &[
     ),
 ];
 
+// How these words end, which generate commands.
+fn summed(rt: &impl Abort, alloc: Global, count: &str, seed: &str) -> Ended {
+    let ended = generated(alloc, count, seed).expect(rt, "memory");
+    ended.expect(rt, "these words generate commands")
+}
+
 /// The numbers come from the definition, worked out apart from this program.
 #[test]
-fn generated_commands_are_summed(rt: HostRuntime) -> Result<(), Fail> {
+fn generated_commands_are_summed(rt: HostRuntime) {
     for (count, seed, want) in SUMMED {
-        let (status, station) = generated(rt.alloc(), count, seed)?;
-        assert_eq!(rt; (status, station.said()), (0, *want));
+        let ended = summed(&rt, rt.alloc(), count, seed);
+        see_end(&rt, &ended, (0, *want));
     }
-    Ok(())
 }
 
 // Counts a command by the last line of its reply.
@@ -90,19 +78,25 @@ fn number_in(key: &Key) -> u32 {
     number
 }
 
+// How a map answers a put.
+fn put_in(records: &mut BTreeMap<u32, ()>, key: &Key) -> Result<Reply, AllocError> {
+    let reply = match records.insert(number_in(key), ())? {
+        Some(_) => Reply::Replaced,
+        None => Reply::Stored,
+    };
+    Ok(reply)
+}
+
 // The last line of the reply of an ordered map of the standard library to a generated command.
-fn answered_by(records: &mut BTreeMap<u32, ()>, command: &Command) -> Result<Reply, Fail> {
-    let reply = match command {
-        Command::Put(key, _) => match records.insert(number_in(key), ())? {
-            Some(_) => Reply::Replaced,
-            None => Reply::Stored,
-        },
+fn answered_by(rt: &impl Abort, records: &mut BTreeMap<u32, ()>, command: &Command) -> Reply {
+    match command {
+        Command::Put(key, _) => put_in(records, key).expect(rt, "memory"),
         Command::Remove(key) => match records.remove(&number_in(key)) {
             Some(_) => Reply::Removed,
             None => Reply::Absent,
         },
         Command::Get(key) => match records.get(&number_in(key)) {
-            Some(_) => Reply::Found(Value::from_bytes(b"")?),
+            Some(_) => Reply::Found(Value::from_bytes(b"").expect(rt, "an empty value")),
             None => Reply::Absent,
         },
         Command::Range { low: Some(low), .. } => {
@@ -110,37 +104,35 @@ fn answered_by(records: &mut BTreeMap<u32, ()>, command: &Command) -> Result<Rep
             let rows = records.keys().filter(|number| **number >= low).take(10);
             Reply::End(rows.count() as u32)
         }
-        _ => return Err("no generated command".into()),
-    };
-    Ok(reply)
+        _ => panic!(rt; "no generated command"),
+    }
 }
 
 // How such a map answers the commands of a seed. It has no height.
-fn over_a_map(rt: &impl Abort, alloc: Global, count: u32, seed: u32) -> Result<Summary, Fail> {
+fn over_a_map(rt: &impl Abort, alloc: Global, count: u32, seed: u32) -> Summary {
     let mut records: BTreeMap<u32, ()> = BTreeMap::new(alloc);
     let mut summary = Summary::new();
     let mut x = u64::from(seed);
     for done in 0..count {
         let command = next_command(&mut x, done + 1);
-        let last = answered_by(&mut records, &command)?;
+        let last = answered_by(rt, &mut records, &command);
         count_on(rt, &mut summary, &last);
     }
     assert!(rt; records.len() < 1_000_000);
     summary.records = records.len() as u32;
-    Ok(summary)
+    summary
 }
 
 #[test]
-fn many_commands_are_answered_as_by_an_ordered_map(rt: HostRuntime) -> Result<(), Fail> {
-    let (status, station) = generated(rt.alloc(), "20000", "5")?;
-    assert_eq!(rt; status, 0);
-    let wanted = over_a_map(&rt, rt.alloc(), 20000, 5)?;
+fn many_commands_are_answered_as_by_an_ordered_map(rt: HostRuntime) {
+    let ended = summed(&rt, rt.alloc(), "20000", "5");
+    assert_eq!(rt; ended.status, 0);
+    let wanted = over_a_map(&rt, rt.alloc(), 20000, 5);
     let mut text = ReplyText::new();
     write_summary(&wanted, &mut text);
     // (the map has no height, which is the last digit of the line)
-    let (said, line) = (station.said(), text.as_bytes());
+    let (said, line) = (ended.said.as_slice(), text.as_bytes());
     assert!(rt; said.len() == line.len() && line.len() >= 2);
     let end = line.len() - 2;
     assert_eq!(rt; &said[..end], &line[..end]);
-    Ok(())
 }

@@ -1,16 +1,11 @@
-//! Worked sessions of the program over stations in memory: replies and refusals, scripts, loads, upgrades and indexes, and
-//! what stops and failing calls leave.
+//! Worked sessions of the program over stations in memory: replies and refusals, scripts, cursors, loads, upgrades and indexes.
 //!
 //! The values come from outside: from the manual, the format and worked examples. What a clause says for every value has no row
 //! here. The crate has no code, so that a test costs the proof of no other crate again.
 #![tactic(auto)]
 
 #[cfg(test)]
-mod batch_stops;
-#[cfg(test)]
 mod batches;
-#[cfg(test)]
-mod closings;
 #[cfg(test)]
 mod cursors;
 #[cfg(test)]
@@ -22,8 +17,6 @@ mod indexes;
 #[cfg(test)]
 mod intents;
 #[cfg(test)]
-mod load_stops;
-#[cfg(test)]
 mod loads;
 #[cfg(test)]
 mod paired;
@@ -32,14 +25,6 @@ mod refusals;
 #[cfg(test)]
 mod rows;
 #[cfg(test)]
-mod scripts;
-#[cfg(test)]
-mod sessions;
-#[cfg(test)]
-mod stops;
-#[cfg(test)]
 mod untold;
-#[cfg(test)]
-mod updates;
 #[cfg(test)]
 mod upgrades;

@@ -1,34 +1,25 @@
 //! Load texts that are read into stores without records, and dumps: what is said, and what the stores hold then.
 
-use super::rows::{Part, REGION_0, answered, answered_on, see_shares};
-use super::sessions::{Plan, SMOOTH, created, session_by};
-use super::stops::range_reply;
-use super::updates::with_bytes;
+use super::rows::{REGION_0, answered, answered_on, changed, made_by, see_end, see_shares};
 use super::upgrades::see_upgraded;
 use Part::{Lines, Put};
-use station::MemStation;
+use mem_sessions::{Ended, Part, Plan, SMOOTH, Verb, range_reply, session_by};
 use std::alloc::Global;
 use std::process::Abort;
-use std::test::Fail;
 
 // Reads a load text into a file of these bytes.
-pub(super) fn loaded(
-    alloc: Global,
-    bytes: &[u8],
-    text: &[u8],
-    plan: Plan<'_>,
-) -> Result<(u8, MemStation), Fail> {
-    session_by(alloc, "load", bytes, text, plan)
+fn loaded(rt: &impl Abort, alloc: Global, bytes: &[u8], text: &[u8], plan: Plan<'_>) -> Ended {
+    session_by(alloc, Verb::Load, bytes, text, plan).expect(rt, "memory")
 }
 
 // Says all records of a file of these bytes. The first read of a script would fail.
-fn dumped(alloc: Global, bytes: &[u8], room: usize) -> Result<(u8, MemStation), Fail> {
+fn dumped(rt: &impl Abort, alloc: Global, bytes: &[u8], room: usize) -> Ended {
     let plan = Plan {
         room,
         broken: &[0],
         ..SMOOTH
     };
-    session_by(alloc, "dump", bytes, b"", plan)
+    session_by(alloc, Verb::Dump, bytes, b"", plan).expect(rt, "memory")
 }
 
 // Sees that the load of a text ends with a status, and what is said. Gives the file that it leaves.
@@ -38,18 +29,17 @@ fn see_loaded(
     file: &[u8],
     text: &[u8],
     want: (u8, &[u8]),
-) -> Result<Vec<u8>, Fail> {
-    let (status, station) = loaded(alloc, file, text, SMOOTH)?;
-    assert_eq!(rt; (status, station.said()), want);
-    Ok(Vec::from_slice(alloc, station.held())?)
+) -> Vec<u8> {
+    let ended = loaded(rt, alloc, file, text, SMOOTH);
+    see_end(rt, &ended, want);
+    ended.file
 }
 
 // Sees that a file's dump is this one, and that it keeps every byte.
-fn see_dumped(rt: &impl Abort, alloc: Global, file: &[u8], want: &[u8]) -> Result<(), Fail> {
-    let (status, station) = dumped(alloc, file, 8192)?;
-    assert_eq!(rt; (status, station.said()), (0, want));
-    assert!(rt; station.held() == file, "every byte is left");
-    Ok(())
+fn see_dumped(rt: &impl Abort, alloc: Global, file: &[u8], want: &[u8]) {
+    let ended = dumped(rt, alloc, file, 8192);
+    see_end(rt, &ended, (0, want));
+    assert!(rt; ended.file.as_slice() == file, "every byte is left");
 }
 
 // A text, and its dump.
@@ -85,25 +75,22 @@ const TEXTS: &[Text] = &[
 
 /// What was loaded is dumped, and where there are records nothing more is loaded, nor read.
 #[test]
-fn texts_are_loaded(rt: HostRuntime) -> Result<(), Fail> {
-    let empty = answered(&rt, rt.alloc(), "0", None, &[])?;
-    see_dumped(&rt, rt.alloc(), &empty, b"end 0\n")?;
+fn texts_are_loaded(rt: HostRuntime) {
+    let empty = answered(&rt, rt.alloc(), "0", &[]);
+    see_dumped(&rt, rt.alloc(), &empty, b"end 0\n");
     for (text, dump) in TEXTS {
-        let file = see_loaded(&rt, rt.alloc(), &empty, text, (0, b""))?;
-        see_dumped(&rt, rt.alloc(), &file, dump)?;
+        let file = see_loaded(&rt, rt.alloc(), &empty, text, (0, b""));
+        see_dumped(&rt, rt.alloc(), &file, dump);
     }
-    let file = see_loaded(&rt, rt.alloc(), &empty, PAIR, (0, b""))?;
+    let file = see_loaded(&rt, rt.alloc(), &empty, PAIR, (0, b""));
     let plan = Plan {
         broken: &[0],
         ..SMOOTH
     };
-    let (status, again) = loaded(rt.alloc(), &file, b"end 0\n", plan)?;
-    assert_eq!(rt;
-        (status, again.said()),
-        (3, b"refused not-empty 2\n".as_slice())
-    );
-    assert!(rt; again.held() == file.as_slice());
-    Ok(())
+    let again = loaded(&rt, rt.alloc(), &file, b"end 0\n", plan);
+    let want = (3, b"refused not-empty 2\n".as_slice());
+    see_end(&rt, &again, want);
+    assert!(rt; again.file.as_slice() == file.as_slice());
 }
 
 // A text that isn't loaded into a store of one segment, and why.
@@ -137,70 +124,68 @@ const REFUSED: &[Text] = &[
 
 /// The store has no records then.
 #[test]
-fn what_is_wrong_with_a_text_is_said(rt: HostRuntime) -> Result<(), Fail> {
-    let empty = answered(&rt, rt.alloc(), "0", None, &[])?;
+fn what_is_wrong_with_a_text_is_said(rt: HostRuntime) {
+    let empty = answered(&rt, rt.alloc(), "0", &[]);
     for (text, line) in REFUSED {
-        let file = see_loaded(&rt, rt.alloc(), &empty, text, (3, line))?;
-        see_dumped(&rt, rt.alloc(), &file, b"end 0\n")?;
+        let file = see_loaded(&rt, rt.alloc(), &empty, text, (3, line));
+        see_dumped(&rt, rt.alloc(), &file, b"end 0\n");
     }
-    let more = range_reply(rt.alloc(), (1, 65))?;
-    let file = see_loaded(&rt, rt.alloc(), &empty, &more, (3, b"refused full 64\n"))?;
-    see_dumped(&rt, rt.alloc(), &file, b"end 0\n")
+    let more = range_reply(rt.alloc(), (1, 65)).expect(&rt, "memory");
+    let file = see_loaded(&rt, rt.alloc(), &empty, &more, (3, b"refused full 64\n"));
+    see_dumped(&rt, rt.alloc(), &file, b"end 0\n");
 }
 
 /// It is refused as by a run.
 #[test]
-fn no_store_is_loaded_or_dumped(rt: HostRuntime) -> Result<(), Fail> {
-    let file = answered(&rt, rt.alloc(), "1", None, &[])?;
-    let file = with_bytes(rt.alloc(), &file, &[(3072, 0)])?;
+fn no_store_is_loaded_or_dumped(rt: HostRuntime) {
+    let file = answered(&rt, rt.alloc(), "1", &[]);
+    let file = changed(&rt, rt.alloc(), &file, &[(3072, 0)]);
     let want = (3, b"refused identity 3072\n".as_slice());
-    see_loaded(&rt, rt.alloc(), &file, b"end 0\n", want)?;
-    let (status, station) = dumped(rt.alloc(), &file, 64)?;
-    assert_eq!(rt; (status, station.said()), want);
-    Ok(())
+    see_loaded(&rt, rt.alloc(), &file, b"end 0\n", want);
+    let ended = dumped(&rt, rt.alloc(), &file, 64);
+    see_end(&rt, &ended, want);
 }
 
 /// 65 records take two segments, those of the region that wasn't live.
 #[test]
-fn loaded_records_are_spread(rt: HostRuntime) -> Result<(), Fail> {
-    let (_, empty) = created(rt.alloc(), "2", Some("4"))?;
-    let text = range_reply(rt.alloc(), (1, 65))?;
-    let file = see_loaded(&rt, rt.alloc(), empty.held(), &text, (0, b""))?;
+fn loaded_records_are_spread(rt: HostRuntime) {
+    let empty = made_by(&rt, rt.alloc(), "create", b"", "2", Some("4"));
+    let text = range_reply(rt.alloc(), (1, 65)).expect(&rt, "memory");
+    let file = see_loaded(&rt, rt.alloc(), &empty.file, &text, (0, b""));
     assert_eq!(rt; file.first(), Some(&1));
     see_shares(&rt, &file, REGION_0 + 16384, &[32, 33]);
     let check = Lines(
         b"check\nput k066\n",
         b"check ok records=65 height=1\nstored\n",
     );
-    answered_on(&rt, rt.alloc(), &file, &[check])?;
-    Ok(())
+    answered_on(&rt, rt.alloc(), &file, &[check]);
+}
+
+// Sees that a dump is loaded into a store, and is its dump then.
+fn see_moved(rt: &impl Abort, alloc: Global, store: &[u8], dump: &[u8]) {
+    let moved = see_loaded(rt, alloc, store, dump, (0, b""));
+    see_dumped(rt, alloc, &moved, dump);
 }
 
 /// Into a store of another height limit and journal, and into one for longer records.
 #[test]
-fn a_dump_is_loaded(rt: HostRuntime) -> Result<(), Fail> {
+fn a_dump_is_loaded(rt: HostRuntime) {
     let parts = [
         Put(1, 126),
         Lines(b"remove k003\nput k002 a%20b\n", b"removed\nreplaced\n"),
     ];
-    let file = answered(&rt, rt.alloc(), "2", None, &parts)?;
-    let (status, dump) = dumped(rt.alloc(), &file, 8192)?;
-    assert_eq!(rt; status, 0);
-    let (_, other) = created(rt.alloc(), "3", Some("4"))?;
-    let moved = see_loaded(&rt, rt.alloc(), other.held(), dump.said(), (0, b""))?;
-    see_dumped(&rt, rt.alloc(), &moved, dump.said())?;
-    let wide = see_upgraded(&rt, rt.alloc(), other.held(), (0, b""))?;
-    let moved = see_loaded(&rt, rt.alloc(), &wide, dump.said(), (0, b""))?;
-    see_dumped(&rt, rt.alloc(), &moved, dump.said())?;
-    let front = &dump.said()[..dump.said().len().saturating_sub(b"end 125\n".len())];
-    see_loaded(
-        &rt,
-        rt.alloc(),
-        other.held(),
-        front,
-        (3, b"refused line 126\n"),
-    )?;
-    Ok(())
+    let file = answered(&rt, rt.alloc(), "2", &parts);
+    let dump = dumped(&rt, rt.alloc(), &file, 8192);
+    assert_eq!(rt; dump.status, 0);
+    let dump = dump.said;
+    let other = made_by(&rt, rt.alloc(), "create", b"", "3", Some("4"));
+    let other = other.file;
+    see_moved(&rt, rt.alloc(), &other, &dump);
+    let wide = see_upgraded(&rt, rt.alloc(), &other, (0, b""));
+    see_moved(&rt, rt.alloc(), &wide, &dump);
+    let front = &dump[..dump.len().saturating_sub(b"end 125\n".len())];
+    let want = (3, b"refused line 126\n".as_slice());
+    see_loaded(&rt, rt.alloc(), &other, front, want);
 }
 
 // How the load of three lines into a store of one segment goes, and its status.
@@ -225,29 +210,27 @@ const CAUSES: &[(Plan<'static>, u8)] = &[
 
 /// Nothing is said, and with 4, 5 and 8 there are no records then.
 #[test]
-fn each_cause_ends_a_load(rt: HostRuntime) -> Result<(), Fail> {
-    let empty = answered(&rt, rt.alloc(), "0", None, &[])?;
+fn each_cause_ends_a_load(rt: HostRuntime) {
+    let empty = answered(&rt, rt.alloc(), "0", &[]);
     for (plan, want) in CAUSES {
-        let (status, station) = loaded(rt.alloc(), &empty, PAIR, *plan)?;
-        assert_eq!(rt; (status, station.said()), (*want, b"".as_slice()));
-        let left = if status == 0 { PAIR } else { b"end 0\n" };
-        see_dumped(&rt, rt.alloc(), station.held(), left)?;
+        let ended = loaded(&rt, rt.alloc(), &empty, PAIR, *plan);
+        see_end(&rt, &ended, (*want, b"".as_slice()));
+        let left = if ended.status == 0 { PAIR } else { b"end 0\n" };
+        see_dumped(&rt, rt.alloc(), &ended.file, left);
     }
     let plan = Plan { room: 7, ..SMOOTH };
-    let (status, station) = loaded(rt.alloc(), &empty, b"", plan)?;
-    assert_eq!(rt; (status, station.said()), (3, b"refused".as_slice()));
-    Ok(())
+    let ended = loaded(&rt, rt.alloc(), &empty, b"", plan);
+    see_end(&rt, &ended, (3, b"refused".as_slice()));
 }
 
 /// The outlet takes fewer bytes than the dump has.
 #[test]
-fn a_dump_that_is_cut_ends_with_6(rt: HostRuntime) -> Result<(), Fail> {
+fn a_dump_that_is_cut_ends_with_6(rt: HostRuntime) {
     let parts = [Lines(b"put a 1\nput b\n", b"stored\nstored\n")];
-    let file = answered(&rt, rt.alloc(), "0", None, &parts)?;
+    let file = answered(&rt, rt.alloc(), "0", &parts);
     for room in [0, 1, 11, 20, 25] {
-        let (status, station) = dumped(rt.alloc(), &file, room)?;
-        assert_eq!(rt; (status, station.said().len()), (6, room));
-        assert!(rt; PAIR.starts_with(station.said()));
+        let ended = dumped(&rt, rt.alloc(), &file, room);
+        assert_eq!(rt; (ended.status, ended.said.len()), (6, room));
+        assert!(rt; PAIR.starts_with(&ended.said));
     }
-    Ok(())
 }

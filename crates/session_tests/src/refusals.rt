@@ -1,28 +1,9 @@
 //! Command lines that ask for nothing, new stores of several sizes, and files that are refused with a line.
 
-ghost use Rattle.std.specs.Prelude.{◌≡◌, None, map, string_bytes};
-ghost use Rattle.pma_engine.specs.Words.{job_of};
-
-use super::rows::{Part, answered};
-use super::sessions::{Plan, SMOOTH, created, created_in, see_kept, status_over, words_of};
-use super::updates::with_bytes;
-use pma_engine::read_words;
-use station::MemStation;
+use super::rows::{answered, changed, made_by, see_end, see_kept};
+use mem_sessions::{Part, asked_nothing};
 use std::alloc::Global;
 use std::process::Abort;
-use std::test::Fail;
-
-// The status of words that ask for nothing, over a station and a source whose first calls would fail.
-fn status_of(alloc: Global, words: &[String]) -> Result<u8, Fail>
-    requires { job_of (map string_bytes words.now) ≡ None }
-{
-    let mut station = MemStation::new(alloc, b"", 64, 64, &[], Some(0))?;
-    let plan = Plan {
-        broken: &[0],
-        ..SMOOTH
-    };
-    status_over(alloc, words, b"", plan, &mut station)
-}
 
 // Command lines that ask for nothing.
 const USAGE: &[&[&str]] = &[
@@ -67,13 +48,11 @@ const USAGE: &[&[&str]] = &[
 ];
 
 #[test]
-fn other_words_are_usage(rt: HostRuntime) -> Result<(), Fail> {
+fn other_words_are_usage(rt: HostRuntime) {
     for line in USAGE {
-        let words = words_of(rt.alloc(), line)?;
-        assert!(rt; read_words(&words).is_none());
-        assert_eq!(rt; status_of(rt.alloc(), &words)?, 2);
+        let status = asked_nothing(rt.alloc(), line).expect(&rt, "memory");
+        assert_eq!(rt; status, Some(2));
     }
-    Ok(())
 }
 
 // The height limit and the journal of a new store, and its length.
@@ -88,18 +67,21 @@ const SIZES: &[Size] = &[
     ("4", None, 204800),
 ];
 
+// Sees that an empty file becomes a store of that many bytes.
+fn see_made(rt: &impl Abort, alloc: Global, size: Size) {
+    let (height, journal, length) = size;
+    let made = made_by(rt, alloc, "create", b"", height, journal);
+    see_end(rt, &made, (0, b""));
+    assert_eq!(rt; made.file.len(), length);
+    see_kept(rt, alloc, &made.file, b"", (0, b""));
+}
+
 /// An empty script leaves every byte.
 #[test]
-fn an_empty_file_becomes_a_store(rt: HostRuntime) -> Result<(), Fail> {
-    for (height, journal, length) in SIZES {
-        let (status, made) = created(rt.alloc(), height, *journal)?;
-        assert_eq!(rt;
-            (status, made.said(), made.held().len()),
-            (0, b"".as_slice(), *length)
-        );
-        see_kept(&rt, rt.alloc(), made.held(), b"", (0, b""))?;
+fn an_empty_file_becomes_a_store(rt: HostRuntime) {
+    for size in SIZES {
+        see_made(&rt, rt.alloc(), *size);
     }
-    Ok(())
 }
 
 // The height limit of a new store, a script on it, places whose bytes are changed then, and the line of the refusal.
@@ -155,13 +137,12 @@ const REFUSED: &[Refused] = &[
 ];
 
 #[test]
-fn what_is_wrong_with_a_file_is_said(rt: HostRuntime) -> Result<(), Fail> {
+fn what_is_wrong_with_a_file_is_said(rt: HostRuntime) {
     for (height, parts, changes, line) in REFUSED {
-        let file = answered(&rt, rt.alloc(), height, None, parts)?;
-        let file = with_bytes(rt.alloc(), &file, changes)?;
-        see_kept(&rt, rt.alloc(), &file, b"put b 2\n", (3, line))?;
+        let file = answered(&rt, rt.alloc(), height, parts);
+        let file = changed(&rt, rt.alloc(), &file, changes);
+        see_kept(&rt, rt.alloc(), &file, b"put b 2\n", (3, line));
     }
-    Ok(())
 }
 
 // A number of zeros, and the lines of the refusals where they are run on and where a store is made of them.
@@ -175,25 +156,19 @@ const ZEROS: &[Zeros] = &[
 ];
 
 // Sees that no store is made of these bytes, which are left.
-fn see_not_made(rt: &impl Abort, alloc: Global, bytes: &[u8], line: &[u8]) -> Result<(), Fail> {
-    let (status, station) = created_in(alloc, bytes, "0", None)?;
-    assert_eq!(rt; (status, station.said()), (3, line));
-    assert!(rt; station.held() == bytes);
-    Ok(())
+fn see_not_made(rt: &impl Abort, alloc: Global, bytes: &[u8], line: &[u8]) {
+    let ended = made_by(rt, alloc, "create", bytes, "0", None);
+    see_end(rt, &ended, (3, line));
+    assert!(rt; ended.file.as_slice() == bytes);
 }
 
 #[test]
-fn zeros_are_no_store(rt: HostRuntime) -> Result<(), Fail> {
+fn zeros_are_no_store(rt: HostRuntime) {
     for (length, ran, made) in ZEROS {
-        let zeros = vec![in rt.alloc(); 0; *length]?;
-        see_kept(&rt, rt.alloc(), &zeros, b"put a 1\n", (3, ran))?;
-        see_not_made(&rt, rt.alloc(), &zeros, made)?;
+        let zeros = vec![in rt.alloc(); 0; *length].expect(&rt, "memory");
+        see_kept(&rt, rt.alloc(), &zeros, b"put a 1\n", (3, ran));
+        see_not_made(&rt, rt.alloc(), &zeros, made);
     }
-    see_kept(
-        &rt,
-        rt.alloc(),
-        b"",
-        b"put a 1\n",
-        (3, b"refused length 0\n"),
-    )
+    let want = (3, b"refused length 0\n".as_slice());
+    see_kept(&rt, rt.alloc(), b"", b"put a 1\n", want);
 }

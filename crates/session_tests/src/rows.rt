@@ -1,95 +1,58 @@
 //! Worked sessions: scripts on new stores of several heights, with their replies, and how many records their segments
 //! hold then.
 
-use super::sessions::{SMOOTH, created_by, push_key, see_session, session};
-use station::Station;
+use Part::{Lines, Put, Remove};
+use mem_sessions::{Ended, Part, Plan, SMOOTH, created_by, script_of, session, with_bytes};
 use std::alloc::Global;
 use std::process::Abort;
-use std::test::Fail;
 
-// A part of a script, and how it is answered.
-#[derive(Clone, Copy)]
-pub(super) enum Part {
-    // The keys with these numbers, the second one too, are put with the empty value, and each is `stored`.
-    Put(u32, u32),
-    // They are removed, and each is `removed`.
-    Remove(u32, u32),
-    // The cursor x steps back over them, from the first number down to the second, and gives each with the empty value.
-    Back(u32, u32),
-    // Lines, and their replies.
-    Lines(&'static [u8], &'static [u8]),
+// Sees how a session ended: its status, and what was said.
+pub(super) fn see_end(rt: &impl Abort, ended: &Ended, want: (u8, &[u8])) {
+    assert_eq!(rt; (ended.status, ended.said.as_slice()), want);
 }
 
-use Part::{Back, Lines, Put, Remove};
-
-// A line for each key from the first number to the last: a word, a space if there is one, and the key.
-pub(super) fn push_lines(
-    script: &mut Vec<u8>,
-    word: &[u8],
-    first: u32,
-    last: u32,
-) -> Result<(), Fail> {
-    for number in first..=last {
-        script.extend_from_slice(word)?;
-        push_key(script, number)?;
-        script.push(b'\n')?;
-    }
-    Ok(())
+// Sees that a script on a file of these bytes ends with a status, and what is said by then.
+pub(super) fn see_session(
+    rt: &impl Abort,
+    alloc: Global,
+    file: &[u8],
+    script: &[u8],
+    plan: Plan<'_>,
+    want: (u8, &[u8]),
+) -> Ended {
+    let ended = session(alloc, file, script, plan).expect(rt, "memory");
+    see_end(rt, &ended, want);
+    ended
 }
 
-// The same reply for each number from the first to the last.
-fn push_replies(want: &mut Vec<u8>, reply: &[u8], first: u32, last: u32) -> Result<(), Fail> {
-    for _ in first..=last {
-        want.extend_from_slice(reply)?;
-    }
-    Ok(())
+// Sees the same where nothing fails, and that the file keeps its bytes.
+pub(super) fn see_kept(
+    rt: &impl Abort,
+    alloc: Global,
+    file: &[u8],
+    script: &[u8],
+    want: (u8, &[u8]),
+) {
+    let ended = see_session(rt, alloc, file, script, SMOOTH, want);
+    assert!(rt; ended.file.as_slice() == file, "every byte is left");
 }
 
-// Adds steps back of a cursor to a script, and to its replies the records that they give.
-fn push_steps_back(
-    script: &mut Vec<u8>,
-    want: &mut Vec<u8>,
-    first: u32,
-    last: u32,
-) -> Result<(), Fail> {
-    for step in 0..=first.saturating_sub(last) {
-        script.extend_from_slice(b"prev x\n")?;
-        want.extend_from_slice(b"record ")?;
-        push_key(want, first.saturating_sub(step))?;
-        want.push(b'\n')?;
-    }
-    Ok(())
-}
-
-// Adds a part to a script and to its replies.
-fn push_part(script: &mut Vec<u8>, want: &mut Vec<u8>, part: Part) -> Result<(), Fail> {
-    match part {
-        Put(first, last) => {
-            push_lines(script, b"put ", first, last)?;
-            push_replies(want, b"stored\n", first, last)
-        }
-        Remove(first, last) => {
-            push_lines(script, b"remove ", first, last)?;
-            push_replies(want, b"removed\n", first, last)
-        }
-        Back(first, last) => push_steps_back(script, want, first, last),
-        Lines(lines, replies) => {
-            script.extend_from_slice(lines)?;
-            want.extend_from_slice(replies)?;
-            Ok(())
-        }
-    }
+// Makes a store in a file of these bytes, by this command.
+pub(super) fn made_by(
+    rt: &impl Abort,
+    alloc: Global,
+    command: &str,
+    bytes: &[u8],
+    height: &str,
+    journal: Option<&str>,
+) -> Ended {
+    let made = created_by(alloc, command, bytes, height, journal).expect(rt, "memory");
+    made.expect(rt, "a file of these tests is short")
 }
 
 // Sees that a script on a new store of this height limit is answered so, and gives the file that it leaves.
-pub(super) fn answered(
-    rt: &impl Abort,
-    alloc: Global,
-    height: &str,
-    journal: Option<&str>,
-    parts: &[Part],
-) -> Result<Vec<u8>, Fail> {
-    answered_by(rt, alloc, "create", height, journal, parts)
+pub(super) fn answered(rt: &impl Abort, alloc: Global, height: &str, parts: &[Part]) -> Vec<u8> {
+    answered_by(rt, alloc, "create", height, parts)
 }
 
 // Sees the same on a new store that this command makes.
@@ -98,28 +61,27 @@ pub(super) fn answered_by(
     alloc: Global,
     command: &str,
     height: &str,
-    journal: Option<&str>,
     parts: &[Part],
-) -> Result<Vec<u8>, Fail> {
-    let (made, empty) = created_by(alloc, command, b"", height, journal)?;
-    assert_eq!(rt; made, 0);
-    answered_on(rt, alloc, empty.held(), parts)
+) -> Vec<u8> {
+    let made = made_by(rt, alloc, command, b"", height, None);
+    assert_eq!(rt; made.status, 0);
+    answered_on(rt, alloc, &made.file, parts)
 }
 
 // Sees that a script on a file of these bytes is answered so, and gives the file that it leaves.
-pub(super) fn answered_on(
+pub(super) fn answered_on(rt: &impl Abort, alloc: Global, file: &[u8], parts: &[Part]) -> Vec<u8> {
+    let (script, want) = script_of(alloc, parts).expect(rt, "memory");
+    see_session(rt, alloc, file, &script, SMOOTH, (0, &want)).file
+}
+
+// A copy of a file with some bytes changed.
+pub(super) fn changed(
     rt: &impl Abort,
     alloc: Global,
     file: &[u8],
-    parts: &[Part],
-) -> Result<Vec<u8>, Fail> {
-    let mut script = Vec::new(alloc);
-    let mut want = Vec::new(alloc);
-    for part in parts {
-        push_part(&mut script, &mut want, *part)?;
-    }
-    let station = see_session(rt, alloc, file, &script, SMOOTH, (0, &want))?;
-    Ok(Vec::from_slice(alloc, station.held())?)
+    changes: &[(usize, u8)],
+) -> Vec<u8> {
+    with_bytes(alloc, file, changes).expect(rt, "memory")
 }
 
 // The height limit of a new store, and the parts of a script.
@@ -295,14 +257,13 @@ const ARRAYS: &[Row] = &[
 ];
 
 #[test]
-fn sessions_are_answered(rt: HostRuntime) -> Result<(), Fail> {
+fn sessions_are_answered(rt: HostRuntime) {
     for (height, parts) in LINES {
-        answered(&rt, rt.alloc(), height, None, parts)?;
+        answered(&rt, rt.alloc(), height, parts);
     }
     for (height, parts) in ARRAYS {
-        answered(&rt, rt.alloc(), height, None, parts)?;
+        answered(&rt, rt.alloc(), height, parts);
     }
-    Ok(())
 }
 
 // The records of the segment at a place, at a region's place and a number of segments on.
@@ -345,26 +306,24 @@ const SHARES: &[(u32, u32, &[u32])] = &[
 ];
 
 #[test]
-fn segments_hold_their_shares(rt: HostRuntime) -> Result<(), Fail> {
+fn segments_hold_their_shares(rt: HostRuntime) {
     for (put, removed, shares) in SHARES {
         let parts = [Put(1, *put), Remove(1, *removed)];
-        let file = answered(&rt, rt.alloc(), "2", None, &parts)?;
+        let file = answered(&rt, rt.alloc(), "2", &parts);
         let is_second = file.first() == Some(&1);
         let live = REGION_0 + if is_second { REGION_SIZE } else { 0 };
         see_shares(&rt, &file, live, shares);
     }
-    Ok(())
 }
 
 /// The reply reads two segments, one after the other.
 #[test]
-fn a_range_reads_straight_on(rt: HostRuntime) -> Result<(), Fail> {
-    let file = answered(&rt, rt.alloc(), "2", None, &[Part::Put(1, 65)])?;
-    let (_, opened) = session(rt.alloc(), &file, b"", SMOOTH)?;
-    let (_, ranged) = session(rt.alloc(), &file, b"range k031 k036\n", SMOOTH)?;
-    let (before, after) = (opened.travel(), ranged.travel());
+fn a_range_reads_straight_on(rt: HostRuntime) {
+    let file = answered(&rt, rt.alloc(), "2", &[Put(1, 65)]);
+    let opened = session(rt.alloc(), &file, b"", SMOOTH).expect(&rt, "memory");
+    let ranged = session(rt.alloc(), &file, b"range k031 k036\n", SMOOTH).expect(&rt, "memory");
+    let (before, after) = (opened.travel, ranged.travel);
     assert_eq!(rt; after.read.checked_sub(before.read), Some(8192));
     assert!(rt; after.breaks.saturating_sub(before.breaks) <= 1);
     assert_eq!(rt; after.written, before.written);
-    Ok(())
 }

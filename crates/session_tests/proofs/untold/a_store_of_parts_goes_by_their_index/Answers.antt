@@ -5,7 +5,7 @@ use Rattle.header_gate.specs.Places.{file_length}
 use Rattle.header_gate.specs.declared.layout.Layout.{Layout}
 use Rattle.redo_journal.specs.Rest.{RestsAt}
 use Rattle.pma_store.specs.Store.{StoreView}
-use Rattle.session_tests.specs.Untold.{untold_station}
+use Rattle.mem_sessions.specs.Untold.{untold_station}
 use Rattle.session_tests.proofs.untold.a_store_of_parts_goes_by_their_index.Goals as goal
 
 -- The station tells nothing, so the store stands for each file that it may hold.

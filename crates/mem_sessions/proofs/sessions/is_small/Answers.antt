@@ -1,8 +1,8 @@
 use Rattle.std.proofs.Common.{Some, sym, ap, ◌∙◌, map, rules}
 use Rattle.std.specs.Prelude.{string_bytes}
 use Rattle.pma_engine.specs.Words.{job_of}
-use Rattle.session_tests.proofs.Layouts.{short_made}
-use Rattle.session_tests.proofs.sessions.is_small.Goals as goal
+use Rattle.mem_sessions.proofs.Layouts.{short_made}
+use Rattle.mem_sessions.proofs.sessions.is_small.Goals as goal
 
 pub returns-then-height-le4-clause-short : goal.returns-then-height-le4-clause-short
 returns-then-height-le4-clause-short c few l made =

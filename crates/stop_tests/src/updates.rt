@@ -1,10 +1,9 @@
 //! What a stop or a fault within an update leaves, and files made by hand.
 
-use super::rows::{Part, answered};
-use super::sessions::{Plan, SMOOTH, see_session, session};
+use super::openings::{changed, see_session, stopped_at};
+use mem_sessions::{Part, Plan, SMOOTH, Verb, answered, session};
 use std::alloc::Global;
 use std::process::Abort;
-use std::test::Fail;
 
 // Places in the file of a store of one segment: the gate, the format of header copy 1, the journal's count, and
 // the two regions.
@@ -28,36 +27,22 @@ const GATE_SYNC: u32 = 13;
 // How many calls a put makes, with its reply.
 const PUT_CALLS: u32 = 11;
 
-// A copy of a file with some bytes changed.
-pub(super) fn with_bytes(
-    alloc: Global,
-    file: &[u8],
-    changes: &[(usize, u8)],
-) -> Result<Vec<u8>, Fail> {
-    let mut copy = Vec::from_slice(alloc, file)?;
-    for (place, byte) in changes {
-        if let Some(old) = copy.get_mut(*place) {
-            *old = *byte;
-        }
-    }
-    Ok(copy)
-}
-
 // A copy of a file with another byte in each place from one up to another.
 fn with_fill(
+    rt: &impl Abort,
     alloc: Global,
     file: &[u8],
     places: (usize, usize),
     byte: u8,
-) -> Result<Vec<u8>, Fail> {
+) -> Vec<u8> {
     let (first, end) = places;
-    let mut copy = Vec::from_slice(alloc, file)?;
+    let mut copy = changed(rt, alloc, file, &[]);
     for (place, old) in copy.iter_mut().enumerate() {
         if first <= place && place < end {
             *old = byte;
         }
     }
-    Ok(copy)
+    copy
 }
 
 // A step of a test over one file.
@@ -76,38 +61,26 @@ enum Step<'a> {
 use Step::{Change, Fill, Holds, Session};
 
 // The file that a step leaves.
-fn after_step(
-    rt: &impl Abort,
-    alloc: Global,
-    file: &[u8],
-    step: Step<'_>,
-) -> Result<Vec<u8>, Fail> {
+fn after_step(rt: &impl Abort, alloc: Global, file: &[u8], step: Step<'_>) -> Vec<u8> {
     match step {
         Session(script, plan, status, said) => {
-            let station = see_session(rt, alloc, file, script, plan, (status, said))?;
-            Ok(Vec::from_slice(alloc, station.held())?)
+            see_session(rt, alloc, file, script, plan, (status, said)).file
         }
         Holds(place, byte) => {
             assert_eq!(rt; file.get(place).copied(), Some(byte));
-            with_bytes(alloc, file, &[])
+            changed(rt, alloc, file, &[])
         }
-        Change(changes) => with_bytes(alloc, file, changes),
-        Fill(places, byte) => with_fill(alloc, file, places, byte),
+        Change(changes) => changed(rt, alloc, file, changes),
+        Fill(places, byte) => with_fill(rt, alloc, file, places, byte),
     }
 }
 
 // Takes steps over the file that a script on a new store leaves.
-fn see_steps(
-    rt: &impl Abort,
-    alloc: Global,
-    parts: &[Part],
-    steps: &[Step<'_>],
-) -> Result<(), Fail> {
-    let mut file = answered(rt, alloc, "0", None, parts)?;
+fn see_steps(rt: &impl Abort, alloc: Global, parts: &[Part], steps: &[Step<'_>]) {
+    let mut file = answered(alloc, "0", None, parts).expect(rt, "the store");
     for step in steps {
-        file = after_step(rt, alloc, &file, *step)?;
+        file = after_step(rt, alloc, &file, *step);
     }
-    Ok(())
 }
 
 // Two records, a put of a third one, and gets of the three.
@@ -135,7 +108,7 @@ const AT_IMAGE_WRITE: Plan<'static> = Plan {
 };
 
 #[test]
-fn the_gate_decides_an_update(rt: HostRuntime) -> Result<(), Fail> {
+fn the_gate_decides_an_update(rt: HostRuntime) {
     for (gate, want) in &TORN_GATES {
         let steps = [
             Session(PUT, AT_GATE_SYNC, 4, b""),
@@ -143,40 +116,39 @@ fn the_gate_decides_an_update(rt: HostRuntime) -> Result<(), Fail> {
             Change(&[(GATE, *gate)]),
             Session(GETS, SMOOTH, 0, want),
         ];
-        see_steps(&rt, rt.alloc(), TWO, &steps)?;
+        see_steps(&rt, rt.alloc(), TWO, &steps);
     }
-    Ok(())
 }
 
 #[test]
-fn a_journal_behind_an_even_gate_is_nothing(rt: HostRuntime) -> Result<(), Fail> {
+fn a_journal_behind_an_even_gate_is_nothing(rt: HostRuntime) {
     let steps = [
         Session(PUT, AT_IMAGE_WRITE, 4, b""),
         Holds(GATE, 0),
         Fill((COUNT, REGION_0), 0xA5),
         Session(GETS, SMOOTH, 0, NOT_THE_THIRD),
     ];
-    see_steps(&rt, rt.alloc(), TWO, &steps)
+    see_steps(&rt, rt.alloc(), TWO, &steps);
 }
 
 #[test]
-fn a_failed_sync_of_the_gate_leaves_either_map(rt: HostRuntime) -> Result<(), Fail> {
-    let empty = answered(&rt, rt.alloc(), "0", None, &[])?;
+fn a_failed_sync_of_the_gate_leaves_either_map(rt: HostRuntime) {
+    let empty = answered(rt.alloc(), "0", None, &[]).expect(&rt, "the store");
     let plan = Plan {
         fail: &[GATE_SYNC + 2 * PUT_CALLS],
         ..SMOOTH
     };
     let script = b"put a 1\nput b 2\nput c 3\n";
     let want = (4, b"stored\nstored\n".as_slice());
-    let failed = see_session(&rt, rt.alloc(), &empty, script, plan, want)?;
-    let (status, again) = session(rt.alloc(), failed.held(), GETS, SMOOTH)?;
-    assert_eq!(rt; status, 0);
-    assert!(rt; again.said() == ALL_THREE || again.said() == NOT_THE_THIRD);
-    Ok(())
+    let failed = see_session(&rt, rt.alloc(), &empty, script, plan, want);
+    let again = session(rt.alloc(), &failed.file, GETS, SMOOTH).expect(&rt, "memory");
+    assert_eq!(rt; again.status, 0);
+    let said = again.said.as_slice();
+    assert!(rt; said == ALL_THREE || said == NOT_THE_THIRD);
 }
 
 #[test]
-fn region_1_may_be_the_live_one(rt: HostRuntime) -> Result<(), Fail> {
+fn region_1_may_be_the_live_one(rt: HostRuntime) {
     let steps = [
         Change(&[
             (0, 1),
@@ -195,24 +167,20 @@ fn region_1_may_be_the_live_one(rt: HostRuntime) -> Result<(), Fail> {
         ),
         Session(b"get a\nget b\n", SMOOTH, 0, b"found 3\nfound 2\n"),
     ];
-    see_steps(&rt, rt.alloc(), &[], &steps)
+    see_steps(&rt, rt.alloc(), &[], &steps);
 }
 
 // The file of a store of height limit 2 where the 65th put is stopped between the selector's write and its sync.
-fn stopped_at_selector(rt: &impl Abort, alloc: Global) -> Result<Vec<u8>, Fail> {
-    let before = answered(rt, alloc, "2", None, &[Part::Put(1, 64)])?;
+fn stopped_at_selector(rt: &impl Abort, alloc: Global) -> Vec<u8> {
+    let before = answered(alloc, "2", None, &[Part::Put(1, 64)]).expect(rt, "the store");
     for stop in 0..60 {
-        let plan = Plan {
-            stop: Some(stop),
-            ..SMOOTH
-        };
-        let (status, stopped) = session(alloc, &before, b"put k065\n", plan)?;
-        assert_eq!(rt; status, 4);
-        if stopped.held().first() == Some(&1) {
-            return Ok(Vec::from_slice(alloc, stopped.held())?);
+        let stopped = stopped_at(rt, alloc, Verb::Run, &before, b"put k065\n", stop);
+        assert_eq!(rt; stopped.status, 4);
+        if stopped.file.first() == Some(&1) {
+            return stopped.file;
         }
     }
-    Err("the selector was never written".into())
+    panic!(rt; "the selector was never written")
 }
 
 // What a selector says, and so which height the store has.
@@ -223,12 +191,11 @@ const SELECTORS: [(u8, &[u8]); 2] = [
 
 /// The selector is left either way.
 #[test]
-fn a_torn_selector_names_either_height(rt: HostRuntime) -> Result<(), Fail> {
-    let stopped = stopped_at_selector(&rt, rt.alloc())?;
+fn a_torn_selector_names_either_height(rt: HostRuntime) {
+    let stopped = stopped_at_selector(&rt, rt.alloc());
     for (selector, want) in &SELECTORS {
-        let left = with_bytes(rt.alloc(), &stopped, &[(0, *selector)])?;
+        let left = changed(&rt, rt.alloc(), &stopped, &[(0, *selector)]);
         let script = b"check\nput k065\n";
-        see_session(&rt, rt.alloc(), &left, script, SMOOTH, (0, want))?;
+        see_session(&rt, rt.alloc(), &left, script, SMOOTH, (0, want));
     }
-    Ok(())
 }

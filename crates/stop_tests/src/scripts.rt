@@ -1,12 +1,11 @@
 //! A user's script, cut at each call: what was said is a front of its replies, and what is left opens as the map after the
 //! commands whose replies were begun, or after one more.
 
-use super::rows::answered;
-use super::sessions::{Plan, SMOOTH, session};
-use super::stops::{CALLS, noted, see_crash, see_opened_after_stops};
-use std::alloc::Global;
+use super::openings::{failed_at, see_opened_after_stops};
+use super::stops::{see_crash, see_noted};
+use mem_sessions::{CALLS, Verb, answered};
+use std::alloc::{AllocError, Global};
 use std::process::Abort;
-use std::test::Fail;
 
 const NO_PART: &[u8] = b"end 0\n";
 
@@ -31,7 +30,7 @@ const COMMANDS: [(&[u8], &[u8], &[u8]); 8] = [
 ];
 
 // The script, and all its replies.
-fn script(alloc: Global) -> Result<(Vec<u8>, Vec<u8>), Fail> {
+fn script(alloc: Global) -> Result<(Vec<u8>, Vec<u8>), AllocError> {
     let (mut script, mut replies) = (Vec::new(alloc), Vec::new(alloc));
     for (command, reply, _) in &COMMANDS {
         script.extend_from_slice(command)?;
@@ -62,41 +61,31 @@ fn see_front(rt: &impl Abort, replies: &[u8], said: &[u8]) {
 }
 
 #[test]
-fn a_failed_call_of_a_script_leaves_a_front_of_it(rt: HostRuntime) -> Result<(), Fail> {
-    let empty = answered(&rt, rt.alloc(), "0", None, &[])?;
-    let (script, replies) = script(rt.alloc())?;
+fn a_failed_call_of_a_script_leaves_a_front_of_it(rt: HostRuntime) {
+    let empty = answered(rt.alloc(), "0", None, &[]).expect(&rt, "the store");
+    let (script, replies) = script(rt.alloc()).expect(&rt, "memory");
     for call in 0..CALLS {
-        let fail = [call];
-        let plan = Plan {
-            fail: &fail,
-            ..SMOOTH
-        };
-        let (status, failed) = session(rt.alloc(), &empty, &script, plan)?;
-        let said = failed.said();
-        see_front(&rt, &replies, said);
-        if status == 0 {
-            assert_eq!(rt; said.len(), replies.len());
-            return Ok(());
+        let failed = failed_at(&rt, rt.alloc(), Verb::Run, &empty, &script, call);
+        see_front(&rt, &replies, &failed.said);
+        if failed.status == 0 {
+            assert_eq!(rt; failed.said.len(), replies.len());
+            return;
         }
-        assert!(rt; status == 4 || status == 6);
-        let maps = maps_after(said.len());
-        see_opened_after_stops(&rt, rt.alloc(), failed.held(), maps, false)?;
+        assert!(rt; failed.status == 4 || failed.status == 6);
+        let maps = maps_after(failed.said.len());
+        see_opened_after_stops(&rt, rt.alloc(), &failed.file, maps, false);
     }
-    Err("the script makes more calls".into())
+    panic!(rt; "the script makes more calls")
 }
 
 #[test]
-fn a_stop_within_a_script_leaves_a_front_of_it(rt: HostRuntime) -> Result<(), Fail> {
-    let empty = answered(&rt, rt.alloc(), "0", None, &[])?;
-    let (script, replies) = script(rt.alloc())?;
-    let station = noted(&rt, rt.alloc(), &empty, &script)?;
-    assert!(rt; station.inner().said() == replies.as_slice());
-    for calls in 0..CALLS {
-        if calls as usize > station.noted() {
-            return Ok(());
-        }
-        let maps = maps_after(station.said_after(calls));
-        see_crash(&rt, rt.alloc(), &station, calls, maps, false)?;
+fn a_stop_within_a_script_leaves_a_front_of_it(rt: HostRuntime) {
+    let empty = answered(rt.alloc(), "0", None, &[]).expect(&rt, "the store");
+    let (script, replies) = script(rt.alloc()).expect(&rt, "memory");
+    let session = see_noted(&rt, rt.alloc(), &empty, &script);
+    assert!(rt; session.said() == replies.as_slice());
+    for calls in 0..=session.calls() {
+        let maps = maps_after(session.said_after(calls));
+        see_crash(&rt, rt.alloc(), &session, calls, maps, false);
     }
-    Err("the script makes more calls".into())
 }

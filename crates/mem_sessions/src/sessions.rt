@@ -10,27 +10,29 @@ ghost use Rattle.pma_engine.specs.Words.{IsOnFile, job_of, file_of, made_by};
 
 use line_source::MemSource;
 use pma_engine::{Job, read_words, run_words};
-use station::{MemStation, Station};
-use std::alloc::Global;
-use std::process::Abort;
-use std::test::Fail;
+use station::{MemStation, Station, Travel};
+use std::alloc::{AllocError, Global};
 
-// The longest file of these tests, in bytes: two journals of sixteen segments, as many in each region, and an index.
-pub(super) const LONGEST: usize = 278528;
+/// The longest file of these sessions, in bytes: two journals of sixteen segments, as many in each region, and an index.
+pub const LONGEST: usize = 278528;
 
-// How a session goes: the room for replies, the calls of the station and of the source that fail, the first call from
-// which on each fails, and the most bytes of a script.
+/// How a session goes.
 #[derive(Clone, Copy)]
-pub(super) struct Plan<'a> {
-    pub(super) room: usize,
-    pub(super) fail: &'a [u32],
-    pub(super) stop: Option<u32>,
-    pub(super) broken: &'a [u32],
-    pub(super) most: u64,
+pub struct Plan<'a> {
+    /// The room for replies, in bytes.
+    pub room: usize,
+    /// The calls of the station that fail.
+    pub fail: &'a [u32],
+    /// The first call from which on each fails.
+    pub stop: Option<u32>,
+    /// The calls of the source that fail.
+    pub broken: &'a [u32],
+    /// The most bytes of a script.
+    pub most: u64,
 }
 
-// Nothing fails.
-pub(super) const SMOOTH: Plan<'static> = Plan {
+/// Nothing fails.
+pub const SMOOTH: Plan<'static> = Plan {
     room: 8192,
     fail: &[],
     stop: None,
@@ -38,13 +40,64 @@ pub(super) const SMOOTH: Plan<'static> = Plan {
     most: 1 << 20,
 };
 
+/// What is done with the file of a store.
+#[derive(Clone, Copy)]
+pub enum Verb {
+    /// A script is answered.
+    Run,
+    /// A load text is read into it.
+    Load,
+    /// Its records are said.
+    Dump,
+    /// It goes over to slot format 2.
+    Upgrade,
+}
+
+impl Verb {
+    // The word of it.
+    fn word(self) -> &'static str
+        ensures made { made_by (job_of (result.now ∷ codes "f" ∷ [])) ≡ None }
+        ensures quick { job_of (result.now ∷ codes "f" ∷ []) ≡ Some Quick → ⊥ }
+    {
+        match self {
+            Verb::Run => "run",
+            Verb::Load => "load",
+            Verb::Dump => "dump",
+            Verb::Upgrade => "upgrade",
+        }
+    }
+}
+
+/// How a session ended.
+#[derive(Drop)]
+pub struct Ended {
+    /// The status.
+    pub status: u8,
+    /// The bytes that were said.
+    pub said: Vec<u8>,
+    /// The file that it leaves.
+    pub file: Vec<u8>,
+    /// What the station counted of its reads and writes.
+    pub travel: Travel,
+}
+
+// What a station holds and said behind a session of this status.
+pub(crate) fn end_of(alloc: Global, status: u8, station: &MemStation) -> Result<Ended, AllocError> {
+    Ok(Ended {
+        status,
+        said: Vec::from_slice(alloc, station.said())?,
+        file: Vec::from_slice(alloc, station.held())?,
+        travel: station.travel(),
+    })
+}
+
 // A command line that makes a store in `f`, by this command.
 fn words_to_create(
     alloc: Global,
     command: &str,
     height: &str,
     journal: Option<&str>,
-) -> Result<Vec<String>, Fail>
+) -> Result<Vec<String>, AllocError>
     ensures { IfOk result (λ w. file_of (map string_bytes w.items) ≡ codes "f") }
 {
     let mut words = Vec::new(alloc);
@@ -58,7 +111,7 @@ fn words_to_create(
 }
 
 // The command line of this command on the file `f`.
-pub(super) fn words_on_file(alloc: Global, command: &str) -> Result<Vec<String>, Fail>
+pub(crate) fn words_on_file(alloc: Global, command: &str) -> Result<Vec<String>, AllocError>
     ensures { IfOk result (λ w. map string_bytes w.items ≡ command.now ∷ codes "f" ∷ []) }
 {
     let mut words = Vec::new(alloc);
@@ -67,16 +120,16 @@ pub(super) fn words_on_file(alloc: Global, command: &str) -> Result<Vec<String>,
     Ok(words)
 }
 
-// The words of a command line.
-pub(super) fn words_of(alloc: Global, line: &[&str]) -> Result<Vec<String>, Fail> {
-    let mut words = Vec::new(alloc);
-    for word in line {
-        words.push(String::from_str(alloc, word)?)?;
-    }
-    Ok(words)
+// The command line of a verb on the file `f`.
+pub(crate) fn words_to(alloc: Global, verb: Verb) -> Result<Vec<String>, AllocError>
+    ensures named { IfOk result (λ w. file_of (map string_bytes w.items) ≡ codes "f") }
+    ensures made { IfOk result (λ w. made_by (job_of (map string_bytes w.items)) ≡ None) }
+    ensures quick { IfOk result (λ w. job_of (map string_bytes w.items) ≡ Some Quick → ⊥) }
+{
+    words_on_file(alloc, verb.word())
 }
 
-// Whether a command line makes no longer file than the longest of these tests, and opens none by its index.
+// Whether a command line makes no longer file than the longest of these sessions, and opens none by its index.
 fn is_small(words: &[String]) -> bool
     ensures no_quick { IsTrue result → job_of (map string_bytes words.now) ≡ Some Quick → ⊥ }
     ensures short { IsTrue result → (l : Layout) → made_by (job_of (map string_bytes words.now)) ≡ Some l → file_length l ≤ LONGEST }
@@ -95,13 +148,13 @@ fn is_small(words: &[String]) -> bool
 }
 
 // The status of words over a station, with a script in pieces of seven bytes.
-pub(super) fn status_over<S: Station>(
+pub(crate) fn status_over<S: Station>(
     alloc: Global,
     words: &[String],
     script: &[u8],
     plan: Plan<'_>,
     station: &mut S,
-) -> Result<u8, Fail>
+) -> Result<u8, AllocError>
     requires first { (S.view station.old).attached ≡ None }
     requires named { IsOnFile (job_of (map string_bytes words.now)) → NamedBy (file_of (map string_bytes words.now)) (S.view station.old).fixed.name }
     requires reach { (l : Layout) → made_by (job_of (map string_bytes words.now)) ≡ Some l → file_length l ≤ (S.view station.old).fixed.reach }
@@ -111,106 +164,46 @@ pub(super) fn status_over<S: Station>(
     Ok(run_words(alloc, words, &mut source, station, plan.most))
 }
 
-// Makes a store in a file of these bytes, by this command.
-pub(super) fn created_by(
+/// Makes a store in a file of these bytes, by this command, with this height limit and journal: None where the file would be
+/// longer than the longest of these sessions.
+pub fn created_by(
     alloc: Global,
     command: &str,
     bytes: &[u8],
     height: &str,
     journal: Option<&str>,
-) -> Result<(u8, MemStation), Fail> {
+) -> Result<Option<Ended>, AllocError> {
     let bytes = &bytes[..bytes.len().min(LONGEST)];
     let mut station = MemStation::new(alloc, bytes, LONGEST, 64, &[], None)?;
     let words = words_to_create(alloc, command, height, journal)?;
     if !is_small(&words) {
-        return Err("a file of these tests is longer".into());
+        return Ok(None);
     }
     let status = status_over(alloc, &words, b"", SMOOTH, &mut station)?;
-    Ok((status, station))
+    Ok(Some(end_of(alloc, status, &station)?))
 }
 
-// Makes a store in a file of these bytes.
-pub(super) fn created_in(
+/// Does what a verb says on a file of these bytes, with a script.
+pub fn session_by(
     alloc: Global,
-    bytes: &[u8],
-    height: &str,
-    journal: Option<&str>,
-) -> Result<(u8, MemStation), Fail> {
-    created_by(alloc, "create", bytes, height, journal)
-}
-
-// Makes a store in an empty file.
-pub(super) fn created(
-    alloc: Global,
-    height: &str,
-    journal: Option<&str>,
-) -> Result<(u8, MemStation), Fail> {
-    created_in(alloc, b"", height, journal)
-}
-
-// The last digit of a number.
-fn digit(number: u32) -> u8 {
-    b'0' + (number % 10) as u8
-}
-
-// Adds the key of this number: `k` and three digits.
-pub(super) fn push_key(text: &mut Vec<u8>, number: u32) -> Result<(), Fail> {
-    let key = [b'k', digit(number / 100), digit(number / 10), digit(number)];
-    text.extend_from_slice(&key)?;
-    Ok(())
-}
-
-// Does what a command asks for on a file of these bytes, with a script.
-pub(super) fn session_by(
-    alloc: Global,
-    command: &str,
+    verb: Verb,
     bytes: &[u8],
     script: &[u8],
     plan: Plan<'_>,
-) -> Result<(u8, MemStation), Fail>
-    requires made { made_by (job_of (command.now ∷ codes "f" ∷ [])) ≡ None }
-    requires quick { job_of (command.now ∷ codes "f" ∷ []) ≡ Some Quick → ⊥ }
-{
+) -> Result<Ended, AllocError> {
     let bytes = &bytes[..bytes.len().min(LONGEST)];
     let mut station = MemStation::new(alloc, bytes, bytes.len(), plan.room, plan.fail, plan.stop)?;
-    let words = words_on_file(alloc, command)?;
+    let words = words_to(alloc, verb)?;
     let status = status_over(alloc, &words, script, plan, &mut station)?;
-    Ok((status, station))
+    end_of(alloc, status, &station)
 }
 
-// Answers a script on a file of these bytes.
-pub(super) fn session(
+/// Answers a script on a file of these bytes.
+pub fn session(
     alloc: Global,
     bytes: &[u8],
     script: &[u8],
     plan: Plan<'_>,
-) -> Result<(u8, MemStation), Fail> {
-    session_by(alloc, "run", bytes, script, plan)
-}
-
-// Sees that a script on a file of these bytes ends with a status, and what is said by then. Gives the station.
-pub(super) fn see_session(
-    rt: &impl Abort,
-    alloc: Global,
-    bytes: &[u8],
-    script: &[u8],
-    plan: Plan<'_>,
-    want: (u8, &[u8]),
-) -> Result<MemStation, Fail> {
-    let (status, station) = session(alloc, bytes, script, plan)?;
-    assert_eq!(rt; (status, station.said()), want);
-    Ok(station)
-}
-
-// Sees the same where nothing fails, and that the file keeps its bytes.
-pub(super) fn see_kept(
-    rt: &impl Abort,
-    alloc: Global,
-    bytes: &[u8],
-    script: &[u8],
-    want: (u8, &[u8]),
-) -> Result<(), Fail> {
-    let station = see_session(rt, alloc, bytes, script, SMOOTH, want)?;
-    assert!(rt; station.held() == bytes, "every byte is left");
-    Ok(())
+) -> Result<Ended, AllocError> {
+    session_by(alloc, Verb::Run, bytes, script, plan)
 }

@@ -2,14 +2,12 @@
 //! call: what is left opens with none of their items or with all of them, and with all of them where a byte of the reply was
 //! said. Where a call failed, that opening is stopped at each of its calls too.
 
-use super::rows::{Part, answered_by};
-use super::stops::{
-    CALLS, Keys, PICKS, noted, range_reply, range_reply_behind, see_faults, see_opened,
-};
+use super::openings::{image, range_over, see_opened};
+use super::stops::{PICKS, see_faults, see_noted};
 use Part::{Put, Remove};
+use mem_sessions::{Keys, Part, answered_by, range_reply_behind};
 use std::alloc::Global;
 use std::process::Abort;
-use std::test::Fail;
 
 // The height limit of a new store, a script on it, a batch, the keys before it, and after it some records and the keys behind
 // them.
@@ -79,81 +77,63 @@ pub(super) const SHRINKS: Batch = (
 );
 
 // Stops a session behind each of its calls.
-fn see_stops(
-    rt: &impl Abort,
-    alloc: Global,
-    file: &[u8],
-    line: &[u8],
-    maps: (&[u8], &[u8]),
-) -> Result<(), Fail> {
-    let station = noted(rt, alloc, file, line)?;
-    for calls in 0..CALLS {
-        if calls as usize > station.noted() {
-            return Ok(());
-        }
-        let is_answered = station.said_after(calls) > 0;
+fn see_stops(rt: &impl Abort, alloc: Global, file: &[u8], line: &[u8], maps: (&[u8], &[u8])) {
+    let session = see_noted(rt, alloc, file, line);
+    for calls in 0..=session.calls() {
+        let is_answered = session.said_after(calls) > 0;
         for pick in PICKS {
-            let image = station.crash_image(alloc, calls, pick)?;
-            see_opened(rt, alloc, &image, maps, is_answered)?;
+            let left = image(rt, alloc, &session, calls, pick);
+            see_opened(rt, alloc, &left, maps, is_answered);
         }
     }
-    Err("the session makes more calls".into())
 }
 
 // Sees what a fault or a stop at each call of a batch leaves, on a store that a command makes.
-pub(super) fn see_batch(
-    rt: &impl Abort,
-    alloc: Global,
-    command: &str,
-    batch: &Batch,
-    fails: bool,
-) -> Result<(), Fail> {
+pub(super) fn see_batch(rt: &impl Abort, alloc: Global, command: &str, batch: &Batch, fails: bool) {
     let (height, parts, line, before, records, after) = *batch;
-    let file = answered_by(rt, alloc, command, height, None, parts)?;
-    let before = range_reply(alloc, before)?;
-    let after = range_reply_behind(alloc, records, after)?;
+    let file = answered_by(alloc, command, height, None, parts).expect(rt, "the store");
+    let before = range_over(rt, alloc, before);
+    let after = range_reply_behind(alloc, records, after).expect(rt, "memory");
     let maps = (before.as_slice(), after.as_slice());
     if fails {
-        see_faults(rt, alloc, &file, line, maps)
+        see_faults(rt, alloc, &file, line, maps);
     } else {
-        see_stops(rt, alloc, &file, line, maps)
+        see_stops(rt, alloc, &file, line, maps);
     }
 }
 
 #[test]
-fn a_failed_call_leaves_none_or_all(rt: HostRuntime) -> Result<(), Fail> {
-    see_batch(&rt, rt.alloc(), "create", &ONE_SEGMENT, true)?;
-    see_batch(&rt, rt.alloc(), "create", &SHRINKS, true)
+fn a_failed_call_leaves_none_or_all(rt: HostRuntime) {
+    see_batch(&rt, rt.alloc(), "create", &ONE_SEGMENT, true);
+    see_batch(&rt, rt.alloc(), "create", &SHRINKS, true);
 }
 
 #[test]
-fn a_failed_call_of_a_batch_that_takes_a_first_record(rt: HostRuntime) -> Result<(), Fail> {
-    see_batch(&rt, rt.alloc(), "create", &TAKES_FIRST, true)?;
-    see_batch(&rt, rt.alloc(), "create", &TAKES_FIRST_LAST, true)
+fn a_failed_call_of_a_batch_that_takes_a_first_record(rt: HostRuntime) {
+    see_batch(&rt, rt.alloc(), "create", &TAKES_FIRST, true);
+    see_batch(&rt, rt.alloc(), "create", &TAKES_FIRST_LAST, true);
 }
 
 #[test]
-fn a_failed_call_of_a_batch_that_grows(rt: HostRuntime) -> Result<(), Fail> {
-    see_batch(&rt, rt.alloc(), "create", &GROWS, true)
+fn a_failed_call_of_a_batch_that_grows(rt: HostRuntime) {
+    see_batch(&rt, rt.alloc(), "create", &GROWS, true);
 }
 
 #[test]
-fn a_failed_call_of_a_batch_that_spreads(rt: HostRuntime) -> Result<(), Fail> {
-    see_batch(&rt, rt.alloc(), "create", &SPREADS, true)
+fn a_failed_call_of_a_batch_that_spreads(rt: HostRuntime) {
+    see_batch(&rt, rt.alloc(), "create", &SPREADS, true);
 }
 
 #[test]
-fn a_stop_leaves_none_or_all(rt: HostRuntime) -> Result<(), Fail> {
+fn a_stop_leaves_none_or_all(rt: HostRuntime) {
     for batch in [&ONE_SEGMENT, &GROWS, &SPREADS, &SHRINKS] {
-        see_batch(&rt, rt.alloc(), "create", batch, false)?;
+        see_batch(&rt, rt.alloc(), "create", batch, false);
     }
-    Ok(())
 }
 
 #[test]
-fn a_stop_of_a_batch_that_takes_a_first_record(rt: HostRuntime) -> Result<(), Fail> {
+fn a_stop_of_a_batch_that_takes_a_first_record(rt: HostRuntime) {
     for batch in [&TAKES_FIRST, &TAKES_FIRST_LAST] {
-        see_batch(&rt, rt.alloc(), "create", batch, false)?;
+        see_batch(&rt, rt.alloc(), "create", batch, false);
     }
-    Ok(())
 }
