@@ -1,4 +1,4 @@
-use Rattle.std.proofs.Common.{◌≡◌, ◌^◌, ◌≤◌, List, ℕ, inl, inr, sym, ap, subst}
+use Rattle.std.proofs.Common.{◌^◌, ◌≤◌, List, ℕ, inl, inr, sym, ap, subst}
 use Rattle.std.proofs.lemmas.Bool.{false≢true}
 use Rattle.station.specs.View.{View, MayHold}
 use Rattle.header_gate.specs.Places.{file_length}
