@@ -2,9 +2,9 @@
 
 ghost use Rattle.std.specs.Prelude.{◌≡◌, ◌+◌, ◌-◌, ◌≤◌, length, IfOk};
 
+use crate::opened::opens;
 use header_gate::{INDEXED, Layout, PAIRED};
 use key_slot::{Key, MAX_KEY_LEN, MAX_VALUE_LEN, Row, Value, encode_slot, is_narrow};
-use recovery::open_store;
 use segment::Segment;
 use slot_wide::encode_wide;
 use station::{CrashStation, MemStation, Pick};
@@ -196,7 +196,7 @@ pub fn see_opens(
 ) -> Result<(u32, Counts), Fail> {
     assert!(rt; file.len() < 1000000);
     let mut station = MemStation::new(alloc, file, file.len(), 0, &[], None)?;
-    open_store(alloc, &mut station)?;
+    opens(alloc, &mut station)?;
     see_records(rt, station.held(), layout, 1, last)
 }
 

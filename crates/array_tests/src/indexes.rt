@@ -1,16 +1,21 @@
 //! The index in a file: it is left, closed and read again, and all of it is stopped at every call.
 
 ghost use Rattle.std.specs.Prelude.{◌≡◌, ◌≤◌};
+ghost use Rattle.array_tests.specs.Untold.{untell};
+ghost use Rattle.header_gate.specs.Places.{file_length};
+ghost use Rattle.recovery.specs.Parts.{Fits};
+ghost use Rattle.station.specs.CrashStation.{crash_view};
+ghost use Rattle.station.specs.View.{NothingPending};
 
 use crate::files::{
     Counts, FORMATS, PICKS, file_of, lay, lay_header, lay_rows, layout_of, place_of, see_records,
 };
+use crate::opened::{end, open_by_index, open_cleared, open_parts, opens, opens_by_index};
 use crate::untold::{UntoldStation, failing, untold};
 use density_rule::Window;
 use header_gate::{INDEXED, Layout, PAIRED, Reason};
-use index_file::{close_index, leave_index, open_quick};
-use recovery::{OpenFault, Parts, open_store};
-use resize_region::clear_store;
+use index_file::{close_index, leave_index};
+use recovery::{OpenFault, Parts};
 use station::Station;
 use std::alloc::Global;
 use std::process::Abort;
@@ -56,22 +61,38 @@ fn file_with_index(
     file_of(rt, alloc, layout, height, counts)
 }
 
-// Opens a store by its region, makes the live one of two journals empty, and leaves its index. Where all come to an end, it
-// answers how many calls were made before the leaving.
-fn leave_once(alloc: Global, station: &mut UntoldStation) -> Option<usize> {
-    let Ok(mut parts) = open_store(alloc, station) else {
-        return None;
-    };
-    if parts.place.layout.version < INDEXED
-        || clear_store(station, &parts.place, &mut parts.frames).is_err()
-    {
+// Leaves the index of a store, and answers how many calls were made before.
+fn leave(station: &mut UntoldStation, parts: &mut Parts) -> Option<usize>
+    requires fits { Fits parts.old.place parts.old.tally parts.old.index parts.old.frames.journal }
+    requires reach { file_length parts.old.place.layout ≤ (untell (crash_view station.old.inner)).fixed.reach }
+    requires nothing { NothingPending (untell (crash_view station.old.inner)) }
+{
+    if parts.place.layout.version < INDEXED {
         return None;
     }
     let before = station.inner.noted();
-    match leave_index(station, &mut parts) {
+    match leave_index(station, parts) {
         Ok(()) => Some(before),
         Err(_) => None,
     }
+}
+
+// Opens a store by its region, makes the live one of two journals empty, and leaves its index. Where all come to an end, it
+// answers how many calls were made before the leaving.
+fn leave_once(alloc: Global, station: &mut UntoldStation) -> Option<usize> {
+    match open_cleared(alloc, station) {
+        Ok(mut parts) => {
+            let left = leave(station, &mut parts);
+            end(parts);
+            left
+        }
+        Err(_) => None,
+    }
+}
+
+// Closes an index, and answers whether that came to its end.
+fn close(station: &mut UntoldStation) -> bool {
+    close_index(station).is_ok()
 }
 
 // A file after its index was left.
@@ -103,18 +124,40 @@ fn see_same(rt: &impl Abort, one: &Parts, other: &Parts)
     }
 }
 
+// Opens a store by its region, and sees that it is the one that was opened by its index.
+fn see_by_region(
+    rt: &impl Abort,
+    alloc: Global,
+    station: &mut UntoldStation,
+    quick: &Parts,
+) -> Result<(), OpenFault>
+    requires { quick.now.index.height ≡ quick.now.tally.height }
+{
+    match open_parts(alloc, station) {
+        Ok(parts) => {
+            see_same(rt, quick, &parts);
+            end(parts);
+            Ok(())
+        }
+        Err(fault) => Err(fault),
+    }
+}
+
 // Opens a file by its index and by its region, and sees that both are one store. It answers how many bytes were read by the
 // index, or None where the file isn't opened by it.
 fn read_quickly(rt: &impl Abort, alloc: Global, file: &[u8]) -> Result<Option<u64>, Fail> {
     let mut station = untold(rt, alloc, file)?;
-    let Some(quick) = open_quick(alloc, &mut station)? else {
-        return Ok(None);
-    };
-    let read = station.travel().read;
     let mut again = untold(rt, alloc, file)?;
-    let by_region = open_store(alloc, &mut again)?;
-    see_same(rt, &quick, &by_region);
-    Ok(Some(read))
+    match open_by_index(alloc, &mut station)? {
+        Some(quick) => {
+            let read = station.travel().read;
+            let seen = see_by_region(rt, alloc, &mut again, &quick);
+            end(quick);
+            seen?;
+            Ok(Some(read))
+        }
+        None => Ok(None),
+    }
 }
 
 // Sees that a file is opened by its index exactly where its clean gate is odd, as the store that it is by its region, with all
@@ -130,7 +173,7 @@ fn see_file(
     let is_odd = file[CLEAN] % 2 == 1;
     assert_eq!(rt; read_quickly(rt, alloc, file)?.is_some(), is_odd);
     let mut station = untold(rt, alloc, file)?;
-    open_store(alloc, &mut station)?;
+    opens(alloc, &mut station)?;
     see_records(rt, file, layout, 1, last)?;
     Ok(is_odd)
 }
@@ -252,7 +295,7 @@ fn a_closing_is_stopped_at_every_call(rt: HostRuntime) -> Result<(), Fail> {
         let layout = indexed(version, format);
         let file = left_file(&rt, rt.alloc(), layout, &ROWS[1])?;
         let mut station = untold(&rt, rt.alloc(), &file)?;
-        assert!(rt; close_index(&mut station).is_ok());
+        assert!(rt; close(&mut station));
         see_stops(&rt, rt.alloc(), &station, 0, layout, 65)?;
         assert!(rt; !see_file(&rt, rt.alloc(), station.inner.inner().held(), layout, 65)?);
     }
@@ -273,7 +316,7 @@ fn see_faults(
             let is_done = if is_leaving {
                 leave_once(alloc, &mut station).is_some()
             } else {
-                close_index(&mut station).is_ok()
+                close(&mut station)
             };
             let is_odd = see_file(rt, alloc, station.inner.inner().held(), layout, 65)?;
             assert!(rt; !is_done || is_odd == is_leaving);
@@ -328,7 +371,7 @@ fn what_is_left_at_the_other_gates_and_versions(rt: HostRuntime) -> Result<(), F
         let mut file = left_file(&rt, rt.alloc(), indexed(version, 1), &ROWS[1])?;
         lay(&rt, &mut file, place, &[byte]);
         let mut station = untold(&rt, rt.alloc(), &file)?;
-        let is_some = open_quick(rt.alloc(), &mut station)?.is_some();
+        let is_some = opens_by_index(rt.alloc(), &mut station)?;
         assert!(rt; is_some == is_quick, "{place}");
     }
     Ok(())
@@ -351,7 +394,7 @@ const WRONG: [(usize, &[u8], u32); 9] = [
 // The place at which an index is refused.
 fn refused_at(rt: &impl Abort, alloc: Global, file: &[u8]) -> Result<Option<u32>, Fail> {
     let mut station = untold(rt, alloc, file)?;
-    match open_quick(alloc, &mut station) {
+    match opens_by_index(alloc, &mut station) {
         Err(OpenFault::NotStore(Reason::Index { place })) => Ok(Some(place)),
         _ => Ok(None),
     }

@@ -6,8 +6,9 @@ use crate::files::{
     Counts, FORMATS, file_of, lay, lay_row, layout_of, noting, place_of, row, see_opens,
     see_records, see_stops,
 };
+use crate::opened::opens;
 use header_gate::{Layout, PAIRED, Reason, create_store};
-use recovery::{OpenFault, open_store};
+use recovery::OpenFault;
 use station::MemStation;
 use std::alloc::Global;
 use std::process::Abort;
@@ -30,8 +31,8 @@ const EVEN: Counts = [32, 32, 0, 0, 0, 0, 0, 0];
 fn reason(rt: &impl Abort, alloc: Global, file: &[u8]) -> Result<Option<Reason>, Fail> {
     assert!(rt; file.len() < 1000000);
     let mut station = MemStation::new(alloc, file, file.len(), 0, &[], None)?;
-    match open_store(alloc, &mut station) {
-        Ok(_) => Ok(None),
+    match opens(alloc, &mut station) {
+        Ok(()) => Ok(None),
         Err(OpenFault::NotStore(reason)) => Ok(Some(reason)),
         Err(_) => Err("another fault".into()),
     }
@@ -249,7 +250,7 @@ fn see_repairs(rt: &impl Abort, alloc: Global, format: u32) -> Result<(), Fail>
     for (before, after, records) in REPAIRS {
         let file = file_of(rt, alloc, layout, 2, before)?;
         let mut station = noting(rt, alloc, &file)?;
-        open_store(alloc, &mut station)?;
+        opens(alloc, &mut station)?;
         let found = see_records(rt, station.inner().held(), layout, 1, records)?;
         assert_eq!(rt; found, (2, after));
         see_stops(rt, alloc, &station, layout, records)?;
@@ -303,7 +304,7 @@ fn a_replay_is_stopped_at_every_call(rt: HostRuntime) -> Result<(), Fail> {
         let layout = layout_of(format, 2, 4);
         let file = torn(&rt, rt.alloc(), layout)?;
         let mut station = noting(&rt, rt.alloc(), &file)?;
-        open_store(rt.alloc(), &mut station)?;
+        opens(rt.alloc(), &mut station)?;
         let found = see_records(&rt, station.inner().held(), layout, 1, 126)?;
         assert_eq!(rt; found, (2, [31, 31, 31, 33, 0, 0, 0, 0]));
         see_stops(&rt, rt.alloc(), &station, layout, 126)?;

@@ -2,13 +2,22 @@
 
 ghost use Rattle.std.specs.Prelude.{◌≤◌};
 ghost use Rattle.density_rule.specs.Bounds.{IsInBounds};
+ghost use Rattle.header_gate.specs.InPlace.{IsBare};
+ghost use Rattle.header_gate.specs.Places.{file_length};
+ghost use Rattle.recovery.specs.Parts.{Fits};
+ghost use Rattle.redo_journal.specs.Rest.{RestsAt};
+ghost use Rattle.segment_frames.specs.Standing.{StandsFor};
+ghost use Rattle.station.specs.CrashStation.{crash_view};
+ghost use Rattle.station.specs.View.{Told, EachHeld, NothingPending};
 
 use crate::files::{
     Counts, FORMATS, file_of, layout_of, noting, see_opens, see_records, see_stops,
 };
+use crate::opened::{end, open_cleared};
 use density_rule::{Window, in_bounds};
-use recovery::{Parts, open_store};
-use resize_region::{clear_store, grow, shrink};
+use recovery::Parts;
+use resize_region::{grow, shrink};
+use segment::StoreFault;
 use station::{CrashStation, Pick};
 use std::alloc::Global;
 use std::process::Abort;
@@ -22,52 +31,75 @@ fn see_fits(rt: &impl Abort, height: u32, records: u32)
     assert!(rt; in_bounds(height, height, records));
 }
 
-// Opens a store and grows it by one height.
-fn grow_once(rt: &impl Abort, alloc: Global, station: &mut CrashStation) -> Result<(), Fail> {
-    let Ok(
-        Parts {
-            mut place,
-            mut tally,
-            mut index,
-            mut frames,
-            ..
-        },
-    ) = open_store(alloc, station)
-    else {
-        return Err("no store".into());
-    };
-    let height = tally.height();
-    let records = tally.count(Window { height, number: 0 });
-    assert!(rt; height < place.layout.height_limit());
+// Grows a store by one height.
+fn grow_one(
+    rt: &impl Abort,
+    station: &mut CrashStation,
+    parts: &mut Parts,
+) -> Result<(), StoreFault>
+    requires fits { Fits parts.old.place parts.old.tally parts.old.index parts.old.frames.journal }
+    requires stands { EachHeld (StandsFor parts.old.place parts.old.tally) (crash_view station.old) }
+    requires nothing { NothingPending (crash_view station.old) }
+    requires bare { Told (crash_view station.old) → IsBare parts.old.place.layout (crash_view station.old).held }
+    requires reach { file_length parts.old.place.layout ≤ (crash_view station.old).fixed.reach }
+    requires rests { RestsAt parts.old.place.layout parts.old.frames.turn (crash_view station.old) }
+{
+    let height = parts.tally.height();
+    let records = parts.tally.count(Window { height, number: 0 });
+    assert!(rt; height < parts.place.layout.height_limit());
     see_fits(rt, height + 1, records);
-    clear_store(station, &place, &mut frames)?;
-    index.reset(height + 1);
-    grow(station, &mut place, &mut frames, &mut tally, &mut index)?;
-    Ok(())
+    parts.index.reset(height + 1);
+    grow(
+        station,
+        &mut parts.place,
+        &mut parts.frames,
+        &mut parts.tally,
+        &mut parts.index,
+    )
 }
 
-// Opens a store and shrinks it by one height.
-fn shrink_once(rt: &impl Abort, alloc: Global, station: &mut CrashStation) -> Result<(), Fail> {
-    let Ok(
-        Parts {
-            mut place,
-            mut tally,
-            mut index,
-            mut frames,
-            ..
-        },
-    ) = open_store(alloc, station)
-    else {
-        return Err("no store".into());
-    };
-    let height = tally.height();
-    let records = tally.count(Window { height, number: 0 });
+// Shrinks a store by one height.
+fn shrink_one(
+    rt: &impl Abort,
+    station: &mut CrashStation,
+    parts: &mut Parts,
+) -> Result<(), StoreFault>
+    requires fits { Fits parts.old.place parts.old.tally parts.old.index parts.old.frames.journal }
+    requires stands { EachHeld (StandsFor parts.old.place parts.old.tally) (crash_view station.old) }
+    requires nothing { NothingPending (crash_view station.old) }
+    requires bare { Told (crash_view station.old) → IsBare parts.old.place.layout (crash_view station.old).held }
+    requires reach { file_length parts.old.place.layout ≤ (crash_view station.old).fixed.reach }
+    requires rests { RestsAt parts.old.place.layout parts.old.frames.turn (crash_view station.old) }
+{
+    let height = parts.tally.height();
+    let records = parts.tally.count(Window { height, number: 0 });
     assert!(rt; height >= 1);
     see_fits(rt, height - 1, records);
-    clear_store(station, &place, &mut frames)?;
-    index.reset(height - 1);
-    shrink(station, &mut place, &mut frames, &mut tally, &mut index)?;
-    Ok(())
+    parts.index.reset(height - 1);
+    shrink(
+        station,
+        &mut parts.place,
+        &mut parts.frames,
+        &mut parts.tally,
+        &mut parts.index,
+    )
+}
+
+// Opens a store, and grows it by one height or shrinks it by one.
+fn resize_once(
+    rt: &impl Abort,
+    alloc: Global,
+    station: &mut CrashStation,
+    grows: bool,
+) -> Result<(), Fail> {
+    let mut parts = open_cleared(alloc, station)?;
+    let resized = if grows {
+        grow_one(rt, station, &mut parts)
+    } else {
+        shrink_one(rt, station, &mut parts)
+    };
+    end(parts);
+    Ok(resized?)
 }
 
 /// The greatest height, the journal, the heights and the counts before and after, and the number of records.
@@ -140,11 +172,7 @@ fn see_resize(rt: &impl Abort, alloc: Global, format: u32, row: &Resize) -> Resu
     let layout = layout_of(format, limit, journal);
     let file = file_of(rt, alloc, layout, from, before)?;
     let mut station = noting(rt, alloc, &file)?;
-    if to > from {
-        grow_once(rt, alloc, &mut station)?;
-    } else {
-        shrink_once(rt, alloc, &mut station)?;
-    }
+    resize_once(rt, alloc, &mut station, to > from)?;
     let found = see_records(rt, station.inner().held(), layout, 1, records)?;
     assert_eq!(rt; found, (to, after));
     see_stops(rt, alloc, &station, layout, records)?;

@@ -1,12 +1,35 @@
 //! Stores go over to slot format 2, and are stopped at every call.
 
+ghost use Rattle.std.specs.Prelude.{◌≤◌};
+ghost use Rattle.header_gate.specs.InPlace.{IsBare};
+ghost use Rattle.header_gate.specs.Places.{file_length};
+ghost use Rattle.recovery.specs.Parts.{Fits};
+ghost use Rattle.redo_journal.specs.Rest.{RestsAt};
+ghost use Rattle.segment_frames.specs.Standing.{StandsFor};
+ghost use Rattle.station.specs.CrashStation.{crash_view};
+ghost use Rattle.station.specs.View.{Told, EachHeld, NothingPending};
+
 use crate::files::{Counts, file_of, noting, see_records, see_stops};
+use crate::opened::{end, open_cleared};
 use header_gate::Layout;
-use recovery::{Parts, open_store};
-use resize_region::{Upgrade, clear_store, upgrade};
+use recovery::Parts;
+use resize_region::{Upgrade, upgrade};
+use segment::StoreFault;
 use station::CrashStation;
 use std::alloc::Global;
 use std::test::Fail;
+
+// Upgrades a store, and answers what came of it.
+fn upgrade_parts(station: &mut CrashStation, parts: &mut Parts) -> Result<Upgrade, StoreFault>
+    requires fits { Fits parts.old.place parts.old.tally parts.old.index parts.old.frames.journal }
+    requires stands { EachHeld (StandsFor parts.old.place parts.old.tally) (crash_view station.old) }
+    requires nothing { NothingPending (crash_view station.old) }
+    requires bare { Told (crash_view station.old) → IsBare parts.old.place.layout (crash_view station.old).held }
+    requires reach { file_length parts.old.place.layout ≤ (crash_view station.old).fixed.reach }
+    requires rests { RestsAt parts.old.place.layout parts.old.frames.turn (crash_view station.old) }
+{
+    upgrade(station, &mut parts.place, &mut parts.frames, &parts.tally)
+}
 
 // Opens a store and upgrades it, and answers what came of it, with the region and the format that its place names then
 // and the number of calls that it made.
@@ -14,22 +37,13 @@ fn upgrade_once(
     alloc: Global,
     station: &mut CrashStation,
 ) -> Result<(Upgrade, u32, u32, usize), Fail> {
-    let Ok(
-        Parts {
-            mut place,
-            tally,
-            mut frames,
-            ..
-        },
-    ) = open_store(alloc, station)
-    else {
-        return Err("no store".into());
-    };
-    clear_store(station, &place, &mut frames)?;
+    let mut parts = open_cleared(alloc, station)?;
     let before = station.noted();
-    let answer = upgrade(station, &mut place, &mut frames, &tally)?;
+    let answer = upgrade_parts(station, &mut parts);
     let calls = station.noted().saturating_sub(before);
-    Ok((answer, place.region, place.layout.format, calls))
+    let (region, format) = (parts.place.region, parts.place.layout.format);
+    end(parts);
+    Ok((answer?, region, format, calls))
 }
 
 /// Height limit, journal, the heights and the counts before and after, and the number of records.

@@ -6,9 +6,9 @@ use Rattle.array_tests.proofs.rebalances.spread_all.Goals as goal
 
 pub rebalance-requires-clause-bounds : goal.rebalance-requires-clause-bounds
 rebalance-requires-clause-bounds g c =
-    let tally = c.in-Ok.field-0.tally in
+    let tally = c.args.parts.now.tally in
     subst (λ (h : ℕ). IsInBounds tally.height h (count_in tally.counts h 0)) (sym c.height.ensures.height)
-    (c.in-Ok.ensures.fits.balanced tally.height 0 (root_window tally.height))
+    (c.requires.fits.balanced tally.height 0 (root_window tally.height))
 
 pub rebalance-requires-clause-stands : goal.rebalance-requires-clause-stands
-rebalance-requires-clause-stands g c image may = (c.in-Ok.ensures.agrees image may).stands.stands
+rebalance-requires-clause-stands g c image may = (c.requires.agrees image may).stands.stands

@@ -1,28 +1,16 @@
 //! The record next to a key is looked for, ahead of it and behind it: which is found, how many segments are read for it, and a
 //! look that fails.
 
-ghost use Rattle.std.specs.Prelude.{◌≡◌, ◌≤◌, OnOk, IfOk};
-ghost use Rattle.pma_store.specs.Store.{IsOpenOn};
-ghost use Rattle.station.specs.MemStation.{mem_view};
+ghost use Rattle.std.specs.Prelude.{◌≤◌};
 
 use crate::files::{Counts, FORMATS, file_of, layout_of, row};
-use key_slot::{Key, Row};
-use pma_store::{Metered, Store};
-use range_scan::Seek;
+use crate::sessions::{Keys, Session, Way};
+use Way::{Ahead, Behind};
+use key_slot::Key;
 use segment::StoreFault;
-use station::{MemStation, Station};
 use std::alloc::Global;
 use std::process::Abort;
 use std::test::Fail;
-
-/// Which way is looked from a record.
-#[derive(Clone, Copy)]
-enum Way {
-    Ahead,
-    Behind,
-}
-
-use Way::{Ahead, Behind};
 
 /// The numbers of a lower bound, of the record from which is looked, and of an upper bound.
 type Bounds = (Option<u32>, Option<u32>, Option<u32>);
@@ -80,15 +68,11 @@ fn session_over(
     height: u32,
     counts: Counts,
     fails: u32,
-) -> Result<(Metered, MemStation), Fail>
+) -> Result<Session, Fail>
     requires { 1 ≤ format × (format ≤ 2) }
-    ensures { IfOk result (λ made. IsOpenOn made.0.store (mem_view made.1)) }
 {
     let file = file_of(rt, alloc, layout_of(format, 2, 4), height, counts)?;
-    assert!(rt; file.len() < 1000000);
-    let mut station = MemStation::new(alloc, &file, file.len(), 0, &[fails], None)?;
-    let store = Store::open_on(alloc, &mut station)?;
-    Ok((Metered::new(store), station))
+    Session::over(rt, alloc, &file, fails)
 }
 
 // The key of the record of a number.
@@ -99,40 +83,38 @@ fn key(number: Option<u32>, format: u32) -> Result<Option<Key>, Fail> {
     }
 }
 
-// Looks for the next record on a way.
-fn look(
-    store: &mut Metered,
-    station: &mut MemStation,
-    way: Way,
-    bounds: Bounds,
-) -> Result<Result<Option<Row>, StoreFault>, Fail>
-    requires { IsOpenOn store.old.store (mem_view station.old) }
-{
-    let format = store.format();
+// The keys of the records that have these numbers.
+fn keys(bounds: Bounds, format: u32) -> Result<Keys, Fail> {
     let (low, past, high) = bounds;
-    let (low, past, high) = (key(low, format)?, key(past, format)?, key(high, format)?);
-    match way {
-        Ahead => Ok(store.first_row(station, low, past, high)),
-        Behind => Ok(store.last_row(station, low, past, high)),
-    }
+    Ok((key(low, format)?, key(past, format)?, key(high, format)?))
+}
+
+// Sees what is found on a way in a store of this format, and that no more is read for it than that many segments.
+fn see_look(rt: &impl Abort, alloc: Global, format: u32, way: Way, look: &Look) -> Result<(), Fail>
+    requires { 1 ≤ format × (format ≤ 2) }
+{
+    let (height, counts, bounds, wanted, segments) = *look;
+    let keys = keys(bounds, format)?;
+    let wanted = key(wanted, format)?;
+    let session = session_over(rt, alloc, format, height, counts, 1000)?;
+    let before = session.travel();
+    let looked = session.look(rt, way, keys);
+    let found = looked.found?;
+    assert!(rt; found.map(|row| row.key) == wanted, "{bounds:?}");
+    let after = looked.travel;
+    assert_eq!(rt;
+        after.read.checked_sub(before.read),
+        (4096 * format as u64).checked_mul(segments)
+    );
+    assert!(rt; after.written == before.written && !looked.closed);
+    Ok(())
 }
 
 // Sees what is found on a way in stores of both formats.
 fn see_looks(rt: &impl Abort, alloc: Global, way: Way, looks: &[Look]) -> Result<(), Fail> {
     for format in FORMATS {
-        for (height, counts, bounds, wanted, segments) in looks {
-            let (mut store, mut station) = session_over(rt, alloc, format, *height, *counts, 1000)?;
-            let before = station.travel();
-            let found = look(&mut store, &mut station, way, *bounds)??;
-            let wanted = key(*wanted, format)?;
-            assert!(rt; found.map(|row| row.key) == wanted, "{bounds:?}");
-            let after = station.travel();
-            let size = 4096 * format as u64;
-            assert_eq!(rt;
-                after.read.checked_sub(before.read),
-                size.checked_mul(*segments)
-            );
-            assert!(rt; after.written == before.written && !store.closed());
+        for look in looks {
+            see_look(rt, alloc, format, way, look)?;
         }
     }
     Ok(())
@@ -160,12 +142,15 @@ fn a_look_that_fails_closes_the_store(rt: HostRuntime) -> Result<(), Fail> {
         (Behind, 33, 5, 1),
         (Behind, 33, 6, 2),
     ] {
-        let (mut store, mut station) = session_over(&rt, rt.alloc(), 1, 1, TWO, fails)?;
-        let before = station.travel();
-        let found = look(&mut store, &mut station, way, (None, Some(past), None))?;
-        assert!(rt; matches!(found, Err(StoreFault::Failed)) && store.closed());
-        let after = station.travel();
-        assert_eq!(rt; after.read.checked_sub(before.read), Some(4096 * segments));
+        let keys = keys((None, Some(past), None), 1)?;
+        let session = session_over(&rt, rt.alloc(), 1, 1, TWO, fails)?;
+        let before = session.travel();
+        let looked = session.look(&rt, way, keys);
+        assert!(rt; matches!(looked.found, Err(StoreFault::Failed)) && looked.closed);
+        assert_eq!(rt;
+            looked.travel.read.checked_sub(before.read),
+            Some(4096 * segments)
+        );
     }
     Ok(())
 }

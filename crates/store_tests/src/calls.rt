@@ -2,15 +2,34 @@
 
 ghost use Rattle.std.specs.Prelude.{◌≤◌};
 
-use crate::files::{file_of, layout_of, row};
-use crate::stores::put_row;
-use crate::untold::untold;
+use crate::files::{file_of, layout_of, noting, row};
+use crate::store::Bench;
 use header_gate::{INDEXED, Layout, PAIRED};
-use pma_store::Store;
-use station::Station;
+use key_slot::Row;
+use station::{CrashStation, Station};
 use std::alloc::Global;
 use std::process::Abort;
 use std::test::Fail;
+
+// The calls that were made, and the bytes that were written.
+fn spent(bench: &Bench<CrashStation>) -> (usize, u64) {
+    (bench.station.noted(), bench.station.travel().written)
+}
+
+// The calls and the bytes that a put makes.
+fn spent_by_put(
+    rt: &impl Abort,
+    bench: &mut Bench<CrashStation>,
+    row: &Row,
+) -> Result<(usize, u64), Fail> {
+    let (calls, bytes) = spent(bench);
+    bench.put(rt, row)?;
+    let (all_calls, all_bytes) = spent(bench);
+    Ok((
+        all_calls.saturating_sub(calls),
+        all_bytes.saturating_sub(bytes),
+    ))
+}
 
 // The calls and the bytes that a put makes behind that many records of one segment.
 fn put_next(
@@ -22,19 +41,11 @@ fn put_next(
     requires { count ≤ 64 }
 {
     let file = file_of(rt, alloc, layout, 0, [count, 0, 0, 0, 0, 0, 0, 0])?;
-    let mut station = untold(rt, alloc, &file)?;
-    let mut store = Store::open_on(alloc, &mut station)?;
-    let (calls, bytes) = (station.inner.noted(), station.travel().written);
-    put_row(
-        rt,
-        &mut store,
-        &mut station,
-        &row(count + 1, layout.format)?,
-    )?;
-    Ok((
-        station.inner.noted().saturating_sub(calls),
-        station.travel().written.saturating_sub(bytes),
-    ))
+    let row = row(count + 1, layout.format)?;
+    let mut bench = Bench::open(alloc, noting(rt, alloc, &file)?)?;
+    let spent = spent_by_put(rt, &mut bench, &row);
+    bench.end();
+    spent
 }
 
 /// Version, slot format, the records before, and calls and bytes of a put of one more.

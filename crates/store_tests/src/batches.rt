@@ -4,8 +4,11 @@
 ghost use Rattle.std.specs.Prelude.{◌≤◌, T, length, IfOk};
 ghost use Rattle.std.specs.List.{list_all};
 ghost use Rattle.batch_intent.specs.Spelling.{fits_item};
+ghost use Rattle.pma_store.specs.Store.{IsOpenOn};
 
 use crate::files::{Counts, FORMATS, file_of, lay, layout_of, noting, row, see_records};
+use crate::store::{Bench, batch, open, opens};
+use crate::stores::bench_of;
 use batch_intent::{Intent, MOST_ITEMS, read_intent};
 use header_gate::Layout;
 use pma_store::{Batch, Store};
@@ -142,6 +145,22 @@ const BATCHES: [Row; 5] = [
     ),
 ];
 
+// Makes a batch in a store of this format, unless a call fails.
+fn batch_in<S: Station>(
+    rt: &impl Abort,
+    store: &mut Store,
+    station: &mut S,
+    format: u32,
+    intent: &Intent,
+) -> Option<Batch>
+    requires open { IsOpenOn store.old (S.view station.old) }
+    requires some { 1 ≤ length intent.now }
+    requires fit { T (list_all (fits_item format) intent.now) }
+{
+    assert!(rt; store.format() == format);
+    batch(store, station, intent).ok()
+}
+
 // Opens a store of this format and makes a batch, unless a call fails.
 fn batch_once<S: Station>(
     rt: &impl Abort,
@@ -153,11 +172,31 @@ fn batch_once<S: Station>(
     requires some { 1 ≤ length intent.now }
     requires fit { T (list_all (fits_item format) intent.now) }
 {
-    let Ok(mut store) = Store::open_on(alloc, station) else {
-        return None;
-    };
-    assert!(rt; store.format() == format);
-    store.batch(station, intent).ok()
+    match open(alloc, station) {
+        Ok(mut store) => batch_in(rt, &mut store, station, format, intent),
+        Err(_) => None,
+    }
+}
+
+// Sees that a store has the records before a batch or those behind it, and answers whether it has the latter.
+fn see_either_in(
+    rt: &impl Abort,
+    bench: &mut Bench<MemStation>,
+    layout: Layout,
+    batch: &Row,
+) -> Result<bool, Fail> {
+    let (_, _, _, before, after, _) = *batch;
+    assert!(rt; before < 1000 && after < 1000);
+    let first = bench.get(rt, &row(1, layout.format)?.key)?;
+    let held = bench.held();
+    assert!(rt; held.len() > 640);
+    assert_eq!(rt; held[640], 0, "the gate");
+    if first.is_some() {
+        see_records(rt, held, layout, 1, before)?;
+    } else {
+        see_records(rt, held, layout, 2, after)?;
+    }
+    Ok(first.is_none())
 }
 
 // Opens a file, sees that it has the records before a batch or those behind it, and answers whether it has the latter.
@@ -168,19 +207,10 @@ fn see_either(
     layout: Layout,
     batch: &Row,
 ) -> Result<bool, Fail> {
-    let (_, _, _, before, after, _) = *batch;
-    assert!(rt; file.len() < 1000000 && before < 1000 && after < 1000);
-    let mut station = MemStation::new(alloc, file, file.len(), 0, &[], None)?;
-    let mut store = Store::open_on(alloc, &mut station)?;
-    let first = store.get(&mut station, &row(1, layout.format)?.key)?;
-    assert!(rt; station.held().len() > 640);
-    assert_eq!(rt; station.held()[640], 0, "the gate");
-    if first.is_some() {
-        see_records(rt, station.held(), layout, 1, before)?;
-    } else {
-        see_records(rt, station.held(), layout, 2, after)?;
-    }
-    Ok(first.is_none())
+    let mut bench = bench_of(rt, alloc, file)?;
+    let seen = see_either_in(rt, &mut bench, layout, batch);
+    bench.end();
+    seen
 }
 
 // Stops the opening of a file at each of its calls: it has the same records then. A call that fails alone leaves what a stop at it
@@ -198,8 +228,8 @@ fn see_stopped_openings(
     for call in 0..CALLS {
         let mut stopped = MemStation::new(alloc, file, file.len(), 0, &[], Some(call))?;
         let mut failed = MemStation::new(alloc, file, file.len(), 0, &[call], None)?;
-        let is_stopped = Store::open_on(alloc, &mut stopped).is_err();
-        let is_failed = Store::open_on(alloc, &mut failed).is_err();
+        let is_stopped = !opens(alloc, &mut stopped);
+        let is_failed = !opens(alloc, &mut failed);
         assert!(rt; is_stopped == is_failed && stopped.held() == failed.held());
         if !is_stopped {
             return Ok(());

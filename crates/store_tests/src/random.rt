@@ -1,13 +1,11 @@
 //! Updates of keys drawn at random, against the ordered map of the standard library.
 
-ghost use Rattle.std.specs.Prelude.{OnOk};
-ghost use Rattle.pma_store.specs.Store.{IsOpenOn};
-ghost use Rattle.station.specs.MemStation.{mem_view};
-
 use crate::files::{layout_of, row};
-use crate::stores::{empty_store, put_row};
+use crate::store::Bench;
+use crate::stores::empty_bench;
+use header_gate::Layout;
 use key_slot::{Row, Value};
-use pma_store::{Put, Store};
+use pma_store::Put;
 use station::MemStation;
 use std::alloc::Global;
 use std::collections::BTreeMap;
@@ -28,20 +26,16 @@ fn next(x: u64) -> u64 {
 // Binds a key to a value in both, and sees that they answer the same.
 fn put_both(
     rt: &impl Abort,
-    store: &mut Store,
-    station: &mut MemStation,
+    bench: &mut Bench<MemStation>,
     map: &mut BTreeMap<u32, u32>,
     number: u32,
     value: u32,
-) -> Result<(), Fail>
-    requires { IsOpenOn store.old (mem_view station.old) }
-    ensures { OnOk result (IsOpenOn store.new (mem_view station.new)) }
-{
+) -> Result<(), Fail> {
     let row = Row {
-        key: row(number, store.format())?.key,
+        key: row(number, bench.format())?.key,
         value: Value::from_bytes(&value.to_be_bytes())?,
     };
-    let (put, _) = put_row(rt, store, station, &row)?;
+    let (put, _) = bench.put(rt, &row)?;
     let full = map.len() == MOST as usize;
     let present = map.contains_key(&number);
     if present || !full {
@@ -59,15 +53,11 @@ fn put_both(
 // Takes a key away from both, and sees that they answer the same.
 fn remove_both(
     rt: &impl Abort,
-    store: &mut Store,
-    station: &mut MemStation,
+    bench: &mut Bench<MemStation>,
     map: &mut BTreeMap<u32, u32>,
     number: u32,
-) -> Result<(), Fail>
-    requires { IsOpenOn store.old (mem_view station.old) }
-    ensures { OnOk result (IsOpenOn store.new (mem_view station.new)) }
-{
-    let (removed, _) = store.remove(station, &row(number, store.format())?.key)?;
+) -> Result<(), Fail> {
+    let (removed, _) = bench.remove(rt, &row(number, bench.format())?.key)?;
     assert!(rt;
         removed == map.remove(&number).is_some(),
         "removal {number}"
@@ -78,43 +68,35 @@ fn remove_both(
 // A put or a removal of the key that a drawn number names.
 fn update_both(
     rt: &impl Abort,
-    store: &mut Store,
-    station: &mut MemStation,
+    bench: &mut Bench<MemStation>,
     map: &mut BTreeMap<u32, u32>,
     drawn: u64,
     is_put: bool,
     value: u32,
-) -> Result<(), Fail>
-    requires { IsOpenOn store.old (mem_view station.old) }
-    ensures { OnOk result (IsOpenOn store.new (mem_view station.new)) }
-{
+) -> Result<(), Fail> {
     let number = ((drawn >> 33) % u64::from(KEYS)) as u32;
     if is_put {
-        put_both(rt, store, station, map, number, value)
+        put_both(rt, bench, map, number, value)
     } else {
-        remove_both(rt, store, station, map, number)
+        remove_both(rt, bench, map, number)
     }
 }
 
 // A hundred updates, with that many puts among sixteen, and a check behind them.
 fn hundred(
     rt: &impl Abort,
-    store: &mut Store,
-    station: &mut MemStation,
+    bench: &mut Bench<MemStation>,
     map: &mut BTreeMap<u32, u32>,
     round: u32,
     puts: u64,
-) -> Result<(), Fail>
-    requires { IsOpenOn store.old (mem_view station.old) }
-    ensures { OnOk result (IsOpenOn store.new (mem_view station.new)) }
-{
+) -> Result<(), Fail> {
     let mut x = u64::from(round);
     for i in 0..100 {
         x = next(x);
-        update_both(rt, store, station, map, x, (x >> 20) % 16 < puts, i)?;
+        update_both(rt, bench, map, x, (x >> 20) % 16 < puts, i)?;
     }
-    let height = store.height();
-    let checked = store.check(station)?;
+    let height = bench.height();
+    let checked = bench.check(rt)?;
     assert!(rt; checked.records as usize == map.len() && checked.height == height);
     Ok(())
 }
@@ -122,15 +104,11 @@ fn hundred(
 // Sees that each key has the same value in both.
 fn see_both(
     rt: &impl Abort,
-    store: &mut Store,
-    station: &mut MemStation,
+    bench: &mut Bench<MemStation>,
     map: &BTreeMap<u32, u32>,
-) -> Result<(), Fail>
-    requires { IsOpenOn store.old (mem_view station.old) }
-    ensures { OnOk result (IsOpenOn store.new (mem_view station.new)) }
-{
+) -> Result<(), Fail> {
     for number in 0..KEYS {
-        let found = store.get(station, &row(number, store.format())?.key)?;
+        let found = bench.get(rt, &row(number, bench.format())?.key)?;
         let want = match map.get(&number) {
             Some(value) => Some(Value::from_bytes(&value.to_be_bytes())?),
             None => None,
@@ -140,22 +118,48 @@ fn see_both(
     Ok(())
 }
 
+// Hundreds of updates with the rounds from `first` on and below `end`, with that many puts among sixteen.
+fn rounds(
+    rt: &impl Abort,
+    bench: &mut Bench<MemStation>,
+    map: &mut BTreeMap<u32, u32>,
+    first: u32,
+    end: u32,
+    puts: u64,
+) -> Result<(), Fail> {
+    for round in first..end {
+        hundred(rt, bench, map, round, puts)?;
+    }
+    see_both(rt, bench, map)
+}
+
+// Fills an empty store, and empties it until it shrinks.
+fn see_updates_in(
+    rt: &impl Abort,
+    bench: &mut Bench<MemStation>,
+    map: &mut BTreeMap<u32, u32>,
+) -> Result<(), Fail> {
+    rounds(rt, bench, map, 0, 15, 15)?;
+    assert!(rt; map.len() == MOST as usize && bench.height() == 3);
+    rounds(rt, bench, map, 15, 36, 1)?;
+    assert!(rt; bench.height() < 3);
+    Ok(())
+}
+
+// Does so with one of this layout.
+fn see_updates(rt: &impl Abort, alloc: Global, layout: Layout) -> Result<(), Fail> {
+    let mut bench = empty_bench(rt, alloc, layout)?;
+    let mut map = BTreeMap::new(alloc);
+    let seen = see_updates_in(rt, &mut bench, &mut map);
+    bench.end();
+    seen
+}
+
 /// The first rounds fill the store, and the later ones empty it until it shrinks.
 #[test]
 fn random_updates_are_those_of_an_ordered_map(rt: HostRuntime) -> Result<(), Fail> {
     for (format, journal) in [(1, 4), (1, 8), (2, 4), (2, 16)] {
-        let (mut store, mut station) = empty_store(&rt, rt.alloc(), layout_of(format, 3, journal))?;
-        let mut map = BTreeMap::new(rt.alloc());
-        for round in 0..15 {
-            hundred(&rt, &mut store, &mut station, &mut map, round, 15)?;
-        }
-        assert!(rt; map.len() == MOST as usize && store.height() == 3);
-        see_both(&rt, &mut store, &mut station, &map)?;
-        for round in 15..36 {
-            hundred(&rt, &mut store, &mut station, &mut map, round, 1)?;
-        }
-        assert!(rt; store.height() < 3);
-        see_both(&rt, &mut store, &mut station, &map)?;
+        see_updates(&rt, rt.alloc(), layout_of(format, 3, journal))?;
     }
     Ok(())
 }

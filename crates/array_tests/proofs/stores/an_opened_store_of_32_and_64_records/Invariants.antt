@@ -1,6 +1,0 @@
-use Rattle.station.specs.MemStation.{mem_view}
-use Rattle.pma_store.specs.Store.{IsOpenOn}
-use Rattle.array_tests.proofs.stores.an_opened_store_of_32_and_64_records.Given as goal
-
-abbrev pub invariant-loop-number : goal.invariant-loop-number
-invariant-loop-number g l = IsOpenOn l.store (mem_view l.station)
