@@ -22,6 +22,7 @@ tried() {
 tried table "$examples/table.sh" "$program"
 tried index "$examples/index.sh" "$program"
 tried graph "$examples/graph.sh" "$program"
+tried feed "$examples/feed.sh" "$program"
 
 if command -v python3 >/dev/null; then
     tried client.py python3 -B "$examples/client.py" "$program" "$folder/python.pma"

@@ -51,7 +51,7 @@ module _ (f : ℕ) where
   end_fits (n ∷ []) = number_fits (number_of n)
   end_fits (n ∷ v ∷ rest) = record {}
 
-  words_fit : (ws : List (List ℕ)) → AreWords ws → FitsLine f (load_words f ws)
+  pub words_fit : (ws : List (List ℕ)) → AreWords ws → FitsLine f (load_words f ws)
   words_fit [] are = record {}
   words_fit (name ∷ rest) are =
       either (slice_index name 0 == 35) Nothing (if bytes_eq name (codes "record") then record_line f rest else (if bytes_eq name (codes "end") then end_line rest else Bad)) (record {})

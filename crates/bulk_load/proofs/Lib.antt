@@ -17,4 +17,22 @@ pub mod TextLaws
 pub mod TextFaults
 pub mod DueLaws
 pub mod Admitted
+pub mod MergeLaws
+pub mod MergeReading
+pub mod MergeLines
+pub mod MergeFaults
+pub mod MergedLoads
+pub mod AheadLaws
+pub mod AmidLaws
+pub mod UpdateLaws
+pub mod CopyLaws
+pub mod FileFaults
+pub mod PassLaws
+pub mod MergedLaws
+pub mod TakenLines
+pub mod UpdateReading
+pub mod MergeStart
+pub mod MergeAdmitted
 mod Vectors
+mod MergeVectors
+pub mod AloneLaws

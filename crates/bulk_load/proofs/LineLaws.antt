@@ -8,7 +8,11 @@ use Rattle.map_model.specs.Reasons.{last_key, begins_above}
 use Rattle.header_gate.specs.declared.layout.Layout.{Layout}
 use Rattle.redo_journal.specs.Frames.{Batch}
 use Rattle.command_text.specs.declared.load.LoadLine.TheVariants.{Nothing, Row, End, Bad}
+use Rattle.bulk_load.specs.declared.fault.LoadFault.{LoadFault}
+use Rattle.bulk_load.specs.declared.fault.LoadFault.TheVariants as fault
 use Rattle.bulk_load.specs.declared.packing.Taken.{Taken}
+use Rattle.bulk_load.specs.Faults.{IsLineFault}
+use Rattle.bulk_load.specs.Resulting.{IsPackingFault}
 use Rattle.bulk_load.specs.Loading.{reads, wrong, full, after_line}
 use Rattle.bulk_load.specs.Loads.{most_records}
 use Rattle.bulk_load.specs.Packing.{IsTaken, goes_on_by}
@@ -77,6 +81,17 @@ module _ (most k : ℕ) (rows : List Record) (l : Layout) (t : Taken) (b : Batch
         by false e =
             let other : (n == t.records) ≡ false = sym (ap (λ (x : Bool). not x && (n == t.records)) e) ∙ stops in
             ap (λ (x : Bool). after_line most k rows x (End n)) e ∙ ap (λ (x : Bool). cond x (reads rows true) (wrong k)) (ap (λ (m : ℕ). n == m) (sym is.count) ∙ other)
+
+-- a fault of the packing of a record
+pub pack_line_fault : (most k : ℕ) (rows : List Record) (l : Layout) (t : Taken) (b : Batch) → IsTaken l t b rows → (row : RowData) → goes_on_by t (record_of row) ≡ true → (fault : LoadFault) → IsPackingFault most t.records fault
+    → IsLineFault most (after_line most k rows t.ended (Row row)) fault
+pack_line_fault most k rows l t b is row goes (fault.Full n) packs = (row_full most k rows l t b is row goes packs.1, packs.0)
+pack_line_fault most k rows l t b is row goes fault.Disk packs = record {}
+pack_line_fault most k rows l t b is row goes (fault.NotEmpty n) packs = packs
+pack_line_fault most k rows l t b is row goes (fault.Line n) packs = absurd packs
+pack_line_fault most k rows l t b is row goes (fault.Damaged segment why) packs = packs
+pack_line_fault most k rows l t b is row goes fault.Script packs = packs
+pack_line_fault most k rows l t b is row goes fault.Spent packs = packs
 
 -- there is room for one more
 pub room_for : (l : Layout) (n most : ℕ) → most ≡ most_records l → (n ≡ most → ⊥) → n ≤ most_records l → n + 1 ≤ most_records l

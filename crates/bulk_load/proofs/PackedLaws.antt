@@ -7,6 +7,7 @@ use Rattle.station.specs.View.{View, Told}
 use Rattle.station.specs.Steps.{Steps}
 use Rattle.station.proofs.Composition.{same_on, told_on}
 use Rattle.std.proofs.lemmas.List.{length-take-le, length-append, length-drop}
+use Rattle.header_gate.specs.Places.{segment_size}
 use Rattle.key_slot.specs.Record.{Record}
 use Rattle.key_slot.specs.Segment.{IsSegment}
 use Rattle.key_slot.specs.declared.sizes.TheConstants.{SEGMENT_SLOTS}
@@ -296,8 +297,8 @@ packed_as {T = T} place n s t f g a b result fault same reads = subst (λ (x : R
 
 -- up to a fault
 pub packed_on_err : {T U : Type 0} (place : Place) (n : ℕ) (s m t : Packed) (f g h : Batch) (a b c : View) → (Told a → (rows : List Record) → ArePacked place n rows s f a.held → ArePacked place n rows m g b.held) → m.room ≡ s.room → m.unread ≤ s.unread
-    → g ≡ record f { slots = g.slots } → Steps Same a b → b.travel.written ≡ a.travel.written → (result : Result U StoreFault) (fault : StoreFault) → result ≡ Err fault → ReadsPacked {T = T} place n (Err fault) m t g h b c → ReadsPacked {T = U} place n result s t f h a c
-packed_on_err {T = T} {U = U} place n s m t f g h a b c are room unread rest steps unwritten result fault same last =
+    → g ≡ record f { slots = g.slots } → Steps Same a b → b.travel.written ≡ a.travel.written → b.travel.read + segment_size place.layout * m.unread ≤ a.travel.read + segment_size place.layout * s.unread → (result : Result U StoreFault) (fault : StoreFault) → result ≡ Err fault → ReadsPacked {T = T} place n (Err fault) m t g h b c → ReadsPacked {T = U} place n result s t f h a c
+packed_on_err {T = T} {U = U} place n s m t f g h a b c are room unread rest steps unwritten read result fault same last =
     packed_as place n s t f h a c result fault same (record {
       packed = tt;
       are = tt;
@@ -306,6 +307,8 @@ packed_on_err {T = T} {U = U} place n s m t f g h a b c are room unread rest ste
       rest = last.rest ∙ ap (λ (x : Batch). record x { slots = h.slots }) rest;
       steps = same_on steps last.steps;
       unwritten = last.unwritten ∙ unwritten;
+      read = tt;
+      most_read = omega (arith, read, last.most_read);
       damaged = λ told rows is. last.damaged (told_on steps.frame told) rows (are told rows is);
       cause = last.cause;
       failed = λ is. rose_on a b c.disk_faults steps.frame.disk_faults (last.failed (failed_as {T = T} fault (failed_is {T = U} fault is)));

@@ -70,6 +70,16 @@ abbrev pub IsWritingFault : ℕ → ℕ → ReaderView → SourceView → Source
 IsWritingFault format most r0 s0 s (Damaged segment why) = Unit {0}
 IsWritingFault format most r0 s0 s fault = IsReadingFault format most r0 s0 s fault
 
+-- of a call on the file: a disk fault, or damage
+abbrev pub IsFileFault : LoadFault → Type 0
+IsFileFault Disk = Unit {0}
+IsFileFault (Damaged segment why) = Unit {0}
+IsFileFault (NotEmpty n) = ⊥
+IsFileFault (Line n) = ⊥
+IsFileFault (Full n) = ⊥
+IsFileFault Script = ⊥
+IsFileFault Spent = ⊥
+
 -- any fault but damage
 abbrev pub IsNoDamage : LoadFault → Type 0
 IsNoDamage (Damaged segment why) = ⊥

@@ -68,6 +68,8 @@ pub record WritesPacked {X : Type 0} (place : Place) (result : Result X StoreFau
   pub journal : g.journal ≡ f.journal
   pub turn : g.turn ≡ f.turn
   pub steps : Steps (Spares place.layout place.region) a b
+  -- nothing is read
+  pub no_reads : b.travel ≡ record a.travel { written = b.travel.written }
   pub fault : IfErr result (λ fault. fault ≡ Failed)
   pub failed : IsErrOf result Failed → Rose a.disk_faults b.disk_faults
 

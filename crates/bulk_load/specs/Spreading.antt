@@ -4,6 +4,7 @@ use Rattle.std.specs.Prelude.{◌≡◌, ◌⊎◌, ℕ, ◌+◌, ◌-◌, ◌*�
 use Rattle.station.specs.Bytes.{Same}
 use Rattle.station.specs.View.{View, Told, Rose}
 use Rattle.station.specs.Steps.{Steps}
+use Rattle.header_gate.specs.Places.{segment_size}
 use Rattle.key_slot.specs.Record.{Record}
 use Rattle.key_slot.specs.declared.sizes.TheConstants.{SEGMENT_SLOTS}
 use Rattle.redo_journal.specs.Frames.{Batch}
@@ -77,6 +78,9 @@ pub record ReadsPacked {T : Type 0} (place : Place) (n : ℕ) (result : Result T
   pub rest : g ≡ record f { slots = g.slots }
   pub steps : Steps Same a b
   pub unwritten : b.travel.written ≡ a.travel.written
+  -- each segment's bytes are read once
+  pub read : OnOk result (b.travel.read + segment_size place.layout * t.unread ≤ a.travel.read + segment_size place.layout * s.unread)
+  pub most_read : b.travel.read ≤ a.travel.read + segment_size place.layout * s.unread
   -- where bytes are told only the disk stops it
   pub damaged : IfErr result (λ fault. Told a → (rows : List Record) → ArePacked place n rows s f a.held → fault ≡ Failed)
   pub cause : IfErr result (HasCause place.layout.format n g)

@@ -18,9 +18,8 @@ ghost use Rattle.bulk_load.specs.Packing.{CanFill};
 ghost use Rattle.bulk_load.specs.Spreading.{load_calls};
 
 use crate::fault::{LoadFault, Loaded, of_file};
-use crate::packing::flush_rest;
 use crate::reading::read_text;
-use crate::spreading::spread_spare;
+use crate::settling::spread_taken;
 use density_rule::{Window, upper};
 use line_source::{LineReader, Source};
 use redo_journal::{Frames, Place};
@@ -158,19 +157,14 @@ fn write_text<I: Source, S: Station>(
 {
     let mut taken = read_text(source, station, reader, place, frames)?;
     let records = taken.records;
-    let height = least_height(records, place.layout.height_limit());
-    let segments = segments_at(height);
-    match flush_rest(station, place, frames, &mut taken) {
-        Ok(()) => match spread_spare(station, place, frames, records, segments) {
-            Ok(()) => Ok(Loaded { records, height }),
-            Err(fault) => Err(of_file(fault)),
-        },
-        Err(fault) => Err(of_file(fault)),
+    match spread_taken(station, place, frames, &mut taken) {
+        Ok(height) => Ok(Loaded { records, height }),
+        Err(fault) => Err(fault),
     }
 }
 
 // The least height of a store that holds that many records.
-fn least_height(records: u32, limit: u32) -> u32
+pub(crate) fn least_height(records: u32, limit: u32) -> u32
     requires limit { limit ≤ 16 }
     requires room { records ≤ upper_of limit }
     ensures least { IsLeastHeight records result }
@@ -185,7 +179,7 @@ fn least_height(records: u32, limit: u32) -> u32
 }
 
 // How many segments a store of this height has.
-fn segments_at(height: u32) -> u32
+pub(crate) fn segments_at(height: u32) -> u32
     requires { height ≤ 16 }
     ensures { result ≡ 2 ^ height }
 {

@@ -63,6 +63,7 @@ pub(crate) fn pack<S: Station>(
     ensures calls { OnOk result (WritesRuns (room_in place.now.layout) taken.old.written taken.new.written (S.view station.old).calls (S.view station.new).calls) }
     ensures most_cost { (S.view station.new).travel.written ≤ (S.view station.old).travel.written + segment_size place.now.layout * (2 ^ height_limit place.now.layout - taken.old.written) }
     ensures tried { TriesRun place.now.layout taken.old (S.view station.old).calls (S.view station.new).calls }
+    ensures no_reads { (S.view station.new).travel ≡ record (S.view station.old).travel { written = (S.view station.new).travel.written } }
     ensures fault { IfErr result (λ fault. fault ≡ StoreFault.Failed) }
     ensures failed { IsErrOf result StoreFault.Failed → Rose (S.view station.old).disk_faults (S.view station.new).disk_faults }
 {

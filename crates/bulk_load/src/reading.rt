@@ -21,10 +21,10 @@ ghost use Rattle.segment_frames.specs.Parts.{parts};
 ghost use Rattle.bulk_load.specs.Spreading.{used_by};
 ghost use Rattle.bulk_load.specs.Reading.{IsNextEntry, FitsLine, IsTaking, TakesOn, IsRead};
 
-use crate::fault::{LoadFault, of_file};
-use crate::packing::{Taken, pack};
+use crate::fault::LoadFault;
+use crate::packing::Taken;
+use crate::resulting::take_result;
 use command_text::{LoadLine, parse_load};
-use density_rule::upper;
 use key_slot::Row;
 use line_source::{LineReader, LineStep, Source};
 use redo_journal::{Frames, Place};
@@ -174,12 +174,8 @@ fn take_row<S: Station>(
     requires fits { FitsLine place.now.layout.format (load.Row row.now) }
     ensures { (k : ℕ) → TakesOn place.now k (load.Row row.now) result taken.old taken.new frames.old frames.new (S.view station.old) (S.view station.new) }
 {
-    let most = upper(place.layout.height_limit());
-    if taken.records == most {
-        return Err(LoadFault::Full { most });
-    }
-    match pack(station, place, frames, taken, row) {
+    match take_result(station, place, frames, taken, row) {
         Ok(()) => Ok(()),
-        Err(fault) => Err(of_file(fault)),
+        Err(fault) => Err(fault),
     }
 }

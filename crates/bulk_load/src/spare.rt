@@ -39,6 +39,7 @@ pub(crate) fn read_spare<S: Station>(
     ensures rest { frames.new ≡ record frames.old { slots = frames.new.slots } }
     ensures steps { Steps Same (S.view station.old) (S.view station.new) }
     ensures unwritten { (S.view station.new).travel.written ≡ (S.view station.old).travel.written }
+    ensures read_bytes { (S.view station.new).travel.read ≤ (S.view station.old).travel.read + segment_size place.now.layout * count }
     ensures calls { (S.view station.new).calls ≤ (S.view station.old).calls + 1 }
     ensures fault { IfErr result (λ fault. fault ≡ StoreFault.Failed) }
     ensures failed { IsErrOf result StoreFault.Failed → Rose (S.view station.old).disk_faults (S.view station.new).disk_faults }
@@ -72,6 +73,7 @@ pub(crate) fn write_spare<S: Station>(
         spare_bytes place.now i (S.view station.new).held ≡ spare_bytes place.now i (S.view station.old).held }
     ensures steps { Steps (Spares place.now.layout place.now.region) (S.view station.old) (S.view station.new) }
     ensures cost { (S.view station.new).travel.written ≤ (S.view station.old).travel.written + segment_size place.now.layout * count }
+    ensures no_reads { (S.view station.new).travel.read ≡ (S.view station.old).travel.read }
     ensures calls { (S.view station.new).calls ≤ (S.view station.old).calls + 1 }
     ensures fault { IfErr result (λ fault. fault ≡ StoreFault.Failed) }
     ensures failed { IsErrOf result StoreFault.Failed → Rose (S.view station.old).disk_faults (S.view station.new).disk_faults }

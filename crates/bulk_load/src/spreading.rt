@@ -52,6 +52,7 @@ pub(crate) fn spread_spare<S: Station>(
     ensures turn { frames.new.turn ≡ frames.old.turn }
     ensures steps { Steps (Spares place.now.layout place.now.region) (S.view station.old) (S.view station.new) }
     ensures cost { (S.view station.new).travel.written ≤ (S.view station.old).travel.written + segment_size place.now.layout * segments }
+    ensures read_bytes { (S.view station.new).travel.read ≤ (S.view station.old).travel.read + segment_size place.now.layout * used_by records }
     ensures calls { (S.view station.new).calls ≤ (S.view station.old).calls + copy_calls (room_in place.now.layout) (used_by records) segments }
     ensures damaged { IfErr result (λ fault. Told (S.view station.old) → (rows : List Record) → AreRows place.now.layout.format rows → length rows ≡ records →
         HasPacked place.now rows (used_by records) (S.view station.old).held → fault ≡ StoreFault.Failed) }

@@ -33,10 +33,14 @@ probe_body segment nodes blocks bound = codes "probe segment=" ++ decimal segmen
 abbrev pub cost_body : ℕ → ℕ → ℕ → List ℕ
 cost_body updates charge bound = codes "cost updates=" ++ decimal updates ++ codes " charge=" ++ decimal charge ++ codes " bound=" ++ decimal bound
 
+-- a name, and how many updates bound a new key, bound a present one, took a record away, and found none
+abbrev pub counts_body : List ℕ → ℕ → ℕ → ℕ → ℕ → List ℕ
+counts_body name stored replaced removed absent =
+    name ++ codes " stored=" ++ decimal stored ++ codes " replaced=" ++ decimal replaced ++ codes " removed=" ++ decimal removed ++ codes " absent=" ++ decimal absent
+
 -- what the items of a batch did
 abbrev pub batch_body : ℕ → ℕ → ℕ → ℕ → List ℕ
-batch_body stored replaced removed absent =
-    codes "batch stored=" ++ decimal stored ++ codes " replaced=" ++ decimal replaced ++ codes " removed=" ++ decimal removed ++ codes " absent=" ++ decimal absent
+batch_body stored replaced removed absent = counts_body (codes "batch") stored replaced removed absent
 
 -- a store that holds as many records as it may
 abbrev pub full_body : ℕ → List ℕ

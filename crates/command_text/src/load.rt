@@ -41,7 +41,7 @@ pub fn parse_load(line: &[u8], format: u32) -> LoadLine
 }
 
 // The line with this first word and the words that follow it.
-fn parse_named(name: &[u8], rest: &[u8], format: u32) -> LoadLine
+pub(super) fn parse_named(name: &[u8], rest: &[u8], format: u32) -> LoadLine
     requires some { 0 < length name.now }
     requires format { format ≤ wide }
     ensures { result ≡ load_named format name.now (words rest.now) }

@@ -47,6 +47,8 @@ pub enum Verb {
     Run,
     /// A load text is read into it.
     Load,
+    /// The updates of a merge text are made in it.
+    Merge,
     /// Its records are said.
     Dump,
     /// It goes over to slot format 2.
@@ -62,6 +64,7 @@ impl Verb {
         match self {
             Verb::Run => "run",
             Verb::Load => "load",
+            Verb::Merge => "merge",
             Verb::Dump => "dump",
             Verb::Upgrade => "upgrade",
         }

@@ -1,6 +1,6 @@
 //! The job of reading a load text into a store without records.
 
-ghost use Rattle.std.specs.Prelude.{◌≡◌, ◌<◌, None, Some, false, sum};
+ghost use Rattle.std.specs.Prelude.{◌≡◌, ◌+◌, ◌<◌, ◌≤◌, None, Some, false, sum};
 ghost use Rattle.station.specs.Steps.{Says};
 ghost use Rattle.station.specs.View.{Told, SaidTold, NamedBy, NothingPending, Rose};
 ghost use Rattle.line_source.specs.SourceView.{SourceRose, Went};
@@ -110,11 +110,12 @@ fn load_settled<I: Source, S: Station>(
     end_loaded(station, loaded)
 }
 
-// Ends a load, and says the line where the text isn't loaded.
-fn end_loaded<S: Station>(station: &mut S, loaded: Result<Loaded, LoadFault>) -> u8
+/// Ends a load, and says the line where the text isn't loaded.
+pub(crate) fn end_loaded<S: Station>(station: &mut S, loaded: Result<Loaded, LoadFault>) -> u8
     ensures status { result ≡ status_of_load loaded }
     ensures says { Says (line_text (line_of_load loaded)) (S.view station.old) (S.view station.new) }
     ensures silent { line_of_load loaded ≡ None → station.new ≡ station.old }
+    ensures calls { (S.view station.new).calls ≤ (S.view station.old).calls + 512 }
     ensures line { (line : Reply) → line_of_load loaded ≡ Some line → SaidTold (S.view station.old) → SaysLine line (S.view station.old).said (S.view station.old) (S.view station.new) }
 {
     let line = match loaded {

@@ -19,6 +19,8 @@ mod intents;
 #[cfg(test)]
 mod loads;
 #[cfg(test)]
+mod merges;
+#[cfg(test)]
 mod paired;
 #[cfg(test)]
 mod refusals;

@@ -36,7 +36,7 @@ fn see_loaded(
 }
 
 // Sees that a file's dump is this one, and that it keeps every byte.
-fn see_dumped(rt: &impl Abort, alloc: Global, file: &[u8], want: &[u8]) {
+pub(super) fn see_dumped(rt: &impl Abort, alloc: Global, file: &[u8], want: &[u8]) {
     let ended = dumped(rt, alloc, file, 8192);
     see_end(rt, &ended, (0, want));
     assert!(rt; ended.file.as_slice() == file, "every byte is left");
@@ -46,7 +46,7 @@ fn see_dumped(rt: &impl Abort, alloc: Global, file: &[u8], want: &[u8]) {
 type Text = (&'static [u8], &'static [u8]);
 
 // Two records.
-const PAIR: &[u8] = b"record a 1\nrecord b\nend 2\n";
+pub(super) const PAIR: &[u8] = b"record a 1\nrecord b\nend 2\n";
 
 const TEXTS: &[Text] = &[
     (PAIR, PAIR),

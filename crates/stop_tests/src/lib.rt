@@ -12,6 +12,8 @@ mod indexes;
 #[cfg(test)]
 mod load_stops;
 #[cfg(test)]
+mod merge_stops;
+#[cfg(test)]
 mod openings;
 #[cfg(test)]
 mod paired;

@@ -1,7 +1,7 @@
-use Rattle.std.proofs.Common.{arith, inl, inr, refl, ℕ, ◌+◌, ◌-◌, ◌^◌, ◌≤◌, List, length, sym, ap, subst, ◌∙◌}
+use Rattle.std.proofs.Common.{arith, ◌≡◌, inl, inr, refl, ℕ, ◌+◌, ◌-◌, ◌*◌, ◌^◌, ◌≤◌, List, length, sym, ap, subst, ◌∙◌}
 use Rattle.std.proofs.lemmas.Result.{err_from_is_err_and}
 use Rattle.key_slot.specs.Segment.{IsSegment}
-use Rattle.header_gate.specs.Places.{height_limit}
+use Rattle.header_gate.specs.Places.{height_limit, segment_size}
 use Rattle.redo_journal.specs.Frames.{Batch}
 use Rattle.resize_region.specs.Spare.{spare_bytes}
 use Rattle.resize_region.specs.Shares.{places}
@@ -39,6 +39,18 @@ validate_packed-requires-clause-within g c = omega (arith, c.min-count.ensures, 
 pub validate_packed-requires-clause-small : goal.validate_packed-requires-clause-small
 validate_packed-requires-clause-small g c = omega (arith, c.min-count.ensures, inside g (goal.at.validate_packed-requires-clause-small g c).After-min-count, few_segments c.args.place.now.layout c.requires.can.layout)
 
+-- their bytes
+whole : (g : _) (c : After-read_spare g) → (g.S.Station.view c.read_spare.new.station).travel.read + segment_size c.args.place.now.layout * (c.args.packed.now.unread - c.min-count.result) ≤ (g.S.Station.view c.args.station.now).travel.read + segment_size c.args.place.now.layout * c.args.packed.now.unread
+whole g c =
+    let size = segment_size c.args.place.now.layout in
+    let rest = c.args.packed.now.unread - c.min-count.result in
+    let all : c.args.packed.now.unread ≡ c.min-count.result + rest = omega (arith, c.min-count.ensures) in
+    let split : size * (c.min-count.result + rest) ≡ size * c.min-count.result + size * rest = omega arith in
+    omega (arith, c.read_spare.ensures.read_bytes, ap (λ (n : ℕ). size * n) all, split)
+
+bytes : (g : _) (c : After-read_spare g) → (g.S.Station.view c.read_spare.new.station).travel.read ≤ (g.S.Station.view c.args.station.now).travel.read + segment_size c.args.place.now.layout * c.args.packed.now.unread
+bytes g c = omega (arith, whole g c)
+
 pub returns-in_err-read_spare-clause-reads : goal.returns-in_err-read_spare-clause-reads
 returns-in_err-read_spare-clause-reads g c =
     let p = err_from_is_err_and c.from_residual.result c.from_residual.ensures.1 in
@@ -50,6 +62,8 @@ returns-in_err-read_spare-clause-reads g c =
       rest = c.read_spare.ensures.rest;
       steps = c.read_spare.ensures.steps;
       unwritten = c.read_spare.ensures.unwritten;
+      read = tt;
+      most_read = bytes g (goal.at.returns-in_err-read_spare-clause-reads g c).After-read_spare;
       damaged = λ told rows are. c.in_err-read_spare.ensures.fault;
       cause = inl c.in_err-read_spare.ensures.fault;
       failed = c.in_err-read_spare.ensures.failed;
@@ -70,6 +84,8 @@ returns-in_err-validate_packed-clause-reads g c =
       rest = c.read_spare.ensures.rest;
       steps = c.read_spare.ensures.steps;
       unwritten = c.read_spare.ensures.unwritten;
+      read = tt;
+      most_read = bytes g (goal.at.returns-in_err-validate_packed-clause-reads g c).After-read_spare;
       damaged = λ told rows are.
           absurd (laws.read_good format c.args.records c.args.frames.now c.read_spare.new.frames s c.min-count.result c.requires.packed c.requires.none c.requires.some c.min-count.ensures c.args.place.now rows (g.S.Station.view c.args.station.now).held refl are
           (c.in_ok-read_spare.ensures.read told) bad.0 lt c.in_err-validate_packed.field-0.0 bad.2);
@@ -110,6 +126,8 @@ returns-clause-reads g c =
       rest = c.read_spare.ensures.rest;
       steps = c.read_spare.ensures.steps;
       unwritten = c.read_spare.ensures.unwritten;
+      read = whole g (goal.at.returns-clause-reads g c).After-read_spare;
+      most_read = bytes g (goal.at.returns-clause-reads g c).After-read_spare;
       damaged = tt;
       cause = tt;
       failed = λ is. absurd (never_failed {T = Unit {0}} tt is);

@@ -22,6 +22,7 @@ returns-clause-writes g c =
       journal = ap (λ (b : Batch). b.journal) c.clear_shares.ensures.rest;
       turn = ap (λ (b : Batch). b.turn) c.clear_shares.ensures.rest;
       steps = c.write_shares.ensures.steps;
+      no_reads = c.write_shares.ensures.writes.no_reads;
       fault = tt;
       failed = λ is. absurd (never_failed {T = Unit {0}} tt is);
     }

@@ -27,6 +27,7 @@ loop-f-init g c = record {
   slots = refl;
   steps = no_steps (g.S.Station.view c.args.station.now);
   unwritten = refl;
+  read = omega arith;
   calls = parts_still _ _ _ _;
   can = c.requires.can;
   are = λ told rows are. are;
@@ -67,7 +68,7 @@ returns-in_err-fill_share-clause-reads g c =
     let p = err_from_is_err_and c.from_residual.result c.from_residual.ensures.1 in
     let inv = c.loop-f.invariant in
     laws.packed_on_err c.args.place.now c.args.records c.args.packed.now c.loop-f.packed c.fill_share.new.packed c.args.frames.now c.loop-f.frames c.fill_share.new.frames
-    (g.S.Station.view c.args.station.now) (g.S.Station.view c.loop-f.station) (g.S.Station.view c.fill_share.new.station) inv.are inv.room inv.unread inv.slots inv.steps inv.unwritten
+    (g.S.Station.view c.args.station.now) (g.S.Station.view c.loop-f.station) (g.S.Station.view c.fill_share.new.station) inv.are inv.room inv.unread inv.slots inv.steps inv.unwritten inv.read
     c.from_residual.result c.in_err-fill_share.field-0.0 (rw p.2 at p.1) c.in_err-fill_share.ensures.reads
 
 pub loop-f-preserved : goal.loop-f-preserved
@@ -91,6 +92,7 @@ loop-f-preserved g c =
       slots = done.reads.rest ∙ ap (λ (x : Batch). record x { slots = c.fill_share.new.frames.slots }) inv.slots;
       steps = same_on inv.steps done.reads.steps;
       unwritten = done.reads.unwritten ∙ inv.unwritten;
+      read = omega (arith, done.reads.read, inv.read);
       calls = parts_on _ _ _ _ _ _ _ _ inv.calls (subst (λ (room : ℕ). GoesInParts room (used_by c.args.records) (used_by c.args.records - c.loop-f.packed.unread) (used_by c.args.records - c.fill_share.new.packed.unread) (g.S.Station.view c.loop-f.station).calls (g.S.Station.view c.fill_share.new.station).calls) inv.room done.calls);
       can = fill_same c.args.place.now c.loop-f.frames c.fill_share.new.frames inv.can (ap (λ (b : Batch). b.journal) done.reads.rest) done.reads.steps;
       are = λ told rows are. done.reads.are (told_on inv.steps.frame told) rows (inv.are told rows are);
@@ -118,6 +120,8 @@ returns-clause-reads g c =
       rest = inv.slots;
       steps = inv.steps;
       unwritten = inv.unwritten;
+      read = inv.read;
+      most_read = omega (arith, inv.read);
       damaged = tt;
       cause = tt;
       failed = λ is. absurd (never_failed {T = Unit {0}} tt is);

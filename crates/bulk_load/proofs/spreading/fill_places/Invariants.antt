@@ -2,6 +2,7 @@ use Rattle.std.proofs.Common.{◌≡◌, ◌-◌, ℕ, ◌+◌, ◌*◌, ◌/◌
 use Rattle.station.specs.Bytes.{Same}
 use Rattle.station.specs.View.{Told}
 use Rattle.station.specs.Steps.{Steps}
+use Rattle.header_gate.specs.Places.{segment_size}
 use Rattle.key_slot.specs.Record.{Record}
 use Rattle.map_model.specs.Array.{segment_at, spread_over}
 use Rattle.resize_region.specs.Shares.{share_in}
@@ -21,6 +22,7 @@ invariant-loop-f g l = record {
   slots : l.frames ≡ record l.fn.frames { slots = l.frames.slots };
   steps : Steps Same (g.S.Station.view l.fn.station) (g.S.Station.view l.station);
   unwritten : (g.S.Station.view l.station).travel.written ≡ (g.S.Station.view l.fn.station).travel.written;
+  read : (g.S.Station.view l.station).travel.read + segment_size l.place.layout * l.packed.unread ≤ (g.S.Station.view l.fn.station).travel.read + segment_size l.place.layout * l.fn.packed.unread;
   calls : GoesInParts l.fn.packed.room (used_by l.records) (used_by l.records - l.fn.packed.unread) (used_by l.records - l.packed.unread) (g.S.Station.view l.fn.station).calls (g.S.Station.view l.station).calls;
   can : CanFill l.place l.frames (g.S.Station.view l.station);
   are : Told (g.S.Station.view l.fn.station) → (rows : List Record) → ArePacked l.place l.records rows l.fn.packed l.fn.frames (g.S.Station.view l.fn.station).held → ArePacked l.place l.records rows l.packed l.frames (g.S.Station.view l.station).held;

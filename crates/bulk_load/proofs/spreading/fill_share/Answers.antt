@@ -1,6 +1,7 @@
-use Rattle.std.proofs.Common.{subst, arith, ◌≡◌, refl, ℕ, ◌-◌, ◌≤◌, List, ◌++◌, length, slice_range, sym, ap, ◌∙◌}
+use Rattle.std.proofs.Common.{subst, arith, ◌≡◌, refl, ℕ, ◌-◌, ◌*◌, ◌≤◌, List, ◌++◌, length, slice_range, sym, ap, ◌∙◌}
 use Rattle.std.proofs.lemmas.Result.{err_from_is_err_and}
 use Rattle.station.proofs.Composition.{no_steps, same_on, told_on}
+use Rattle.header_gate.specs.Places.{segment_size}
 use Rattle.key_slot.specs.Record.{Record}
 use Rattle.redo_journal.specs.Frames.{Batch}
 use Rattle.resize_region.specs.Shares.{places}
@@ -26,6 +27,7 @@ loop-have-init g c = record {
   slots = refl;
   steps = no_steps (g.S.Station.view c.args.station.now);
   unwritten = refl;
+  read = omega arith;
   calls = parts_still _ _ _ _;
   can = c.requires.can;
   are = λ told rows are. are;
@@ -42,7 +44,7 @@ returns-in_err-read_packed-clause-reads g c =
     let p = err_from_is_err_and c.from_residual.result c.from_residual.ensures.1 in
     let inv = c.loop-have.invariant in
     laws.packed_on_err c.args.place.now c.args.records c.args.packed.now c.loop-have.packed c.read_packed.new.packed c.args.frames.now c.loop-have.frames c.read_packed.new.frames
-    (g.S.Station.view c.args.station.now) (g.S.Station.view c.loop-have.station) (g.S.Station.view c.read_packed.new.station) inv.are inv.room inv.unread inv.slots inv.steps inv.unwritten
+    (g.S.Station.view c.args.station.now) (g.S.Station.view c.loop-have.station) (g.S.Station.view c.read_packed.new.station) inv.are inv.room inv.unread inv.slots inv.steps inv.unwritten inv.read
     c.from_residual.result c.in_err-read_packed.field-0.0 (rw p.2 at p.1) c.in_err-read_packed.ensures.reads
 
 pub loop-have-preserved-in-Continue-1 : goal.loop-have-preserved-in-Continue-1
@@ -62,6 +64,7 @@ loop-have-preserved-in-Continue-1 g c =
       slots = done.reads.rest ∙ ap (λ (x : Batch). record x { slots = c.read_packed.new.frames.slots }) inv.slots;
       steps = same_on inv.steps done.reads.steps;
       unwritten = done.reads.unwritten ∙ inv.unwritten;
+      read = omega (arith, done.reads.read, inv.read);
       calls = parts_on _ _ _ _ _ _ _ _ inv.calls (subst (λ (room : ℕ). GoesInParts room (used_by c.args.records) (used_by c.args.records - c.loop-have.packed.unread) (used_by c.args.records - c.read_packed.new.packed.unread) (g.S.Station.view c.loop-have.station).calls (g.S.Station.view c.read_packed.new.station).calls) inv.room done.calls);
       can = fill_same c.args.place.now c.loop-have.frames c.read_packed.new.frames inv.can (ap (λ (b : Batch). b.journal) done.reads.rest) done.reads.steps;
       are = λ told rows are. done.reads.are (told_on inv.steps.frame told) rows (inv.are told rows are);
@@ -94,6 +97,7 @@ loop-have-preserved g c =
       slots = done.frames ∙ ap (λ (x : Batch). record x { slots = c.take_last-have.new.frames.slots }) inv.slots;
       steps = inv.steps;
       unwritten = inv.unwritten;
+      read = omega (arith, inv.read, ap (λ (k : ℕ). segment_size c.args.place.now.layout * k) unread);
       calls = subst (λ (n : ℕ). GoesInParts c.args.packed.now.room (used_by c.args.records) (used_by c.args.records - c.args.packed.now.unread) (used_by c.args.records - n) (g.S.Station.view c.args.station.now).calls (g.S.Station.view c.loop-have.station).calls) (sym unread) inv.calls;
       can = record { layout = inv.can.layout; region = inv.can.region; reach = inv.can.reach; journal = ap (λ (b : Batch). b.journal) done.frames ∙ inv.can.journal; live = inv.can.live };
       are = λ told rows are.
@@ -124,6 +128,8 @@ returns-clause-reads g c =
       rest = inv.slots;
       steps = inv.steps;
       unwritten = inv.unwritten;
+      read = inv.read;
+      most_read = omega (arith, inv.read);
       damaged = tt;
       cause = tt;
       failed = λ is. absurd (never_failed {T = Unit {0}} tt is);

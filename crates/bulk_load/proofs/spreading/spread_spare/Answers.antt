@@ -46,6 +46,7 @@ loop-end-init g c =
       journal = refl;
       turn = refl;
       cost = omega arith;
+      read = omega (arith, ap (λ (n : ℕ). segment_size l * n) c.used_by.ensures);
       calls = copy_none _ _ _ _ _ _ _;
       are = λ told rows are long packed. are_first c.args.place.now c.args.records rows c.args.frames.now (record { room = c.room_of-all.result / 2; rest = c.args.records; unread = c.used_by.result }) (g.S.Station.view c.args.station.now).held are long half refl c.used_by.ensures packed c.requires.empty;
       written = λ told rows are long packed i le lt. absurd (omega (arith, le, lt));
@@ -155,6 +156,7 @@ loop-end-preserved g c =
       turn = ap (λ (b : Batch). b.turn) clear.rest ∙ ap (λ (b : Batch). b.turn) fill.reads.rest ∙ inv.turn;
       cost = spent (segment_size place.layout) low n c.loop-end.end (g.S.Station.view c.loop-end.station).travel.written (g.S.Station.view c.write_spare.new.station).travel.written ((g.S.Station.view c.args.station.now).travel.written + segment_size place.layout * c.args.segments) (next g at)
           (omega (arith, c.write_spare.ensures.cost, fill.reads.unwritten)) inv.cost;
+      read = omega (arith, inv.read, fill.reads.read, c.write_spare.ensures.no_reads);
       calls =
           let half : c.loop-end.packed.room ≡ c.room_of-all.result - (c.room_of-all.result - c.room_of-all.result / 2) = omega (arith, inv.halves) in
           copy_written _ _ _ _ c.args.segments (c.args.segments - c.loop-end.end) (c.args.segments - low) _ _ _ (omega (arith, c.room_of-all.ensures.some))
@@ -229,3 +231,14 @@ returns-in_err-write_spare-clause-calls g c =
     (copy_written _ _ _ _ c.args.segments (c.args.segments - c.loop-end.end) (c.args.segments - low) _ _ _ (omega (arith, c.room_of-all.ensures.some))
     (copy_read _ _ _ _ _ _ _ _ _ _ inv.calls (subst (λ (room : ℕ). GoesInParts room (used_by c.args.records) (used_by c.args.records - c.loop-end.packed.unread) (used_by c.args.records - c.fill_places.new.packed.unread) (g.S.Station.view c.loop-end.station).calls (g.S.Station.view c.fill_places.new.station).calls) half fill.calls))
     (omega (arith, c.loop-end-test.true, inv.upto)) (λ more. omega (arith, more, c.min-count.ensures, inv.upto)) c.write_spare.ensures.calls))
+
+-- What is read.
+
+pub returns-clause-read_bytes : goal.returns-clause-read_bytes
+returns-clause-read_bytes g c = omega (arith, c.loop-end.invariant.read)
+
+pub returns-in_err-fill_places-clause-read_bytes : goal.returns-in_err-fill_places-clause-read_bytes
+returns-in_err-fill_places-clause-read_bytes g c = omega (arith, c.loop-end.invariant.read, c.fill_places.ensures.reads.most_read)
+
+pub returns-in_err-write_spare-clause-read_bytes : goal.returns-in_err-write_spare-clause-read_bytes
+returns-in_err-write_spare-clause-read_bytes g c = omega (arith, c.loop-end.invariant.read, c.in_ok-fill_places.ensures.reads.read, c.write_spare.ensures.no_reads)

@@ -25,6 +25,7 @@ invariant-loop-end g l = record {
   journal : l.frames.journal ≡ l.fn.frames.journal;
   turn : l.frames.turn ≡ l.fn.frames.turn;
   cost : (g.S.Station.view l.station).travel.written + segment_size l.place.layout * l.end ≤ (g.S.Station.view l.fn.station).travel.written + segment_size l.place.layout * l.segments;
+  read : (g.S.Station.view l.station).travel.read + segment_size l.place.layout * l.packed.unread ≤ (g.S.Station.view l.fn.station).travel.read + segment_size l.place.layout * used_by l.records;
   calls : CopyCalls (l.all - l.room) (used_by l.records) (used_by l.records - l.packed.unread) l.room l.segments (l.segments - l.end) (g.S.Station.view l.fn.station).calls (g.S.Station.view l.station).calls;
   are : Told (g.S.Station.view l.fn.station) → (rows : List Record) → AreRows l.place.layout.format rows → length rows ≡ l.records → HasPacked l.place rows (used_by l.records) (g.S.Station.view l.fn.station).held →
       ArePacked l.place l.records rows l.packed l.frames (g.S.Station.view l.station).held;
