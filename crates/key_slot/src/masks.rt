@@ -6,7 +6,7 @@
 use super::sizes::MAX_VALUE_LEN;
 
 /// How many bytes a vector has: those that each processor of this kind works on at once.
-pub const VECTOR_SIZE: usize = 16;
+pub(crate) const VECTOR_SIZE: usize = 16;
 
 /// How many bytes of a field lie before its last vector, at most: the value's field in format 2 is the longest.
 pub(crate) const BEFORE_LAST: usize = MAX_VALUE_LEN - VECTOR_SIZE;

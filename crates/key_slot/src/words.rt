@@ -8,11 +8,11 @@ ghost use Rattle.key_slot.specs.Fronts.{IsKeyNumber};
 use super::sizes::KEY_AT;
 
 /// How many bytes a word has.
-pub const WORD_SIZE: usize = 8;
+pub(crate) const WORD_SIZE: usize = 8;
 
 /// The number of the eight bytes from a place on, the greatest first.
 #[inline(always)]
-pub fn word_at(bytes: &[u8], at: usize) -> u64
+pub(crate) fn word_at(bytes: &[u8], at: usize) -> u64
     requires { at + 8 ≤ length bytes.now }
     ensures word { result ≡ big_endian 0 (slice_range bytes.now at (at + 8)) }
     // Each byte is a number below 256.
