@@ -18,7 +18,7 @@ use crate::store::Store;
 use block_touch::{Probe, bound};
 use density_rule::Window;
 use key_slot::{Key, Value};
-use range_scan::{SegmentBuffer, Sweep, check_region};
+use range_scan::{Region, SegmentBuffer, Sweep, check_region};
 use segment::StoreFault;
 use station::Station;
 use veb_index::{Index, search};
@@ -41,15 +41,12 @@ impl Store {
         ensures damaged { IfErr result (λ fault. Told (S.view station.old) → fault ≡ StoreFault.Failed) }
     {
         let segment = find_segment(&self.array.index, key);
-        let kept = kept_count(&self.array.tally, segment);
-        match self.array.page.get(
-            station,
-            &self.array.place.layout,
-            self.array.place.region,
-            segment,
-            kept,
-            key,
-        ) {
+        let region = Region {
+            layout: &self.array.place.layout,
+            number: self.array.place.region,
+            tally: &self.array.tally,
+        };
+        match self.array.page.get(station, &region, segment, key) {
             Ok(Some(value)) => Ok(Some(copied(value))),
             Ok(None) => Ok(None),
             Err(fault) => {

@@ -11,7 +11,7 @@ use crate::metered::Metered;
 use crate::reads::{first_segment, last_segment};
 use crate::store::Store;
 use key_slot::{Key, Row};
-use range_scan::{Seek, end_bound, first_ahead_in, last_behind_in, start_bound};
+use range_scan::{Look, Region, Seek, end_bound, first_ahead_in, last_behind_in, start_bound};
 use segment::StoreFault;
 use station::Station;
 
@@ -32,17 +32,17 @@ impl Store {
     {
         let start = start_bound(low, past);
         let first = first_segment(&self.array.index, &start);
-        match first_ahead_in(
-            station,
-            self.array.place.layout,
-            self.array.place.region,
-            &self.array.tally,
-            &mut self.array.page,
-            first,
-            &start,
-            &past,
-            &high,
-        ) {
+        let region = Region {
+            layout: &self.array.place.layout,
+            number: self.array.place.region,
+            tally: &self.array.tally,
+        };
+        let look = Look {
+            start: &start,
+            past: &past,
+            high: &high,
+        };
+        match first_ahead_in(station, &region, &mut self.array.page, first, &look) {
             Ok(row) => Ok(row),
             Err(fault) => {
                 self.array.closed = true;
@@ -67,16 +67,12 @@ impl Store {
     {
         let end = end_bound(past, high);
         let last = last_segment(&self.array.index, self.array.tally.height(), &end);
-        let found = last_behind_in(
-            station,
-            self.array.place.layout,
-            self.array.place.region,
-            &self.array.tally,
-            &mut self.array.page,
-            last,
-            &low,
-            &end,
-        );
+        let region = Region {
+            layout: &self.array.place.layout,
+            number: self.array.place.region,
+            tally: &self.array.tally,
+        };
+        let found = last_behind_in(station, &region, &mut self.array.page, last, &low, &end);
         self.array.closed = found.is_err();
         found
     }

@@ -16,15 +16,13 @@ ghost use Rattle.map_model.specs.Standing.{StandsBalanced};
 ghost use Rattle.range_scan.specs.Seeking.{later, first_below, PlacedPast, ReadsNear};
 ghost use Rattle.range_scan.specs.Sweeping.{first_for};
 
-use crate::counted::{next_counted, segment_count};
+use crate::counted::{Region, next_counted, segment_count};
 use crate::reader::RegionReader;
 use crate::segment_buffer::SegmentBuffer;
 use crate::sweep::start_in;
-use header_gate::Layout;
 use key_slot::{Key, Row};
 use segment::{SegmentView, StoreFault};
 use station::Station;
-use window_tally::Tally;
 
 /// The later of `low` and `past`: the bound from which a look must begin for the first record that isn't below `low` and is above
 /// `past`.
@@ -38,34 +36,40 @@ pub fn start_bound(low: Option<Key>, past: Option<Key>) -> Option<Key>
     }
 }
 
+/// What a look for the first record asks for: that it isn't below a lower bound, is above `past` and is below `high`.
+#[derive(Clone, Copy)]
+pub struct Look<'a> {
+    /// The later of the lower bound and `past`.
+    pub start: &'a Option<Key>,
+    pub past: &'a Option<Key>,
+    pub high: &'a Option<Key>,
+}
+
 /// The record of a region with the least key that isn't below a lower bound, is above `past` and is below `high`.
 ///
-/// It looks for it from segment `first` on, to which the later of the lower bound and `past` belongs: `start` is that bound.
+/// It looks for it from segment `first` on, to which the later of the lower bound and `past` belongs.
 /// At most two segments are read, one after another, into the page.
 pub fn first_ahead_in<S: Station>(
     station: &mut S,
-    layout: Layout,
-    region: u32,
-    tally: &Tally,
+    region: &Region<'_>,
     page: &mut SegmentBuffer,
     first: u32,
-    start: &Option<Key>,
-    past: &Option<Key>,
-    high: &Option<Key>,
+    look: &Look<'_>,
 ) -> Result<Option<Row>, StoreFault>
-    requires layout { IsLayout layout }
-    requires region { region < 2 }
-    requires height { tally.now.height ≤ height_limit layout }
-    requires first { first < 2 ^ tally.now.height }
-    requires reach { file_length layout ≤ (S.view station.old).fixed.reach }
-    requires stands { Told (S.view station.old) → StandsBalanced layout region tally.now.height tally.now.counts (S.view station.old).held }
-    requires readable { Told (S.view station.old) → IsRecovered layout (S.view station.old).held }
-    requires begins { Told (S.view station.old) → first ≡ first_for start.now (array_of (S.view station.old).held) }
+    requires layout { IsLayout region.now.layout.now }
+    requires region { region.now.number < 2 }
+    requires height { region.now.tally.now.height ≤ height_limit region.now.layout.now }
+    requires first { first < 2 ^ region.now.tally.now.height }
+    requires reach { file_length region.now.layout.now ≤ (S.view station.old).fixed.reach }
+    requires stands { Told (S.view station.old) →
+        StandsBalanced region.now.layout.now region.now.number region.now.tally.now.height region.now.tally.now.counts (S.view station.old).held }
+    requires readable { Told (S.view station.old) → IsRecovered region.now.layout.now (S.view station.old).held }
+    requires begins { Told (S.view station.old) → first ≡ first_for look.now.start.now (array_of (S.view station.old).held) }
     // On Ok the record with the least key that isn't below the lower bound, is above `past` and is below `high`, or None if there
     // is none, if the station tells its bytes.
-    ensures row { IfOk result (λ row. Told (S.view station.old) → (low : Option Bytes) → start.now ≡ later low past.now →
+    ensures row { IfOk result (λ row. Told (S.view station.old) → (low : Option Bytes) → look.now.start.now ≡ later low look.now.past.now →
         option_map record_of row ≡
-        record_ahead onward (record { low = low; high = high.now; past = past.now }) (entries (map_of (S.view station.old).held))) }
+        record_ahead onward (record { low = low; high = look.now.high.now; past = look.now.past.now }) (entries (map_of (S.view station.old).held))) }
     // If the station tells its bytes, no segment is found damaged.
     ensures damaged { IfErr result (λ fault. Told (S.view station.old) → fault ≡ StoreFault.Failed) }
     // `Failed` comes only if the count of disk faults rose.
@@ -73,20 +77,20 @@ pub fn first_ahead_in<S: Station>(
     // No byte changes.
     ensures steps { Steps Same (S.view station.old) (S.view station.new) }
     // One segment is read, or two that stand side by side, each once, and nothing is written (`ReadsNear`).
-    ensures reads { ReadsNear start.now (record { layout = layout; region = region; height = tally.now.height; counts = tally.now.counts })
-        result (S.view station.old) (S.view station.new) }
+    ensures reads { ReadsNear look.now.start.now (record {
+      layout = region.now.layout.now;
+      region = region.now.number;
+      height = region.now.tally.now.height;
+      counts = region.now.tally.now.counts;
+    }) result (S.view station.old) (S.view station.new) }
 {
-    let mut reader = RegionReader::new(
-        layout,
-        region,
-        first,
-        end_near(first, segment_count(tally)),
-    );
-    while next_counted(&mut reader, tally, station, page)? {
+    let end = end_near(first, segment_count(region.tally));
+    let mut reader = RegionReader::new(*region.layout, region.number, first, end);
+    while next_counted(&mut reader, region.tally, station, page)? {
         let rows = page.rows();
-        let place = place_past(&rows, start, past);
+        let place = place_past(&rows, look.start, look.past);
         if place < rows.len() {
-            return Ok(row_below(&rows, place, high));
+            return Ok(row_below(&rows, place, look.high));
         }
     }
     Ok(None)

@@ -20,13 +20,11 @@ ghost use Rattle.range_scan.specs.Seeking.{earlier, last_from, ReadsBehind};
 ghost use Rattle.range_scan.specs.Sweeping.{last_for};
 ghost use Rattle.range_scan.specs.Walk.{after_walk};
 
-use crate::counted::kept_count;
+use crate::counted::{Region, kept_count};
 use crate::segment_buffer::SegmentBuffer;
-use header_gate::Layout;
 use key_slot::{Key, Row};
 use segment::{SegmentView, StoreFault};
 use station::Station;
-use window_tally::Tally;
 
 /// The earlier of `past` and `high`: the bound below which a look must end for the last record that is below both.
 pub fn end_bound(past: Option<Key>, high: Option<Key>) -> Option<Key>
@@ -45,21 +43,20 @@ pub fn end_bound(past: Option<Key>, high: Option<Key>) -> Option<Key>
 /// at most two segments are read, one after the other, into the page.
 pub fn last_behind_in<S: Station>(
     station: &mut S,
-    layout: Layout,
-    region: u32,
-    tally: &Tally,
+    region: &Region<'_>,
     page: &mut SegmentBuffer,
     last: u32,
     low: &Option<Key>,
     end: &Option<Key>,
 ) -> Result<Option<Row>, StoreFault>
-    requires layout { IsLayout layout }
-    requires region { region < 2 }
-    requires height { tally.now.height ≤ height_limit layout }
-    requires last { last < 2 ^ tally.now.height }
-    requires reach { file_length layout ≤ (S.view station.old).fixed.reach }
-    requires stands { Told (S.view station.old) → StandsBalanced layout region tally.now.height tally.now.counts (S.view station.old).held }
-    requires readable { Told (S.view station.old) → IsRecovered layout (S.view station.old).held }
+    requires layout { IsLayout region.now.layout.now }
+    requires region { region.now.number < 2 }
+    requires height { region.now.tally.now.height ≤ height_limit region.now.layout.now }
+    requires last { last < 2 ^ region.now.tally.now.height }
+    requires reach { file_length region.now.layout.now ≤ (S.view station.old).fixed.reach }
+    requires stands { Told (S.view station.old) →
+        StandsBalanced region.now.layout.now region.now.number region.now.tally.now.height region.now.tally.now.counts (S.view station.old).held }
+    requires readable { Told (S.view station.old) → IsRecovered region.now.layout.now (S.view station.old).held }
     requires ends { Told (S.view station.old) → last ≡ last_for end.now (array_of (S.view station.old).held) }
     // On Ok the record with the greatest key that isn't below the lower bound, is below `past` and is below `high`, or None if
     // there is none, if the station tells its bytes.
@@ -73,47 +70,51 @@ pub fn last_behind_in<S: Station>(
     // No byte changes.
     ensures steps { Steps Same (S.view station.old) (S.view station.new) }
     // One segment is read, and maybe the one before it, each once, and nothing is written (`ReadsBehind`).
-    ensures reads { ReadsBehind end.now (record { layout = layout; region = region; height = tally.now.height; counts = tally.now.counts })
-        result (S.view station.old) (S.view station.new) }
+    ensures reads { ReadsBehind end.now (record {
+      layout = region.now.layout.now;
+      region = region.now.number;
+      height = region.now.tally.now.height;
+      counts = region.now.tally.now.counts;
+    }) result (S.view station.old) (S.view station.new) }
 {
-    let place = read_below(station, &layout, region, tally, page, last, end)?;
+    let place = read_below(station, region, page, last, end)?;
     if place > 0 || last == 0 {
         return Ok(row_before(&page.rows(), place, low));
     }
-    let place = read_below(station, &layout, region, tally, page, last - 1, end)?;
+    let place = read_below(station, region, page, last - 1, end)?;
     Ok(row_before(&page.rows(), place, low))
 }
 
 // Reads a segment, and answers how many of its records are below a bound.
 fn read_below<S: Station>(
     station: &mut S,
-    layout: &Layout,
-    region: u32,
-    tally: &Tally,
+    region: &Region<'_>,
     page: &mut SegmentBuffer,
     segment: u32,
     end: &Option<Key>,
 ) -> Result<u32, StoreFault>
-    requires layout { IsLayout layout.now }
-    requires region { region < 2 }
-    requires height { tally.now.height ≤ height_limit layout.now }
-    requires segment { segment < 2 ^ tally.now.height }
-    requires reach { file_length layout.now ≤ (S.view station.old).fixed.reach }
-    requires stands { Told (S.view station.old) → StandsBalanced layout.now region tally.now.height tally.now.counts (S.view station.old).held }
-    requires readable { Told (S.view station.old) → IsRecovered layout.now (S.view station.old).held }
+    requires layout { IsLayout region.now.layout.now }
+    requires region { region.now.number < 2 }
+    requires height { region.now.tally.now.height ≤ height_limit region.now.layout.now }
+    requires segment { segment < 2 ^ region.now.tally.now.height }
+    requires reach { file_length region.now.layout.now ≤ (S.view station.old).fixed.reach }
+    requires stands { Told (S.view station.old) →
+        StandsBalanced region.now.layout.now region.now.number region.now.tally.now.height region.now.tally.now.counts (S.view station.old).held }
+    requires readable { Told (S.view station.old) → IsRecovered region.now.layout.now (S.view station.old).held }
     ensures rows { OnOk result (Told (S.view station.old) → page.new.rows ≡ segment_at (array_of (S.view station.old).held) segment) }
     ensures within { IfOk result (λ place. place ≤ length page.new.rows) }
     ensures below { IfOk result (λ place. T (are_below end.now (take place page.new.rows))) }
     ensures behind { IfOk result (λ place. T (are_behind end.now (drop place page.new.rows))) }
-    ensures causes { IfErr result (IsDamageAt segment tally.now.counts) }
+    ensures causes { IfErr result (IsDamageAt segment region.now.tally.now.counts) }
     ensures damaged { IfErr result (λ fault. Told (S.view station.old) → fault ≡ StoreFault.Failed) }
     ensures failed { IsErrOf result StoreFault.Failed → Rose (S.view station.old).disk_faults (S.view station.new).disk_faults }
     ensures steps { Steps Same (S.view station.old) (S.view station.new) }
-    ensures reads { (S.view station.new).travel ≡ after_walk layout.now region segment (segment + 1) (S.view station.old).travel }
+    ensures reads { (S.view station.new).travel ≡
+        after_walk region.now.layout.now region.now.number segment (segment + 1) (S.view station.old).travel }
     ensures calls { (S.view station.new).calls ≤ (S.view station.old).calls + 1 }
 {
-    let kept = kept_count(tally, segment);
-    page.read(station, layout, region, segment, kept)?;
+    let kept = kept_count(region.tally, segment);
+    page.read(station, region.layout, region.number, segment, kept)?;
     Ok(end_in(&page.rows(), end))
 }
 

@@ -5,6 +5,7 @@ ghost use Rattle.station.specs.Bytes.{Same, Filled};
 ghost use Rattle.station.specs.View.{Told, after_read};
 ghost use Rattle.station.specs.Steps.{Steps};
 ghost use Rattle.header_gate.specs.Places.{IsLayout, file_length, height_limit, segment_place, segment_size};
+ghost use Rattle.density_rule.specs.Windows.{count_in};
 ghost use Rattle.key_slot.specs.Record.{is_record};
 ghost use Rattle.key_slot.specs.Segment.{FitsSegment, IsSegment, segment_of};
 ghost use Rattle.segment.specs.Validated.{damage_of};
@@ -15,7 +16,7 @@ ghost use Rattle.range_scan.specs.Pages.{IsBadSlot, IsFoundDamaged, ReadsInto};
 ghost use Rattle.range_scan.specs.Reading.{page_in};
 ghost use Rattle.range_scan.specs.Running.{IsRun, pages_in};
 
-use crate::counted::store_fault;
+use crate::counted::{Region, kept_count};
 use crate::reader::RegionFault;
 use header_gate::Layout;
 use key_slot::{Key, SEGMENT_SIZE};
@@ -116,10 +117,7 @@ impl SegmentBuffer {
         ensures reads { (S.view station.new).travel ≡ after_read (segment_place layout.now region segment) (segment_size layout.now) (S.view station.old).travel }
         ensures calls { (S.view station.new).calls ≤ (S.view station.old).calls + 1 }
     {
-        match self.load(station, layout, region, segment, 1) {
-            Ok(()) => {}
-            Err(fault) => return Err(store_fault(fault)),
-        }
+        self.load(station, layout, region, segment, 1)?;
         match validate_count(segment, self.rows().len(), kept) {
             Ok(()) => Ok(()),
             Err(fault) => {
@@ -133,40 +131,42 @@ impl SegmentBuffer {
     pub fn get<'a, S: Station>(
         &'a mut self,
         station: &mut S,
-        layout: &Layout,
-        region: u32,
+        region: &Region<'_>,
         segment: u32,
-        kept: u32,
         key: &Key,
     ) -> Result<Option<&'a [u8]>, StoreFault>
-        requires layout { IsLayout layout.now }
-        requires region { region < 2 }
-        requires segment { segment < 2 ^ height_limit layout.now }
-        requires reach { file_length layout.now ≤ (S.view station.old).fixed.reach }
+        requires layout { IsLayout region.now.layout.now }
+        requires region { region.now.number < 2 }
+        requires height { region.now.tally.now.height ≤ height_limit region.now.layout.now }
+        requires segment { segment < 2 ^ region.now.tally.now.height }
+        requires reach { file_length region.now.layout.now ≤ (S.view station.old).fixed.reach }
         // On Ok the answer is the value that is bound to the key in the segment, or None if none is, if the station tells its
         // bytes.
         ensures some { IfOk result (λ found. IfSome found (λ value. Told (S.view station.old) →
-            value_of key.now (segment_of layout.now.format (page_in layout.now region (S.view station.old).held segment)) ≡ Some value.now)) }
+            value_of key.now (segment_of region.now.layout.now.format (page_in region.now.layout.now region.now.number (S.view station.old).held segment)) ≡ Some value.now)) }
         ensures none { IfOk result (λ found. IfNone found (Told (S.view station.old) →
-            value_of key.now (segment_of layout.now.format (page_in layout.now region (S.view station.old).held segment)) ≡ None)) }
+            value_of key.now (segment_of region.now.layout.now.format (page_in region.now.layout.now region.now.number (S.view station.old).held segment)) ≡ None)) }
         // On every station the key and a value that is found fit a slot of the format.
-        ensures fits { IfOk result (λ found. IfSome found (λ value. T (is_record layout.now.format (key.now, value.now)))) }
+        ensures fits { IfOk result (λ found. IfSome found (λ value. T (is_record region.now.layout.now.format (key.now, value.now)))) }
         // On Ok nothing is wrong with the bytes of the segment, and it has the number of records that is kept, if the station
         // tells them.
-        ensures sound { OnOk result (Told (S.view station.old) → damage_of layout.now.format (page_in layout.now region (S.view station.old).held segment) kept ≡ None) }
+        ensures sound { OnOk result (Told (S.view station.old) →
+            damage_of region.now.layout.now.format (page_in region.now.layout.now region.now.number (S.view station.old).held segment)
+            (count_in region.now.tally.now.counts 0 segment) ≡ None) }
         // Damage is that of this segment, and exactly what is wrong with it if the station tells its bytes; `Failed` comes only
         // if the count of disk faults rose.
-        ensures damaged { IfErr result (λ fault. IsFoundDamaged layout.now region segment kept fault (S.view station.old) (S.view station.new)) }
+        ensures damaged { IfErr result (λ fault. IsFoundDamaged region.now.layout.now region.now.number segment
+            (count_in region.now.tally.now.counts 0 segment) fault (S.view station.old) (S.view station.new)) }
         // No byte changes.
         ensures steps { Steps Same (S.view station.old) (S.view station.new) }
         // The segment is read once, by at most one call.
-        ensures reads { (S.view station.new).travel ≡ after_read (segment_place layout.now region segment) (segment_size layout.now) (S.view station.old).travel }
+        ensures reads { (S.view station.new).travel ≡
+            after_read (segment_place region.now.layout.now region.now.number segment) (segment_size region.now.layout.now) (S.view station.old).travel }
         ensures calls { (S.view station.new).calls ≤ (S.view station.old).calls + 1 }
     {
-        match self.read(station, layout, region, segment, kept) {
-            Ok(()) => Ok(self.rows().value(key)),
-            Err(fault) => Err(fault),
-        }
+        let kept = kept_count(region.tally, segment);
+        self.read(station, region.layout, region.number, segment, kept)?;
+        Ok(self.rows().value(key))
     }
 
     // Takes the records away.

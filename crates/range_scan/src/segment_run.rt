@@ -20,6 +20,13 @@ use key_slot::Key;
 use segment::{BadSegment, SegmentView, count_rows};
 use station::Station;
 
+// Segments that are read by one call: the first of them, and how many.
+#[derive(Clone, Copy)]
+pub(crate) struct Run {
+    pub segment: u32,
+    pub count: u32,
+}
+
 impl SegmentBuffer {
     // Reads a segment for which no number of records is kept, but that has to begin above a last key.
     pub(crate) fn read_above<S: Station>(
@@ -42,10 +49,7 @@ impl SegmentBuffer {
         ensures named { IfErr result (λ fault. Names segment fault) }
         ensures failed { IsErrOf result RegionFault.Failed → Rose (S.view station.old).disk_faults (S.view station.new).disk_faults }
     {
-        match self.load(station, layout, region, segment, 1) {
-            Ok(()) => {}
-            Err(fault) => return Err(fault),
-        }
+        self.load(station, layout, region, segment, 1)?;
         if follows(last, &self.rows()) {
             return Ok(());
         }
@@ -54,39 +58,37 @@ impl SegmentBuffer {
     }
 
     // Takes the next segment of a run, which has to begin above a last key: the first that was read along, or else the first
-    // of `count` segments, which it reads in one call.
+    // of those of the run, which it reads in one call.
     pub(crate) fn take_above<S: Station>(
         &mut self,
         station: &mut S,
         layout: &Layout,
         region: u32,
-        segment: u32,
-        count: u32,
+        run: Run,
         last: &Option<Key>,
     ) -> Result<(), RegionFault>
         requires layout { IsLayout layout.now }
         requires region { region < 2 }
         requires reach { file_length layout.now ≤ (S.view station.old).fixed.reach }
-        requires run { self.old.along ≡ [] → IsRun layout.now segment (2 ^ height_limit layout.now) count }
+        requires run { self.old.along ≡ [] → IsRun layout.now run.segment (2 ^ height_limit layout.now) run.count }
         requires format { 0 < length self.old.along → self.old.format ≡ layout.now.format }
-        ensures sound { OnOk result (Told (S.view station.old) → page_fault layout.now.format segment last.now (first_of self.old.along (page_in layout.now region (S.view station.old).held segment)) ≡ None) }
+        ensures sound { OnOk result (Told (S.view station.old) → page_fault layout.now.format run.segment last.now (first_of self.old.along (page_in layout.now region (S.view station.old).held run.segment)) ≡ None) }
         ensures above { OnOk result (begins_above last.now self.new.rows ≡ true) }
-        ensures taking_next { TakesNext layout.now region segment count result self.old self.new (S.view station.old) (S.view station.new) }
+        ensures taking_next { TakesNext layout.now region run.segment run.count result self.old self.new (S.view station.old) (S.view station.new) }
         ensures refused { IfErr result (λ fault. fault ≢ RegionFault.Failed → Told (S.view station.old) →
-            page_fault layout.now.format segment last.now
-            (first_of self.old.along (page_in layout.now region (S.view station.old).held segment)) ≡ Some fault) }
-        ensures named { IfErr result (λ fault. Names segment fault) }
+            page_fault layout.now.format run.segment last.now
+            (first_of self.old.along (page_in layout.now region (S.view station.old).held run.segment)) ≡ Some fault) }
+        ensures named { IfErr result (λ fault. Names run.segment fault) }
         ensures failed { IsErrOf result RegionFault.Failed → Rose (S.view station.old).disk_faults (S.view station.new).disk_faults }
     {
-        match self.take_next(station, layout, region, segment, count) {
-            Ok(()) => {}
-            Err(fault) => return Err(fault),
-        }
+        self.take_next(station, layout, region, run)?;
         if follows(last, &self.rows()) {
             return Ok(());
         }
         self.clear();
-        Err(RegionFault::OutOfOrder { segment })
+        Err(RegionFault::OutOfOrder {
+            segment: run.segment,
+        })
     }
 
     // Takes the next segment of a run, and sees that its bytes are one.
@@ -95,21 +97,20 @@ impl SegmentBuffer {
         station: &mut S,
         layout: &Layout,
         region: u32,
-        segment: u32,
-        count: u32,
+        run: Run,
     ) -> Result<(), RegionFault>
         requires layout { IsLayout layout.now }
         requires region { region < 2 }
         requires reach { file_length layout.now ≤ (S.view station.old).fixed.reach }
-        requires run { self.old.along ≡ [] → IsRun layout.now segment (2 ^ height_limit layout.now) count }
+        requires run { self.old.along ≡ [] → IsRun layout.now run.segment (2 ^ height_limit layout.now) run.count }
         requires format { 0 < length self.old.along → self.old.format ≡ layout.now.format }
-        ensures taking_next { TakesNext layout.now region segment count result self.old self.new (S.view station.old) (S.view station.new) }
-        ensures bad { IfErr result (IsBadAlong layout.now region segment self.old.along (S.view station.old) (S.view station.new)) }
+        ensures taking_next { TakesNext layout.now region run.segment run.count result self.old self.new (S.view station.old) (S.view station.new) }
+        ensures bad { IfErr result (IsBadAlong layout.now region run.segment self.old.along (S.view station.old) (S.view station.new)) }
     {
         if self.more == 0 {
-            self.load(station, layout, region, segment, count)
+            self.load(station, layout, region, run.segment, run.count)
         } else {
-            self.validate_next(segment)
+            self.validate_next(run.segment)
         }
     }
 

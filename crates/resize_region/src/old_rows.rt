@@ -10,6 +10,7 @@ ghost use Rattle.resize_region.specs.Shares.{places, HasShares, StandsBare, shar
 ghost use Rattle.resize_region.specs.OldRows.{IsAmongRows, IsInOrder, ReadsRows, rows_left, rows_ahead};
 
 use crate::putting::put_row;
+use crate::shares::Wanted;
 use crate::widening::WIDE;
 use range_scan::{RegionReader, SegmentBuffer, next_counted};
 use redo_journal::{Frames, Place};
@@ -28,43 +29,42 @@ pub(crate) struct OldRows {
     pub place: u32,
 }
 
-/// Puts the next `share` records into an empty place of the frames, in slots of format 2.
+/// Puts the next records into an empty place of the frames, in slots of format 2.
 pub(crate) fn gather<S: Station>(
     station: &mut S,
     place: &Place,
     frames: &mut Frames,
     tally: &Tally,
     rows: &mut OldRows,
-    f: u32,
-    share: u32,
+    wanted: Wanted,
 ) -> Result<(), StoreFault>
     requires reach { file_length place.now.layout ≤ (S.view station.old).fixed.reach }
     requires shares { HasShares wide frames.old }
-    requires frame { f < places wide frames.old }
-    requires empty { share_in wide f frames.old ≡ [] }
-    requires few { share ≤ SEGMENT_SLOTS }
+    requires frame { wanted.f < places wide frames.old }
+    requires empty { share_in wide wanted.f frames.old ≡ [] }
+    requires few { wanted.records ≤ SEGMENT_SLOTS }
     requires among { IsAmongRows place.now tally.now rows.old }
-    requires enough { share ≤ rows_left tally.now.counts rows.old }
+    requires enough { wanted.records ≤ rows_left tally.now.counts rows.old }
     requires order { Told (S.view station.old) → IsInOrder (array_of (S.view station.old).held) rows.old }
     requires stands { EachHeld (StandsBare place.now tally.now) (S.view station.old) }
     ensures shares { OnOk result (HasShares wide frames.new) }
     ensures among { OnOk result (IsAmongRows place.now tally.now rows.new) }
     ensures order { OnOk result (Told (S.view station.old) → IsInOrder (array_of (S.view station.old).held) rows.new) }
-    ensures filled { OnOk result (length (share_in wide f frames.new) ≡ share) }
-    ensures left { OnOk result (share + rows_left tally.now.counts rows.new ≡ rows_left tally.now.counts rows.old) }
+    ensures filled { OnOk result (length (share_in wide wanted.f frames.new) ≡ wanted.records) }
+    ensures left { OnOk result (wanted.records + rows_left tally.now.counts rows.new ≡ rows_left tally.now.counts rows.old) }
     ensures same { OnOk result (Told (S.view station.old) →
-        share_in wide f frames.new ++ rows_ahead (array_of (S.view station.old).held) rows.new ≡ rows_ahead (array_of (S.view station.old).held) rows.old) }
-    ensures others { (i : ℕ) → i ≢ f → i < places wide frames.old → share_in wide i frames.new ≡ share_in wide i frames.old }
+        share_in wide wanted.f frames.new ++ rows_ahead (array_of (S.view station.old).held) rows.new ≡ rows_ahead (array_of (S.view station.old).held) rows.old) }
+    ensures others { (i : ℕ) → i ≢ wanted.f → i < places wide frames.old → share_in wide i frames.new ≡ share_in wide i frames.old }
     ensures rest { frames.new ≡ record frames.old { slots = frames.new.slots } }
     ensures reads { ReadsRows place.now tally.now result rows.old rows.new (S.view station.old) (S.view station.new) }
 {
     let mut have = 0;
-    while have < share {
+    while have < wanted.records {
         if rows.place == rows.page.rows().len() {
             read_on(station, place, tally, rows)?;
         } else {
             let row = rows.page.rows().row(rows.place);
-            put_row(frames, WIDE, f, have, &row);
+            put_row(frames, WIDE, wanted.f, have, &row);
             rows.place += 1;
             have += 1;
         }
@@ -111,12 +111,10 @@ fn read_on<S: Station>(
     ensures same { OnOk result (Told (S.view station.old) → rows_ahead (array_of (S.view station.old).held) rows.new ≡ rows_ahead (array_of (S.view station.old).held) rows.old) }
     ensures reads { ReadsRows place.now tally.now result rows.old rows.new (S.view station.old) (S.view station.new) }
 {
-    match next_counted(&mut rows.reader, tally, station, &mut rows.page) {
-        Ok(true) => {
-            rows.place = 0;
-            Ok(true)
-        }
-        Ok(false) => Ok(false),
-        Err(fault) => Err(fault),
+    if next_counted(&mut rows.reader, tally, station, &mut rows.page)? {
+        rows.place = 0;
+        Ok(true)
+    } else {
+        Ok(false)
     }
 }

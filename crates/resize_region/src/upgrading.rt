@@ -113,10 +113,8 @@ pub fn upgrade<S: Station>(
     if let Some(answer) = refusal(&place.layout, records) {
         return Ok(answer);
     }
-    match widen(station, place, frames, tally, records) {
-        Ok(()) => Ok(Upgrade::Done),
-        Err(fault) => Err(fault),
-    }
+    widen(station, place, frames, tally, records)?;
+    Ok(Upgrade::Done)
 }
 
 /// Why a store of this many records isn't upgraded, or None where it is.

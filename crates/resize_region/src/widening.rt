@@ -22,7 +22,7 @@ ghost use Rattle.segment_frames.specs.Lists.{most_segments};
 use crate::copying::{fits_more, write_shares};
 use crate::old_rows::{OldRows, gather, read_rest};
 use crate::resizing::segments_at;
-use crate::shares::{clear_shares, start_shares};
+use crate::shares::{Spread, Wanted, clear_shares, start_shares};
 use header_gate::Layout;
 use range_scan::{RegionReader, SegmentBuffer};
 use redo_journal::{Frames, Place};
@@ -57,7 +57,8 @@ pub(crate) fn copy_wide<S: Station>(
         page: SegmentBuffer::new(),
         place: 0,
     };
-    write_wide(station, place, frames, tally, &mut rows, records, segments)?;
+    let spread = Spread { records, segments };
+    write_wide(station, place, frames, tally, &mut rows, spread)?;
     read_rest(station, place, tally, &mut rows)
 }
 
@@ -68,11 +69,10 @@ fn write_wide<S: Station>(
     frames: &mut Frames,
     tally: &Tally,
     rows: &mut OldRows,
-    records: u32,
-    segments: u32,
+    spread: Spread,
 ) -> Result<(), StoreFault>
-    requires can { CanWiden place.now tally.now segments frames.old (S.view station.old) }
-    requires records { records ≡ sum tally.now.counts }
+    requires can { CanWiden place.now tally.now spread.segments frames.old (S.view station.old) }
+    requires records { spread.records ≡ sum tally.now.counts }
     requires among { IsAmongRows place.now tally.now rows.old }
     requires start { rows.old.reader.next ≡ 0 }
     requires none { rows.old.page.rows ≡ [] }
@@ -80,28 +80,24 @@ fn write_wide<S: Station>(
     ensures among { OnOk result (IsAmongRows place.now tally.now rows.new) }
     ensures done { OnOk result (rows_left tally.now.counts rows.new ≡ 0) }
     ensures order { OnOk result (Told (S.view station.old) → IsInOrder (array_of (S.view station.old).held) rows.new) }
-    ensures writes { WritesWide result place.now tally.now segments frames.old frames.new (S.view station.old) (S.view station.new) }
+    ensures writes { WritesWide result place.now tally.now spread.segments frames.old frames.new (S.view station.old) (S.view station.new) }
     ensures upto { rows.new.reader.next ≤ 2 ^ tally.now.height }
-    ensures calls { (S.view station.new).calls ≤ (S.view station.old).calls + (rows.new.reader.next + parts (most_segments (widened place.now.layout)) segments) }
+    ensures calls { (S.view station.new).calls ≤ (S.view station.old).calls + (rows.new.reader.next + parts (most_segments (widened place.now.layout)) spread.segments) }
     ensures reads { Walks place.now 0 rows.new.reader.next (S.view station.old).travel (S.view station.new).travel }
 {
     let all = place.layout.journal / WIDE;
     start_shares(frames, WIDE, all);
     let mut f = 0;
     let mut t = 0;
-    while t < segments {
-        gather(
-            station,
-            place,
-            frames,
-            tally,
-            rows,
+    while t < spread.segments {
+        let wanted = Wanted {
             f,
-            share(records, segments, t),
-        )?;
+            records: share(spread.records, spread.segments, t),
+        };
+        gather(station, place, frames, tally, rows, wanted)?;
         f += 1;
         t += 1;
-        if !fits_more(f, all, t, segments) {
+        if !fits_more(f, all, t, spread.segments) {
             write_places(station, place, frames, t - f, f)?;
             clear_shares(frames, WIDE, f);
             f = 0;

@@ -78,18 +78,18 @@ module _ (g : _) (c : After-read_below g) (told : Told (g.S.Station.view c.args.
   abbrev segments : Array
   segments = array_of (g.S.Station.view c.args.station.now).held
 
-  stands : StandsWith c.args.layout c.args.region c.args.tally.now.height c.args.tally.now.counts (g.S.Station.view c.args.station.now).held
+  stands : StandsWith c.args.region.now.layout.now c.args.region.now.number c.args.region.now.tally.now.height c.args.region.now.tally.now.counts (g.S.Station.view c.args.station.now).held
   stands = (c.requires.stands told).stands
 
-  size : length segments ≡ 2 ^ c.args.tally.now.height
-  size = size_of c.args.layout c.args.region c.args.tally.now.height c.args.tally.now.counts (g.S.Station.view c.args.station.now).held stands
+  size : length segments ≡ 2 ^ c.args.region.now.tally.now.height
+  size = size_of c.args.region.now.layout.now c.args.region.now.number c.args.region.now.tally.now.height c.args.region.now.tally.now.counts (g.S.Station.view c.args.station.now).held stands
 
   ascending : IsAscending (rows segments)
-  ascending = rows_ascend c.args.layout c.args.region c.args.tally.now.height c.args.tally.now.counts (g.S.Station.view c.args.station.now).held stands
+  ascending = rows_ascend c.args.region.now.layout.now c.args.region.now.number c.args.region.now.tally.now.height c.args.region.now.tally.now.counts (g.S.Station.view c.args.station.now).held stands
 
   ends : EndsBy c.args.end.now (c.args.last + 1) segments
   ends = subst (λ (n : ℕ). EndsBy c.args.end.now (n + 1) segments) (sym (c.requires.ends told))
-      (ends_behind c.args.end.now segments (omega (arith, size, pow_pos c.args.tally.now.height)) ascending)
+      (ends_behind c.args.end.now segments (omega (arith, size, pow_pos c.args.region.now.tally.now.height)) ascending)
 
   -- nor in it, where none of its records is below it
   ends_before : (rs : List Record) → rs ≡ segment_at segments c.args.last → T (are_behind c.args.end.now rs) → EndsBy c.args.end.now c.args.last segments
@@ -101,7 +101,7 @@ pub returns-then-place-gt0-clause-row : goal.returns-then-place-gt0-clause-row
 returns-then-place-gt0-clause-row g c told past high is =
     let here = (goal.at.returns-then-place-gt0-clause-row g c).After-read_below in
     let a = c.args in
-    found a.low.now past high a.end.now a.layout a.region a.tally.now.height a.tally.now.counts (g.S.Station.view a.station.now).held (stands g here told) a.last c.in_ok-place.place c.rows.result _
+    found a.low.now past high a.end.now a.region.now.layout.now a.region.now.number a.region.now.tally.now.height a.region.now.tally.now.counts (g.S.Station.view a.station.now).held (stands g here told) a.last c.in_ok-place.place c.rows.result _
     is c.requires.last (ends g here told) (c.rows.ensures ∙ c.in_ok-place.ensures.rows told) (omega (arith, c.in_ok-place.ensures.within, ap length c.rows.ensures))
     (subst (λ (es : List Record). T (are_below a.end.now (take c.in_ok-place.place es))) (sym c.rows.ensures) c.in_ok-place.ensures.below)
     (subst (λ (es : List Record). T (are_behind a.end.now (drop c.in_ok-place.place es))) (sym c.rows.ensures) c.in_ok-place.ensures.behind)
@@ -118,7 +118,7 @@ returns-in_err-place-2-clause-reads g c =
     record {
       last = a.last;
       count = 2;
-      travel = c.read_below-2.ensures.reads ∙ ap (after_walk a.layout a.region (a.last - 1) (a.last - 1 + 1)) c.read_below.ensures.reads;
+      travel = c.read_below-2.ensures.reads ∙ ap (after_walk a.region.now.layout.now a.region.now.number (a.last - 1) (a.last - 1 + 1)) c.read_below.ensures.reads;
       some = omega arith;
       two = omega arith;
       calls = omega (arith, c.read_below.ensures.calls, c.read_below-2.ensures.calls);
@@ -145,8 +145,8 @@ returns-clause-row g c told past high is =
     let told_there = told_on c.read_below.ensures.steps.frame told in
     let same : c.rows-2.result ≡ segment_at segments (a.last - 1) = c.rows-2.ensures ∙ c.in_ok-place-2.ensures.rows told_there ∙ ap (λ (file : List ℕ). segment_at (array_of file) (a.last - 1)) held in
     let behind = subst (λ (es : List Record). T (are_behind a.end.now (drop c.in_ok-place-2.place es))) (sym c.rows-2.ensures) c.in_ok-place-2.ensures.behind in
-    let four = four_there a.layout a.region a.tally.now.height a.tally.now.counts (g.S.Station.view a.station.now).held (c.requires.stands told) a.last (a.last - 1) one c.requires.last in
-    found a.low.now past high a.end.now a.layout a.region a.tally.now.height a.tally.now.counts (g.S.Station.view a.station.now).held (stands g here told) (a.last - 1) c.in_ok-place-2.place c.rows-2.result _
+    let four = four_there a.region.now.layout.now a.region.now.number a.region.now.tally.now.height a.region.now.tally.now.counts (g.S.Station.view a.station.now).held (c.requires.stands told) a.last (a.last - 1) one c.requires.last in
+    found a.low.now past high a.end.now a.region.now.layout.now a.region.now.number a.region.now.tally.now.height a.region.now.tally.now.counts (g.S.Station.view a.station.now).held (stands g here told) (a.last - 1) c.in_ok-place-2.place c.rows-2.result _
     is (omega (arith, c.requires.last)) ends_here same (omega (arith, c.in_ok-place-2.ensures.within, ap length c.rows-2.ensures))
     (subst (λ (es : List Record). T (are_below a.end.now (take c.in_ok-place-2.place es))) (sym c.rows-2.ensures) c.in_ok-place-2.ensures.below)
     behind
@@ -163,7 +163,7 @@ returns-clause-reads g c =
     record {
       last = a.last;
       count = 2;
-      travel = c.read_below-2.ensures.reads ∙ ap (after_walk a.layout a.region (a.last - 1) (a.last - 1 + 1)) c.read_below.ensures.reads;
+      travel = c.read_below-2.ensures.reads ∙ ap (after_walk a.region.now.layout.now a.region.now.number (a.last - 1) (a.last - 1 + 1)) c.read_below.ensures.reads;
       some = omega arith;
       two = omega arith;
       calls = omega (arith, c.read_below.ensures.calls, c.read_below-2.ensures.calls);

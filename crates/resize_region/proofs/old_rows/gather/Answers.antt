@@ -37,7 +37,7 @@ loop-have-preserved-in_ok-read_on g c =
     let done = c.in_ok-read_on.ensures in
     let a = g.S.Station.view c.args.station.now in
     let Stands = StandsBare c.args.place.now c.args.tally.now in
-    let share = share_in wide c.args.f c.loop-have.frames in
+    let share = share_in wide c.args.wanted.f c.loop-have.frames in
     record {
       within = inv.within;
       shares = inv.shares;
@@ -72,7 +72,7 @@ loop-have-preserved g c =
     let inv = c.loop-have.invariant in
     let held = c.loop-have.rows in
     let r = record_of c.row-row.result in
-    let share = share_in wide c.args.f c.loop-have.frames in
+    let share = share_in wide c.args.wanted.f c.loop-have.frames in
     let there : slice_get held.page.rows held.place ≡ Some r = ap (λ (l : List Record). slice_get l held.place) (sym c.rows-else-rows-len.ensures) ∙ c.row-row.ensures in
     let few : held.place < length held.page.rows = omega (arith, inv.among.taken, c.if-rows-len.false, c.len.ensures.len, ap length c.rows.ensures) in
     let all : places wide c.loop-have.frames ≡ places wide c.args.frames.now = ap (λ (b : Batch). places wide b) inv.rest in

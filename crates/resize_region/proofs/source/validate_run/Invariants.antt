@@ -5,6 +5,6 @@ use Rattle.resize_region.proofs.source.validate_run.Given as goal
 
 abbrev pub invariant-loop-i : goal.invariant-loop-i
 invariant-loop-i l = record {
-  held : (i : ℕ) → i < l.i → HoldsRows l.format (rows_at l.format l.frames.slots (l.f + i)) (l.f + i) (grouped l.format l.frames.slots);
-  counts : (i : ℕ) → i < l.i → length (rows_at l.format l.frames.slots (l.f + i)) ≡ get_or l.counts (l.segment + i) 0;
+  held : (i : ℕ) → i < l.i → HoldsRows l.format (rows_at l.format l.frames.slots (l.piece.f + i)) (l.piece.f + i) (grouped l.format l.frames.slots);
+  counts : (i : ℕ) → i < l.i → length (rows_at l.format l.frames.slots (l.piece.f + i)) ≡ get_or l.counts (l.piece.segment + i) 0;
 }

@@ -2,6 +2,7 @@ use Rattle.std.proofs.Common.{arith, ◌≡◌, inl, inr, ℕ, ◌+◌, ◌*◌,
 use Rattle.std.specs.Prelude.{Result, Ok, Err, Option, Some, None}
 use Rattle.std.proofs.lemmas.Bool.{false≢true}
 use Rattle.std.proofs.lemmas.Nat.{pow_pos}
+use Rattle.std.proofs.lemmas.Result.{err_from_is_err_and}
 use Rattle.redo_journal.specs.Rest.{RestsAt}
 use Rattle.range_scan.specs.Faults.{IsDamageAt}
 use Rattle.segment.specs.declared.fault.StoreFault.{StoreFault}
@@ -41,23 +42,27 @@ returns-in-Some-clause-too_many g c n =
       λ for. λ i. Ok (ap refusal_in ((c.in-Some.ensures.too_many n).1 (subst (λ (k : ℕ). TooManyFor l k n) (sym same) for)) i),
     )
 
-pub returns-in-Ok-clause-too_many : goal.returns-in-Ok-clause-too_many
-returns-in-Ok-clause-too_many g c n =
-    let same = records_are g (goal.at.returns-in-Ok-clause-too_many g c).After-count-records in (
+pub returns-clause-too_many : goal.returns-clause-too_many
+returns-clause-too_many g c n =
+    let same = records_are g (goal.at.returns-clause-too_many g c).After-count-records in (
       λ is. absurd (false≢true (ap is_done (sym (ap answer_in is)))),
       λ for. absurd (omega (arith, for.above, same, c.refusal.ensures.few c.in_default.is)),
     )
 
-pub returns-in-Ok-clause-rests : goal.returns-in-Ok-clause-rests
-returns-in-Ok-clause-rests g c = subst (λ (turn : ℕ). RestsAt c.widen.new.place.layout turn (g.S.Station.view c.widen.new.station)) (sym c.widen.ensures.same_turn) (c.in-Ok.ensures.spread.rests c.args.frames.now.turn c.requires.rests)
+pub returns-clause-rests : goal.returns-clause-rests
+returns-clause-rests g c = subst (λ (turn : ℕ). RestsAt c.widen.new.place.layout turn (g.S.Station.view c.widen.new.station)) (sym c.widen.ensures.same_turn) (c.in_ok-widen.ensures.spread.rests c.args.frames.now.turn c.requires.rests)
 
 -- Why it failed.
 
-pub returns-in-Err-clause-cause : goal.returns-in-Err-clause-cause
-returns-in-Err-clause-cause g c = elim c.in-Err.ensures.spread.cause [
-  | inl failed ↦ (0, pow_pos c.args.tally.now.height, subst (IsDamageAt 0 c.args.tally.now.counts) (sym failed) tt)
-  | inr damage ↦ (damage.0, damage.1, damage.2)
-]
+pub returns-in_err-widen-clause-cause : goal.returns-in_err-widen-clause-cause
+returns-in_err-widen-clause-cause g c =
+    let p = err_from_is_err_and c.from_residual.result c.from_residual.ensures.1 in
+    rw (p.1, p.2) (elim c.in_err-widen.ensures.spread.cause [
+      | inl failed ↦ (0, pow_pos c.args.tally.now.height, subst (IsDamageAt 0 c.args.tally.now.counts) (sym failed) tt)
+      | inr damage ↦ (damage.0, damage.1, damage.2)
+    ])
 
-pub returns-in-Err-clause-last : goal.returns-in-Err-clause-last
-returns-in-Err-clause-last g c = elim c.in-Err.ensures.spread.cause [ inl failed ↦ inl failed | inr damage ↦ inr (damage.0, damage.2, damage.3) ]
+pub returns-in_err-widen-clause-last : goal.returns-in_err-widen-clause-last
+returns-in_err-widen-clause-last g c =
+    let p = err_from_is_err_and c.from_residual.result c.from_residual.ensures.1 in
+    rw (p.1, p.2) (elim c.in_err-widen.ensures.spread.cause [ inl failed ↦ inl failed | inr damage ↦ inr (damage.0, damage.2, damage.3) ])

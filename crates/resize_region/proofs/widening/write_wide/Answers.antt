@@ -45,7 +45,7 @@ loop-t-init g c =
     let place = c.args.place.now in
     let can = c.requires.can in
     let counts = c.args.tally.now.counts in
-    let none : 0 ≡ 0 * c.args.records / c.args.segments = omega arith in
+    let none : 0 ≡ 0 * c.args.spread.records / c.args.spread.segments = omega arith in
     let start = c.requires.start in
     record {
       steps = weaken (no_steps (g.S.Station.view c.args.station.now)) (λ d i left same. subst (Spares place.layout place.region d) (sym same) (subst (λ (region : ℕ). Spares place.layout region d d) (can.stands d left).stands.settled.region_is (free_same place.layout d)));
@@ -64,7 +64,7 @@ loop-t-init g c =
       among = c.requires.among;
       order = c.requires.order;
       coming = omega (arith, none, c.requires.records, ap length c.requires.none, ap (λ (n : ℕ). sum (drop n counts)) start);
-      rest = λ told. ahead_start (array_of (g.S.Station.view c.args.station.now).held) c.args.rows.now (0 * c.args.records / c.args.segments) c.requires.none c.requires.start none;
+      rest = λ told. ahead_start (array_of (g.S.Station.view c.args.station.now).held) c.args.rows.now (0 * c.args.spread.records / c.args.spread.segments) c.requires.none c.requires.start none;
       written = λ told i lt. absurd (omega (arith, lt));
       cost = omega arith;
       calls = (0, parts_none _ _ _, omega arith);
@@ -86,17 +86,17 @@ unwritten g c =
     ap (λ (t : Travel). t.written) c.gather.ensures.reads.reads ∙ walk_written place.layout place.region c.loop-t.rows.reader.next c.gather.new.rows.reader.next (g.S.Station.view c.loop-t.station).travel
 
 -- the calls with it, and with a part that is written
-called : (g : _) (c : After-gather g) → (made : ℕ) × InParts (most_segments (widened c.args.place.now.layout)) c.args.segments (c.loop-t.t - c.loop-t.f) made × ((g.S.Station.view c.gather.new.station).calls ≤ (g.S.Station.view c.args.station.now).calls + (c.gather.new.rows.reader.next + made))
+called : (g : _) (c : After-gather g) → (made : ℕ) × InParts (most_segments (widened c.args.place.now.layout)) c.args.spread.segments (c.loop-t.t - c.loop-t.f) made × ((g.S.Station.view c.gather.new.station).calls ≤ (g.S.Station.view c.args.station.now).calls + (c.gather.new.rows.reader.next + made))
 called g c =
     let is = c.loop-t.invariant.calls in
     (is.0, is.1, omega (arith, is.2, c.gather.ensures.reads.calls, c.gather.ensures.reads.onward))
 
-parted : (g : _) (c : After-gather g) {now : ℕ} → now ≤ (g.S.Station.view c.gather.new.station).calls + 1 → (c.loop-t.t + 1 < c.args.segments → most_segments (widened c.args.place.now.layout) ≤ c.loop-t.f + 1)
-    → (made : ℕ) × InParts (most_segments (widened c.args.place.now.layout)) c.args.segments (c.loop-t.t + 1 - 0) made × (now ≤ (g.S.Station.view c.args.station.now).calls + (c.gather.new.rows.reader.next + made))
+parted : (g : _) (c : After-gather g) {now : ℕ} → now ≤ (g.S.Station.view c.gather.new.station).calls + 1 → (c.loop-t.t + 1 < c.args.spread.segments → most_segments (widened c.args.place.now.layout) ≤ c.loop-t.f + 1)
+    → (made : ℕ) × InParts (most_segments (widened c.args.place.now.layout)) c.args.spread.segments (c.loop-t.t + 1 - 0) made × (now ≤ (g.S.Station.view c.args.station.now).calls + (c.gather.new.rows.reader.next + made))
 parted g c one full =
     let is = called g c in (
       is.0 + 1,
-      parts_more (most_segments (widened c.args.place.now.layout)) c.args.segments (c.loop-t.t - c.loop-t.f) (c.loop-t.t + 1 - 0) is.0 (omega (arith, c.requires.can.layout.least)) is.1 (omega (arith, c.loop-t-test.true)) (λ more. omega (arith, full (omega (arith, more)), c.loop-t.invariant.within)),
+      parts_more (most_segments (widened c.args.place.now.layout)) c.args.spread.segments (c.loop-t.t - c.loop-t.f) (c.loop-t.t + 1 - 0) is.0 (omega (arith, c.requires.can.layout.least)) is.1 (omega (arith, c.loop-t-test.true)) (λ more. omega (arith, full (omega (arith, more)), c.loop-t.invariant.within)),
       omega (arith, is.2, one),
     )
 
@@ -110,12 +110,12 @@ pub gather-requires-clause-frame : goal.gather-requires-clause-frame
 gather-requires-clause-frame g c = omega (arith, c.loop-t.invariant.below, c.loop-t.invariant.journal, c.requires.can.journal)
 
 pub gather-requires-clause-few : goal.gather-requires-clause-few
-gather-requires-clause-few g c = omega (arith, c.share.ensures, share-le c.args.records c.args.segments c.loop-t.t c.requires.can.some (omega (arith, c.requires.records, c.requires.can.room)))
+gather-requires-clause-few g c = omega (arith, c.share.ensures, share-le c.args.spread.records c.args.spread.segments c.loop-t.t c.requires.can.some (omega (arith, c.requires.records, c.requires.can.room)))
 
 pub gather-requires-clause-enough : goal.gather-requires-clause-enough
 gather-requires-clause-enough g c =
-    let n = c.args.records in
-    let m = c.args.segments in
+    let n = c.args.spread.records in
+    let m = c.args.spread.segments in
     omega (arith, c.share.ensures, c.loop-t.invariant.coming, up n m c.loop-t.t c.requires.can.some c.loop-t-test.true, top n m c.loop-t.t c.requires.can.some c.loop-t-test.true)
 
 pub gather-requires-clause-order : goal.gather-requires-clause-order
@@ -130,9 +130,9 @@ returns-in_err-gather-clause-writes g c =
     let at = (goal.at.returns-in_err-gather-clause-writes g c).After-gather in
     let inv = c.loop-t.invariant in
     let read = c.in_err-gather.ensures.reads in
-    writes_err c.args.place.now c.args.tally.now c.args.segments c.args.frames.now c.gather.new.frames (g.S.Station.view c.args.station.now) (g.S.Station.view c.loop-t.station) (g.S.Station.view c.gather.new.station)
+    writes_err c.args.place.now c.args.tally.now c.args.spread.segments c.args.frames.now c.gather.new.frames (g.S.Station.view c.args.station.now) (g.S.Station.view c.loop-t.station) (g.S.Station.view c.gather.new.station)
     c.from_residual.result c.in_err-gather.field-0.0 (rw p.2 at p.1) (same_on inv.steps read.steps) (ap (λ (b : Batch). b.journal) c.gather.ensures.rest ∙ inv.journal) (ap (λ (b : Batch). b.turn) c.gather.ensures.rest ∙ inv.turn)
-    (omega (arith, inv.cost, unwritten g at, times_up (segment_size (widened c.args.place.now.layout)) (c.loop-t.t - c.loop-t.f) c.args.segments (omega (arith, c.loop-t-test.true))))
+    (omega (arith, inv.cost, unwritten g at, times_up (segment_size (widened c.args.place.now.layout)) (c.loop-t.t - c.loop-t.f) c.args.spread.segments (omega (arith, c.loop-t-test.true))))
     (λ told. read.damaged (told_on inv.steps.frame told))
     (inr (read.cause.0, omega (arith, read.cause.1, read.upto), read.cause.2, subst (λ (n : ℕ). Walks c.args.place.now 0 n (g.S.Station.view c.args.station.now).travel (g.S.Station.view c.gather.new.station).travel) read.cause.1 (walked g at)))
     inv.steps.frame.disk_faults read.failed
@@ -140,7 +140,7 @@ returns-in_err-gather-clause-writes g c =
 pub returns-in_err-gather-clause-reads : goal.returns-in_err-gather-clause-reads
 returns-in_err-gather-clause-reads g c = walked g (goal.at.returns-in_err-gather-clause-reads g c).After-gather
 
-size : (g : _) (c : In_ok-gather g) → length (share_in wide c.loop-t.f c.gather.new.frames) ≡ share c.args.records c.args.segments c.loop-t.t
+size : (g : _) (c : In_ok-gather g) → length (share_in wide c.loop-t.f c.gather.new.frames) ≡ share c.args.spread.records c.args.spread.segments c.loop-t.t
 size g c = c.in_ok-gather.ensures.filled ∙ c.share.ensures
 
 pub overflow_add-t : goal.overflow_add-t
@@ -171,11 +171,11 @@ returns-in_err-write_places-clause-writes g c =
     let read = c.gather.ensures.reads in
     let steps = same_on inv.steps read.steps in
     let one : (g.S.Station.view c.gather.new.station).travel.written ≤ (g.S.Station.view c.args.station.now).travel.written + n * (c.loop-t.t - c.loop-t.f) = omega (arith, inv.cost, unwritten g at) in
-    writes_failed place c.args.tally.now c.args.segments c.args.frames.now c.gather.new.frames (g.S.Station.view c.args.station.now) (g.S.Station.view c.gather.new.station) (g.S.Station.view c.write_places.new.station)
+    writes_failed place c.args.tally.now c.args.spread.segments c.args.frames.now c.gather.new.frames (g.S.Station.view c.args.station.now) (g.S.Station.view c.gather.new.station) (g.S.Station.view c.write_places.new.station)
     c.from_residual-in_err-write_places.result c.in_err-write_places.field-0.0 (rw p.2 at p.1)
     (andthen steps c.write_places.ensures.steps (λ d i left step. step) (λ d e i left first mid second. free_on place.layout place.region d e i first second))
     (ap (λ (b : Batch). b.journal) c.gather.ensures.rest ∙ inv.journal) (ap (λ (b : Batch). b.turn) c.gather.ensures.rest ∙ inv.turn)
-    (total n (g.S.Station.view c.args.station.now).travel.written (g.S.Station.view c.gather.new.station).travel.written (g.S.Station.view c.write_places.new.station).travel.written c.loop-t.t c.loop-t.f c.args.segments one c.write_places.ensures.writes.cost inv.within c.loop-t-test.true)
+    (total n (g.S.Station.view c.args.station.now).travel.written (g.S.Station.view c.gather.new.station).travel.written (g.S.Station.view c.write_places.new.station).travel.written c.loop-t.t c.loop-t.f c.args.spread.segments one c.write_places.ensures.writes.cost inv.within c.loop-t-test.true)
     c.in_err-write_places.ensures.fault steps.frame.disk_faults c.in_err-write_places.ensures.failed
 
 pub returns-in_err-write_places-clause-reads : goal.returns-in_err-write_places-clause-reads
@@ -185,28 +185,28 @@ returns-in_err-write_places-clause-reads g c =
 
 -- The records.
 
-many : (g : _) (c : In_ok-gather g) → Told (g.S.Station.view c.args.station.now) → length (rows (array_of (g.S.Station.view c.args.station.now).held)) ≡ c.args.records
+many : (g : _) (c : In_ok-gather g) → Told (g.S.Station.view c.args.station.now) → length (rows (array_of (g.S.Station.view c.args.station.now).held)) ≡ c.args.spread.records
 many g c told =
     let a = g.S.Station.view c.args.station.now in
     sym (sum-counts (array_of a.held)) ∙ ap sum (has_counts c.args.place.now c.args.tally.now a.held (c.requires.can.stands a.held (inl (told, refl))).stands (c.requires.can.stands a.held (inl (told, refl))).bare).counts_are ∙ sym c.requires.records
 
 whole : (g : _) (c : In_ok-gather g) → Told (g.S.Station.view c.args.station.now) → share_in wide c.loop-t.f c.gather.new.frames ++ rows_ahead (array_of (g.S.Station.view c.args.station.now).held) c.gather.new.rows
-    ≡ drop (c.loop-t.t * c.args.records / c.args.segments) (rows (array_of (g.S.Station.view c.args.station.now).held))
+    ≡ drop (c.loop-t.t * c.args.spread.records / c.args.spread.segments) (rows (array_of (g.S.Station.view c.args.station.now).held))
 whole g c told =
     let inv = c.loop-t.invariant in
     subst (λ (a : Array). share_in wide c.loop-t.f c.gather.new.frames ++ rows_ahead a c.gather.new.rows ≡ rows_ahead a c.loop-t.rows) (inv.array told) (c.in_ok-gather.ensures.same (told_on inv.steps.frame told)) ∙ inv.rest told
 
 -- the share is the next segment
-next_share : (g : _) (c : In_ok-gather g) → Told (g.S.Station.view c.args.station.now) → share_in wide c.loop-t.f c.gather.new.frames ≡ segment_at (spread_over c.args.segments (rows (array_of (g.S.Station.view c.args.station.now).held))) c.loop-t.t
+next_share : (g : _) (c : In_ok-gather g) → Told (g.S.Station.view c.args.station.now) → share_in wide c.loop-t.f c.gather.new.frames ≡ segment_at (spread_over c.args.spread.segments (rows (array_of (g.S.Station.view c.args.station.now).held))) c.loop-t.t
 next_share g c told =
     let a = g.S.Station.view c.args.station.now in
-    share_part c.args.records c.args.segments c.loop-t.t c.requires.can.some c.loop-t-test.true (rows (array_of a.held)) (share_in wide c.loop-t.f c.gather.new.frames) (rows_ahead (array_of a.held) c.gather.new.rows) (many g c told) (size g c) (whole g c told)
+    share_part c.args.spread.records c.args.spread.segments c.loop-t.t c.requires.can.some c.loop-t-test.true (rows (array_of a.held)) (share_in wide c.loop-t.f c.gather.new.frames) (rows_ahead (array_of a.held) c.gather.new.rows) (many g c told) (size g c) (whole g c told)
 
 -- the places of the shares, with the new one
 kept : (g : _) (c : In_ok-gather g) → Told (g.S.Station.view c.args.station.now) → (i : ℕ) → i < c.loop-t.f + 1
-    → share_in wide i c.gather.new.frames ≡ segment_at (spread_over c.args.segments (rows (array_of (g.S.Station.view c.args.station.now).held))) (c.loop-t.t + 1 - (c.loop-t.f + 1) + i)
+    → share_in wide i c.gather.new.frames ≡ segment_at (spread_over c.args.spread.segments (rows (array_of (g.S.Station.view c.args.station.now).held))) (c.loop-t.t + 1 - (c.loop-t.f + 1) + i)
 kept g c told i lt =
-    let new = spread_over c.args.segments (rows (array_of (g.S.Station.view c.args.station.now).held)) in
+    let new = spread_over c.args.spread.segments (rows (array_of (g.S.Station.view c.args.station.now).held)) in
     let f = c.loop-t.f in
     let t = c.loop-t.t in
     let inv = c.loop-t.invariant in
@@ -224,10 +224,10 @@ empty : (g : _) (c : In_ok-gather g) (i : ℕ) → c.loop-t.f + 1 ≤ i → i < 
 empty g c i le lt = c.gather.ensures.others i (λ e. omega (arith, le, e)) (omega (arith, lt, c.loop-t.invariant.journal, c.requires.can.journal)) ∙ c.loop-t.invariant.empty i (omega (arith, le)) lt
 
 rest : (g : _) (c : In_ok-gather g) → Told (g.S.Station.view c.args.station.now) → rows_ahead (array_of (g.S.Station.view c.args.station.now).held) c.gather.new.rows
-    ≡ drop ((c.loop-t.t + 1) * c.args.records / c.args.segments) (rows (array_of (g.S.Station.view c.args.station.now).held))
+    ≡ drop ((c.loop-t.t + 1) * c.args.spread.records / c.args.spread.segments) (rows (array_of (g.S.Station.view c.args.station.now).held))
 rest g c told =
     let a = g.S.Station.view c.args.station.now in
-    share_rest c.args.records c.args.segments c.loop-t.t c.requires.can.some c.loop-t-test.true (rows (array_of a.held)) (share_in wide c.loop-t.f c.gather.new.frames) (rows_ahead (array_of a.held) c.gather.new.rows) (many g c told) (size g c) (whole g c told)
+    share_rest c.args.spread.records c.args.spread.segments c.loop-t.t c.requires.can.some c.loop-t-test.true (rows (array_of a.held)) (share_in wide c.loop-t.f c.gather.new.frames) (rows_ahead (array_of a.held) c.gather.new.rows) (many g c told) (size g c) (whole g c told)
 
 order : (g : _) (c : In_ok-gather g) → Told (g.S.Station.view c.args.station.now) → IsInOrder (array_of (g.S.Station.view c.args.station.now).held) c.gather.new.rows
 order g c told =
@@ -236,16 +236,16 @@ order g c told =
 
 -- what stood in the other region stays while a share is gathered
 written : (g : _) (c : In_ok-gather g) → Told (g.S.Station.view c.args.station.now) → (i : ℕ) → i < c.loop-t.t + 1 - (c.loop-t.f + 1)
-    → IsSegment wide (segment_at (spread_over c.args.segments (rows (array_of (g.S.Station.view c.args.station.now).held))) i) (spare_bytes (in_wide c.args.place.now) i (g.S.Station.view c.gather.new.station).held)
+    → IsSegment wide (segment_at (spread_over c.args.spread.segments (rows (array_of (g.S.Station.view c.args.station.now).held))) i) (spare_bytes (in_wide c.args.place.now) i (g.S.Station.view c.gather.new.station).held)
 written g c told i lt =
     let a = g.S.Station.view c.args.station.now in
-    subst (IsSegment wide (segment_at (spread_over c.args.segments (rows (array_of a.held))) i)) (ap (spare_bytes (in_wide c.args.place.now) i) (sym (c.gather.ensures.reads.steps.held (told_on c.loop-t.invariant.steps.frame told)))) (c.loop-t.invariant.written told i (omega (arith, lt)))
+    subst (IsSegment wide (segment_at (spread_over c.args.spread.segments (rows (array_of a.held))) i)) (ap (spare_bytes (in_wide c.args.place.now) i) (sym (c.gather.ensures.reads.steps.held (told_on c.loop-t.invariant.steps.frame told)))) (c.loop-t.invariant.written told i (omega (arith, lt)))
 
 fits : (g : _) (c : In_ok-gather g) → Told (g.S.Station.view c.args.station.now) → (i : ℕ) → i < c.loop-t.f + 1 → FitsSegment wide (share_in wide i c.gather.new.frames)
 fits g c told i lt =
     let a = g.S.Station.view c.args.station.now in
-    let n = c.args.records in
-    let m = c.args.segments in
+    let n = c.args.spread.records in
+    let m = c.args.spread.segments in
     let some = c.requires.can.some in
     let k = c.loop-t.t + 1 - (c.loop-t.f + 1) + i in
     let few : share n m k ≤ SEGMENT_SLOTS = share-le n m k some (omega (arith, c.requires.records, c.requires.can.room)) in
@@ -262,8 +262,8 @@ loop-t-preserved-then-not-fits_more g c =
     let inv = c.loop-t.invariant in
     let place = c.args.place.now in
     let t = c.args.tally.now in
-    let n = c.args.records in
-    let m = c.args.segments in
+    let n = c.args.spread.records in
+    let m = c.args.spread.segments in
     let k = c.loop-t.t in
     let f = c.loop-t.f in
     let lt = c.loop-t-test.true in
@@ -323,8 +323,8 @@ loop-t-preserved g c =
     let after = (goal.at.loop-t-preserved g c).After-gather in
     let inv = c.loop-t.invariant in
     let place = c.args.place.now in
-    let n = c.args.records in
-    let m = c.args.segments in
+    let n = c.args.spread.records in
+    let m = c.args.spread.segments in
     let k = c.loop-t.t in
     let f = c.loop-t.f in
     let lt = c.loop-t-test.true in
@@ -358,21 +358,21 @@ loop-t-preserved g c =
 
 pub returns-clause-done : goal.returns-clause-done
 returns-clause-done g c =
-    let n = c.args.records in
-    let m = c.args.segments in
+    let n = c.args.spread.records in
+    let m = c.args.spread.segments in
     let end : c.loop-t.t ≡ m = omega (arith, c.loop-t-test.false, c.loop-t.invariant.upto) in
     omega (arith, c.loop-t.invariant.coming, ap (λ (t : ℕ). t * n / m) end, mul-div_cancel_left n c.requires.can.some)
 
 pub returns-clause-writes : goal.returns-clause-writes
 returns-clause-writes g c =
     let inv = c.loop-t.invariant in
-    let end : c.loop-t.t ≡ c.args.segments = omega (arith, c.loop-t-test.false, inv.upto) in
+    let end : c.loop-t.t ≡ c.args.spread.segments = omega (arith, c.loop-t-test.false, inv.upto) in
     record {
       steps = inv.steps;
       written = λ told i lt. inv.written told i (omega (arith, lt, inv.flushed end, end));
       journal = inv.journal;
       turn = inv.turn;
-      cost = omega (arith, inv.cost, times_up (segment_size (widened c.args.place.now.layout)) (c.loop-t.t - c.loop-t.f) c.args.segments (omega (arith, inv.upto)));
+      cost = omega (arith, inv.cost, times_up (segment_size (widened c.args.place.now.layout)) (c.loop-t.t - c.loop-t.f) c.args.spread.segments (omega (arith, inv.upto)));
       damaged = tt;
       cause = tt;
       failed = λ is. absurd (never_failed {T = Unit {0}} tt is);

@@ -24,22 +24,22 @@ invariant-loop-t g l = record {
   array : Told (g.S.Station.view l.fn.station) → array_of (g.S.Station.view l.station).held ≡ array_of (g.S.Station.view l.fn.station).held;
   below : l.f < l.all;
   within : l.f ≤ l.t;
-  upto : l.t ≤ l.segments;
-  flushed : l.t ≡ l.segments → l.f ≡ 0;
+  upto : l.t ≤ l.spread.segments;
+  flushed : l.t ≡ l.spread.segments → l.f ≡ 0;
   journal : l.frames.journal ≡ l.fn.frames.journal;
   turn : l.frames.turn ≡ l.fn.frames.turn;
   shares : HasShares wide l.frames;
   empty : (i : ℕ) → l.f ≤ i → i < l.all → share_in wide i l.frames ≡ [];
-  kept : Told (g.S.Station.view l.fn.station) → (i : ℕ) → i < l.f → share_in wide i l.frames ≡ segment_at (spread_over l.segments (rows (array_of (g.S.Station.view l.fn.station).held))) (l.t - l.f + i);
+  kept : Told (g.S.Station.view l.fn.station) → (i : ℕ) → i < l.f → share_in wide i l.frames ≡ segment_at (spread_over l.spread.segments (rows (array_of (g.S.Station.view l.fn.station).held))) (l.t - l.f + i);
   among : IsAmongRows l.place l.tally l.rows;
   order : Told (g.S.Station.view l.fn.station) → IsInOrder (array_of (g.S.Station.view l.fn.station).held) l.rows;
-  coming : l.t * l.records / l.segments + rows_left l.tally.counts l.rows ≡ l.records;
-  rest : Told (g.S.Station.view l.fn.station) → rows_ahead (array_of (g.S.Station.view l.fn.station).held) l.rows ≡ drop (l.t * l.records / l.segments) (rows (array_of (g.S.Station.view l.fn.station).held));
-  written : Told (g.S.Station.view l.fn.station) → HasWritten (in_wide l.place) (spread_over l.segments (rows (array_of (g.S.Station.view l.fn.station).held))) (l.t - l.f) (g.S.Station.view l.station).held;
+  coming : l.t * l.spread.records / l.spread.segments + rows_left l.tally.counts l.rows ≡ l.spread.records;
+  rest : Told (g.S.Station.view l.fn.station) → rows_ahead (array_of (g.S.Station.view l.fn.station).held) l.rows ≡ drop (l.t * l.spread.records / l.spread.segments) (rows (array_of (g.S.Station.view l.fn.station).held));
+  written : Told (g.S.Station.view l.fn.station) → HasWritten (in_wide l.place) (spread_over l.spread.segments (rows (array_of (g.S.Station.view l.fn.station).held))) (l.t - l.f) (g.S.Station.view l.station).held;
   cost : (g.S.Station.view l.station).travel.written ≤ (g.S.Station.view l.fn.station).travel.written + segment_size (widened l.place.layout) * (l.t - l.f);
-  calls : (made : ℕ) × InParts (most_segments (widened l.place.layout)) l.segments (l.t - l.f) made × ((g.S.Station.view l.station).calls ≤ (g.S.Station.view l.fn.station).calls + (l.rows.reader.next + made));
+  calls : (made : ℕ) × InParts (most_segments (widened l.place.layout)) l.spread.segments (l.t - l.f) made × ((g.S.Station.view l.station).calls ≤ (g.S.Station.view l.fn.station).calls + (l.rows.reader.next + made));
   reads : Walks l.place 0 l.rows.reader.next (g.S.Station.view l.fn.station).travel (g.S.Station.view l.station).travel;
 }
 
 abbrev pub decreases-loop-t : goal.decreases-loop-t
-decreases-loop-t g l = l.segments - l.t
+decreases-loop-t g l = l.spread.segments - l.t

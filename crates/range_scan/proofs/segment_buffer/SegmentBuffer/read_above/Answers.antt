@@ -7,10 +7,10 @@ use Rattle.range_scan.proofs.segment_buffer.SegmentBuffer.read_above.Goals as go
 
 pub returns-then-follows-clause-sound : goal.returns-then-follows-clause-sound
 returns-then-follows-clause-sound g c told =
-    no_fault c.args.layout.now.format c.args.segment c.args.last.now c.load.new.self.rows (page_in c.args.layout.now c.args.region (g.S.Station.view c.args.station.now).held c.args.segment) (c.in-Ok.ensures.segment told)
+    no_fault c.args.layout.now.format c.args.segment c.args.last.now c.load.new.self.rows (page_in c.args.layout.now c.args.region (g.S.Station.view c.args.station.now).held c.args.segment) (c.in_ok-load.ensures.segment told)
     (ap (begins_above c.args.last.now) (sym c.rows.ensures) ∙ sym c.follows.ensures ∙ c.if-follows.true)
 
 pub returns-clause-refused : goal.returns-clause-refused
 returns-clause-refused g c _ told =
-    order_fault c.args.layout.now.format c.args.segment c.args.last.now c.load.new.self.rows (page_in c.args.layout.now c.args.region (g.S.Station.view c.args.station.now).held c.args.segment) (c.in-Ok.ensures.segment told)
+    order_fault c.args.layout.now.format c.args.segment c.args.last.now c.load.new.self.rows (page_in c.args.layout.now c.args.region (g.S.Station.view c.args.station.now).held c.args.segment) (c.in_ok-load.ensures.segment told)
     (ap (begins_above c.args.last.now) (sym c.rows.ensures) ∙ sym c.follows.ensures ∙ c.if-follows.false)

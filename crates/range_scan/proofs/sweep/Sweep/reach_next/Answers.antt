@@ -26,15 +26,15 @@ fill-requires g c =
       };
     }
 
-pub returns-in-Ok-clause-more : goal.returns-in-Ok-clause-more
-returns-in-Ok-clause-more g c told =
+pub returns-clause-more : goal.returns-clause-more
+returns-clause-more g c told =
     let s = c.args.self.now in
     let t = c.fill.new.self in
     let a = g.S.Station.view c.args.station.now in
     let b = g.S.Station.view c.fill.new.station in
-    let on = c.in-Ok.ensures.sweeps in
+    let on = c.in_ok-fill.ensures.sweeps in
     let held = on.steps.held told in
-    let used = subst (λ (file : List ℕ). t.kept ≡ [] → scanned t.low t.high (t.limit - t.given) (ahead t (entries (map_of file))) ≡ []) (sym held) (c.in-Ok.ensures.kept told) in
+    let used = subst (λ (file : List ℕ). t.kept ≡ [] → scanned t.low t.high (t.limit - t.given) (ahead t (entries (map_of file))) ≡ []) (sym held) (c.in_ok-fill.ensures.kept told) in
     let wanting : t.given < t.limit = omega (arith, on.is_sweep.given_is, c.if-self.false, c.fill.ensures.given, on.same.limit_is, ap (λ (x : SweepView). x.given) c.self.view_is, ap (λ (x : SweepView). x.limit) c.self.view_is) in
     reached t b.held on.is_sweep (on.sweeping (told_on on.steps.frame told)) used c.is_at_hand.result c.is_at_hand.ensures.at_hand wanting
     ∙ (λ i. is_some (slice_get (scan_on s t a.held b.held on.same held i) (c.fill.ensures.given i)))
