@@ -139,8 +139,8 @@ impl OpenArray {
         }
     }
 
-    /// Looks for the keys of a batch, and makes its items if they fit one commit. What `rows` holds then is open.
-    pub(crate) fn try_at_once<S: Station>(
+    // Looks for the keys of a batch, and makes its items if they fit one commit. What `rows` holds then is open.
+    fn try_at_once<S: Station>(
         &mut self,
         station: &mut S,
         intent: &Intent,
@@ -158,7 +158,7 @@ impl OpenArray {
         let segments = &mut segments[..len];
         find_segments(&self.index, intent, segments);
         let mut look = BatchScan::new();
-        match look_over(
+        look_over(
             station,
             &self.place,
             &self.tally,
@@ -168,10 +168,7 @@ impl OpenArray {
             segments,
             &mut look,
             rows,
-        ) {
-            Ok(()) => {}
-            Err(fault) => return Err(fault),
-        }
+        )?;
         let Some(validated) = validate_items(intent, &look.found, self.records(), most) else {
             return Ok(Attempt::Full);
         };
@@ -255,10 +252,8 @@ impl OpenArray {
         let mut charges = 0;
         for i in 0..intent.len() {
             let update = update_in(&intent.item(i));
-            match self.make_item(station, &update, found_of(found, i), rows) {
-                Ok(charge) => charges += charge,
-                Err(fault) => return Err(fault),
-            }
+            let charge = self.make_item(station, &update, found_of(found, i), rows)?;
+            charges += charge;
         }
         match close_intent(station) {
             Ok(()) => Ok(charges),
@@ -283,13 +278,9 @@ impl OpenArray {
         ensures as_found { OnOk result (CountsAsFound found (update_of update.now) self.old.tally self.new.tally) }
         ensures sums { OnOk result (SumsItem found (update_of update.now) (upper_of (limit_of self.old)) (sum self.old.tally.counts) (sum self.new.tally.counts)) }
     {
-        match self.find_as(station, update, found, rows) {
-            Ok(location) => match self.apply_at(station, update, location, rows) {
-                Ok((outcome, report)) => Ok(self.charge_of(outcome, &report)),
-                Err(fault) => Err(fault),
-            },
-            Err(fault) => Err(fault),
-        }
+        let location = self.find_as(station, update, found, rows)?;
+        let (outcome, report) = self.apply_at(station, update, location, rows)?;
+        Ok(self.charge_of(outcome, &report))
     }
 
     // What an update is charged that left the store so.

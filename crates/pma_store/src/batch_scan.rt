@@ -122,10 +122,7 @@ pub(crate) fn look_over<S: Station>(
     frames.start();
     let mut from = 0;
     while let Some(segment) = least_from(segments, from) {
-        match read_rows(station, place, tally, page, segment, rows) {
-            Ok(()) => {}
-            Err(fault) => return Err(fault),
-        }
+        read_rows(station, place, tally, page, segment, rows)?;
         take_in(&place.layout, frames, intent, segments, segment, look, rows);
         from = segment + 1;
     }
@@ -158,10 +155,7 @@ fn read_rows<S: Station>(
     ensures failed { IsErrOf result Failed → Rose (S.view station.old).disk_faults (S.view station.new).disk_faults }
 {
     let kept = kept_count(tally, segment);
-    match page.read(station, &place.layout, place.region, segment, kept) {
-        Ok(()) => {}
-        Err(fault) => return Err(fault),
-    }
+    page.read(station, &place.layout, place.region, segment, kept)?;
     page.rows().copy_into(rows);
     Ok(())
 }
@@ -237,8 +231,8 @@ fn lacks_fence(segment: u32, rows: &Segment) -> bool
     segment > 0 && rows.len() == 0
 }
 
-/// Looks for the keys of the items of segment `n` in its rows, and notes their places.
-pub(crate) fn find_items(
+// Looks for the keys of the items of segment `n` in its rows, and notes their places.
+fn find_items(
     rows: &Segment,
     intent: &Intent,
     segments: &[u32],
@@ -268,13 +262,8 @@ fn find_item(rows: &Segment, item: &Item) -> Result<u32, u32>
     }
 }
 
-/// Whether one of the items of segment `n` edits it: each put does, and each removal of a key that is there.
-pub(crate) fn has_edit(
-    intent: &Intent,
-    segments: &[u32],
-    n: u32,
-    found: &[Result<u32, u32>],
-) -> bool
+// Whether one of the items of segment `n` edits it: each put does, and each removal of a key that is there.
+fn has_edit(intent: &Intent, segments: &[u32], n: u32, found: &[Result<u32, u32>]) -> bool
     requires segments { length segments.now ≡ length intent.now }
     requires room { length intent.now ≤ length found.now }
     ensures some { result ≡ true → HasEdit n segments.now intent.now found.now }
@@ -298,10 +287,10 @@ fn edits_one(item: &Item, found: Result<u32, u32>) -> bool
     }
 }
 
-/// Makes the items of segment `n` in its rows, in their order, where `segments` tells the segment of each item.
-///
-/// `false` where a new record has no room; the rows are then open.
-pub(crate) fn edit_items(rows: &mut Segment, intent: &Intent, segments: &[u32], n: u32) -> bool
+// Makes the items of segment `n` in its rows, in their order, where `segments` tells the segment of each item.
+//
+// `false` where a new record has no room; the rows are then open.
+fn edit_items(rows: &mut Segment, intent: &Intent, segments: &[u32], n: u32) -> bool
     requires { length segments.now ≡ length intent.now }
     ensures rows { result ≡ true → rows.new ≡ edited_by (own_items n segments.now intent.now) rows.old }
     ensures full { result ≡ false → FillsAmid n segments.now intent.now rows.old }
@@ -344,8 +333,8 @@ fn edit_item(rows: &mut Segment, item: &Item) -> bool
     true
 }
 
-/// Adds a segment with these rows to a batch, as its segment `f`. Its number is above those that the batch has.
-pub(crate) fn load_segment(frames: &mut Frames, format: u32, f: u32, segment: u32, rows: &Segment)
+// Adds a segment with these rows to a batch, as its segment `f`. Its number is above those that the batch has.
+fn load_segment(frames: &mut Frames, format: u32, f: u32, segment: u32, rows: &Segment)
     requires held { IsHeld format frames.old }
     requires last { f ≡ length (segments_in format frames.old.numbers) }
     requires room { format * (f + 1) ≤ frames.old.journal }

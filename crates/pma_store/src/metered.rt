@@ -153,14 +153,10 @@ impl Metered {
         ensures images { IfOk result (λ done. (S.view station.new).travel.written ≤ (S.view station.old).travel.written
             + 4101 * self.old.store.place.layout.format * charge_told self.new.store.tally.height (put_changes done.0) done.1) }
     {
-        match self.store.put(station, key, value) {
-            Ok((answer, report)) => {
-                let work = work_of(self.store.height(), has_put(&answer), &report);
-                self.ledger.note(1, charge(work));
-                Ok((answer, report))
-            }
-            Err(fault) => Err(fault),
-        }
+        let (answer, report) = self.store.put(station, key, value)?;
+        let work = work_of(self.store.height(), has_put(&answer), &report);
+        self.ledger.note(1, charge(work));
+        Ok((answer, report))
     }
 
     /// Takes the key's record away, as [`Store::remove`] does.
@@ -196,14 +192,10 @@ impl Metered {
         ensures images { IfOk result (λ done. (S.view station.new).travel.written ≤ (S.view station.old).travel.written
             + 4101 * self.old.store.place.layout.format * charge_told self.new.store.tally.height done.0 done.1) }
     {
-        match self.store.remove(station, key) {
-            Ok((took, report)) => {
-                let work = work_of(self.store.height(), took, &report);
-                self.ledger.note(1, charge(work));
-                Ok((took, report))
-            }
-            Err(fault) => Err(fault),
-        }
+        let (took, report) = self.store.remove(station, key)?;
+        let work = work_of(self.store.height(), took, &report);
+        self.ledger.note(1, charge(work));
+        Ok((took, report))
     }
 
     /// Makes the items of an intent, all of them or none, as [`Store::batch`] does.
@@ -235,15 +227,11 @@ impl Metered {
         ensures notes { Notes (items_made (version_of self.old.store) (limit_of self.old.store) (map_of (S.view station.old).held) intent.now)
             result (made_in (length intent.now)) charge_in self.old self.new (S.view station.old) }
     {
-        match self.store.batch(station, intent) {
-            Ok(done) => {
-                if let Batch::Done { charge, .. } = done {
-                    self.ledger.note(intent.len(), charge);
-                }
-                Ok(done)
-            }
-            Err(fault) => Err(fault),
+        let done = self.store.batch(station, intent)?;
+        if let Batch::Done { charge, .. } = done {
+            self.ledger.note(intent.len(), charge);
         }
+        Ok(done)
     }
 
     /// The value that is bound to the key, as [`Store::get`] finds it.

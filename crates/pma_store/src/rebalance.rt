@@ -107,14 +107,12 @@ impl OpenArray {
         if pick == Pick::Fits {
             return Ok(location);
         }
-        match self.make_ready(station, location.segment, change, pick) {
-            Ok(()) => self.find_again(station, update, rows, change, pick),
-            Err(fault) => Err(fault),
-        }
+        self.make_ready(station, location.segment, change, pick)?;
+        self.find_again(station, update, rows, change, pick)
     }
 
     // Does what a change of a segment asks for.
-    pub(crate) fn make_ready<S: Station>(
+    fn make_ready<S: Station>(
         &mut self,
         station: &mut S,
         segment: u32,

@@ -59,10 +59,8 @@ impl OpenArray {
           marks = resized_marks (self.old.tally.height + 1);
         }) }
     {
-        match self.clear(station) {
-            Ok(()) => self.grow_cleared(station),
-            Err(fault) => Err(fault),
-        }
+        self.clear(station)?;
+        self.grow_cleared(station)
     }
 
     // The same, where no page is to be replayed over the live region.
@@ -118,10 +116,8 @@ impl OpenArray {
           marks = resized_marks (self.old.tally.height - 1);
         }) }
     {
-        match self.clear(station) {
-            Ok(()) => self.shrink_cleared(station),
-            Err(fault) => Err(fault),
-        }
+        self.clear(station)?;
+        self.shrink_cleared(station)
     }
 
     // The same, where no page is to be replayed over the live region.

@@ -52,7 +52,7 @@ impl Store {
     }
 
     // The record with the greatest key that isn't below `low`, is below `past` and is below `high`.
-    pub(crate) fn seek_back<S: Station>(
+    fn seek_back<S: Station>(
         &mut self,
         station: &mut S,
         low: Option<Key>,

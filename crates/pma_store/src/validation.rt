@@ -4,14 +4,13 @@
 
 ghost use Rattle.std.specs.Prelude.{◌≡◌, ◌+◌, ◌*◌, ◌^◌, ◌<◌, ◌≤◌, ℕ, not, length, slice_index_or, true, false, is_ok, IfSome, take, None, All};
 ghost use Rattle.std.specs.FinMap.{len};
-ghost use Rattle.batch_intent.specs.Items as intents;
 ghost use Rattle.batch_intent.specs.Spelling.{IsIntent};
 ghost use Rattle.density_rule.specs.Bounds.{upper_of};
 ghost use Rattle.density_rule.specs.Windows.{IsBalanced};
 ghost use Rattle.key_slot.specs.Record.{IsAscending};
 ghost use Rattle.map_model.specs.Array.{Array, rows};
 ghost use Rattle.map_model.specs.Store.{Map};
-ghost use Rattle.one_commit.specs.Fitting.{changes_in, is_put};
+ghost use Rattle.one_commit.specs.Fitting.{changes_in};
 ghost use Rattle.recovery.specs.Intents.{meets_by, records_by};
 ghost use Rattle.window_tally.specs.View.{IsTally};
 ghost use Rattle.pma_store.specs.AtOnce.{FitsCommit, IsUnfit};
@@ -23,7 +22,7 @@ ghost use Rattle.pma_store.specs.Updating.{update_of};
 use crate::answers::Batch;
 use crate::batch_scan::{BatchScan, MOST};
 use crate::update::{Update, update_in};
-use batch_intent::{Intent, Item};
+use batch_intent::Intent;
 use one_commit::{ItemChange, change_of, fits_one_commit};
 use window_tally::Tally;
 
@@ -157,9 +156,9 @@ pub(crate) fn list_fitting(
     Some(count)
 }
 
-/// Lists what the items change, where `segments` tells the segment of each key, and `found` its place there. Answers how many
-/// these are.
-pub(crate) fn list_changes(
+// Lists what the items change, where `segments` tells the segment of each key, and `found` its place there. Answers how many
+// these are.
+fn list_changes(
     intent: &Intent,
     segments: &[u32],
     found: &[Result<u32, u32>],
@@ -177,7 +176,7 @@ pub(crate) fn list_changes(
     let mut count = 0;
     for i in 0..intent.len() {
         let i = i as usize;
-        let puts = is_put_item(&intent.item(i as u32));
+        let puts = intent.item(i as u32).is_put();
         match change_of(puts, segments[i], found[i]) {
             Some(change) => {
                 changes[count] = change;
@@ -187,14 +186,4 @@ pub(crate) fn list_changes(
         }
     }
     count
-}
-
-// Whether an item is a put.
-fn is_put_item(item: &Item) -> bool
-    ensures { result ≡ is_put (intents.update_of item.now) }
-{
-    match item {
-        Item::Put(_, _) => true,
-        Item::Remove(_) => false,
-    }
 }

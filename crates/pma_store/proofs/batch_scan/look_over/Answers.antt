@@ -1,4 +1,5 @@
 use Rattle.std.proofs.Common.{ℕ, ◌+◌, ◌^◌, ◌<◌, List, length, refl, sym, ap, subst, ◌∙◌, arith}
+use Rattle.std.proofs.lemmas.Result.{err_from_is_err_and}
 use Rattle.std.proofs.Math.Pow.{pow_mono}
 use Rattle.std.proofs.lemmas.Nat.{pow_pos}
 use Rattle.station.specs.declared.travel.Travel.{Travel}
@@ -34,8 +35,10 @@ loop-segment-init g c =
       turn = ap (λ (b : Batch). b.turn) c.start.ensures.after;
     }
 
-pub returns-in-Err-clause-looks : goal.returns-in-Err-clause-looks
-returns-in-Err-clause-looks g c =
+pub returns-in_err-read_rows-clause-looks : goal.returns-in_err-read_rows-clause-looks
+returns-in_err-read_rows-clause-looks g c =
+    let p = err_from_is_err_and c.from_residual.result c.from_residual.ensures.1 in
+    rw (p.1, p.2) (
     let is = c.loop-segment.invariant in
     let more = reads_more c.args.place.now c.args.segments.now c.loop-segment.from c.in-Some.segment (g.S.Station.view c.args.station.now) (g.S.Station.view c.loop-segment.station) (g.S.Station.view c.read_rows.new.station) is.reads.0 c.in-Some.ensures c.read_rows.ensures.reads c.read_rows.ensures.calls in
     record {
@@ -48,10 +51,10 @@ returns-in-Err-clause-looks g c =
       few = tt;
       steps = same_on is.steps c.read_rows.ensures.steps;
       unwritten = ap (λ (t : Travel). t.written) c.read_rows.ensures.reads ∙ is.unwritten;
-      damaged = λ told. c.in-Err.ensures.damaged (told_on is.steps.frame told);
-      met = c.in-Err.ensures.met;
-      failed = λ failed. omega (arith, c.in-Err.ensures.failed failed, is.steps.frame.disk_faults);
-    }
+      damaged = λ told. c.in_err-read_rows.ensures.damaged (told_on is.steps.frame told);
+      met = c.in_err-read_rows.ensures.met;
+      failed = λ failed. omega (arith, c.in_err-read_rows.ensures.failed failed, is.steps.frame.disk_faults);
+    })
 
 pub take_in-requires-clause-may : goal.take_in-requires-clause-may
 take_in-requires-clause-may g c = record {
@@ -65,7 +68,7 @@ take_in-requires-clause-may g c = record {
     pow_mono {i = c.args.tally.now.height} {j = height_limit c.args.place.now.layout} c.requires.tall,
   );
   loaded = loads_later c.args.place.now.layout.format c.loop-segment.from c.in-Some.segment c.loop-segment.frames c.loop-segment.look c.in-Some.ensures.above c.loop-segment.invariant.loaded;
-  fits = c.in-Ok.ensures.fits;
+  fits = c.in_ok-read_rows.ensures.fits;
   room = c.requires.items;
 }
 
@@ -88,7 +91,7 @@ loop-segment-preserved g c =
           let array = array_of a.held in
           let some : 0 < length array = omega (arith, size_of place.layout place.region tally.height tally.counts a.held stands, pow_pos tally.height) in
           let ascends = rows_ascend place.layout place.region tally.height tally.counts a.held stands in
-          let own = c.in-Ok.ensures.rows (told_on is.steps.frame told) ∙ ap (λ (x : List ℕ). segment_at (array_of x) c.in-Some.segment) (is.steps.held told) in
+          let own = c.in_ok-read_rows.ensures.rows (told_on is.steps.frame told) ∙ ap (λ (x : List ℕ). segment_at (array_of x) c.in-Some.segment) (is.steps.held told) in
           c.take_in.ensures.looked array some ascends (c.requires.belong told) own
           (looks_later place.layout.format array c.args.segments.now c.args.intent.now some ascends c.requires.intent.distinct c.requires.segments (c.requires.belong told) c.loop-segment.from c.in-Some.segment c.loop-segment.frames c.loop-segment.look (λ k lt le. least.lowest k lt le) (is.looked told));
       used = λ told.
@@ -96,7 +99,7 @@ loop-segment-preserved g c =
           let array = array_of a.held in
           let inside : c.in-Some.segment < length array = omega (arith, size_of place.layout place.region tally.height tally.counts a.held stands, c.requires.within least.at least.inside, least.is) in
           let ascends = rows_ascend place.layout place.region tally.height tally.counts a.held stands in
-          let own = c.in-Ok.ensures.rows (told_on is.steps.frame told) ∙ ap (λ (x : List ℕ). segment_at (array_of x) c.in-Some.segment) (is.steps.held told) in
+          let own = c.in_ok-read_rows.ensures.rows (told_on is.steps.frame told) ∙ ap (λ (x : List ℕ). segment_at (array_of x) c.in-Some.segment) (is.steps.held told) in
           c.take_in.ensures.used array inside ascends (c.requires.belong told) own (is.used told);
       journal = c.take_in.ensures.journal ∙ is.journal;
       turn = c.take_in.ensures.turn ∙ is.turn;

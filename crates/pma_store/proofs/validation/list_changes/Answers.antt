@@ -1,10 +1,11 @@
 use Rattle.std.proofs.Common.{◌≡◌, ℕ, ◌+◌, ◌<◌, List, [], ◌∷◌, ◌++◌, All, length, take, get_or, Result, Err, Some, refl, sym, ap, subst, ◌∙◌, arith}
 use Rattle.std.specs.Prelude.{is_ok, IfOk}
+use Rattle.batch_intent.specs.Items.{is_put as is_put_of}
 use Rattle.std.proofs.lemmas.Grind.{take-set_at}
 use Rattle.std.proofs.lemmas.List.{append-nil, length-set, take_all}
 use Rattle.key_slot.specs.Record.{IsAscending}
 use Rattle.map_model.specs.Array.{Array, rows, segment_at}
-use Rattle.map_model.specs.Store.{Update, unbind, key_of}
+use Rattle.map_model.specs.Store.{Update, bind, unbind, key_of}
 use Rattle.one_commit.specs.declared.changes.ItemChange.{ItemChange}
 use Rattle.one_commit.specs.Fitting.{change_before, changes_in, is_put, with_change}
 use Rattle.segment.specs.Rows.{key_at}
@@ -19,6 +20,11 @@ use Rattle.pma_store.proofs.validation.list_changes.Goals.{in-Some, in-None}
 abbrev none : Update
 none = unbind []
 
+-- an intent calls the same items puts
+same_put : (u : Update) → is_put_of u ≡ is_put u
+same_put (bind key value) = refl
+same_put (unbind key) = refl
+
 pub loop-i-preserved : goal.loop-i-preserved
 loop-i-preserved c =
     let items = c.args.intent.now in
@@ -29,11 +35,11 @@ loop-i-preserved c =
     let lt : i < length items = omega (arith, c.len-i-end.ensures.count, c.loop-i-test.true) in
     let few : i < 16 = omega (arith, lt, c.len-i-end.ensures.intent.most) in
     let there : i < length found = omega (arith, few, c.requires.found) in
-    let puts : is_put (get_or items i none) ≡ c.is_put_item-puts.result = sym (c.is_put_item-puts.ensures ∙ ap is_put (c.item.ensures none)) in
+    let puts : is_put (get_or items i none) ≡ c.is_put-puts.result = sym (c.is_put-puts.ensures ∙ same_put _ ∙ ap is_put (c.item.ensures none)) in
     let more = λ (array : Array) (n : ℕ) (some : 0 < length array) (ascends : IsAscending (rows array)) (belong : BelongThere array numbers items) (small : (k : ℕ) → k < length numbers → get_or numbers k 0 < n) (finds : HasFound array numbers items found n).
-    change_is array numbers items found n some ascends belong finds i none lt (small i (omega (arith, lt, c.requires.segments))) c.is_put_item-puts.result puts (get_or found i (Err 0)) refl c.change_of.result
+    change_is array numbers items found n some ascends belong finds i none lt (small i (omega (arith, lt, c.requires.segments))) c.is_put-puts.result puts (get_or found i (Err 0)) refl c.change_of.result
     (λ at ascending place. subst (λ (x : Result ℕ ℕ). change_before (is_ok x) array (get_or items i none) [] ≡ with_change c.change_of.result []) (get_or_default found i (_) (Err 0) there) (c.change_of.ensures.change array (get_or items i none) [] puts at ascending (subst (λ (x : Result ℕ ℕ). IfOk x (λ place. key_at (segment_at array (get_or numbers i 0)) place ≡ Some (key_of (get_or items i none)))) (get_or_default found i (Err 0) (_) there) place))) in
-    let counted = counted_more items (λ k. is_ok (get_or found k (Err 0))) i (take c.loop-i.count c.loop-i.changes) is.counted c.is_put_item-puts.result puts _ (ap is_ok (get_or_default found i _ (Err 0) there)) _ c.change_of.result c.change_of.ensures.change in
+    let counted = counted_more items (λ k. is_ok (get_or found k (Err 0))) i (take c.loop-i.count c.loop-i.changes) is.counted c.is_put-puts.result puts _ (ap is_ok (get_or_default found i _ (Err 0) there)) _ c.change_of.result c.change_of.ensures.change in
     elim c.match-change_of.branch [
       | in-Some w ↦
           let room : c.loop-i.count < length c.loop-i.changes = omega (arith, is.few, few, is.size) in

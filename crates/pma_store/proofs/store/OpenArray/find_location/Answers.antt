@@ -1,5 +1,6 @@
 use Rattle.std.proofs.Common.{◌≡◌, inl, ℕ, ◌<◌, ◌^◌, List, length, refl, sym, ap, ◌∙◌, subst, arith}
 use Rattle.std.specs.Prelude.{Ok, Some, IfOk, IfErr, is_some}
+use Rattle.std.proofs.lemmas.Result.{err_from_is_err_and}
 use Rattle.key_slot.specs.Record.{Record}
 use Rattle.station.specs.View.{Told}
 use Rattle.station.specs.declared.travel.Travel.{Travel}
@@ -60,7 +61,7 @@ returns-clause-found g c =
     let is_location : IsLocation u s location rows = record {
       within = within_it;
       there = there;
-      count = c.in-Ok.ensures.count ∙ c.kept_count-kept.ensures ∙ ap (count_in s.tally.counts 0) (sym here_is) ∙ count_in-segment s.tally.counts location.segment there;
+      count = c.in_ok-read.ensures.count ∙ c.kept_count-kept.ensures ∙ ap (count_in s.tally.counts 0) (sym here_is) ∙ count_in-segment s.tally.counts location.segment there;
       ascending = c.read.ensures.fits.ascending;
       fits = c.read.ensures.fits.records;
       key = subst (λ (rs : List Record). IfOk location.found (λ place. key_at rs place ≡ Some (key_of u))) read_rows c.location_in.ensures.key;
@@ -69,7 +70,7 @@ returns-clause-found g c =
     } in
     let own : Told a → IsOwn u location rows a.held = λ (told : Told a). record {
       segment_is = here_is ∙ found_is s a.held (stands g here told) c.key.result.now at c.find_segment-segment.ensures.found ∙ ap (segment_for (array_of a.held)) c.key.ensures;
-      rows_are = c.in-Ok.ensures.rows told ∙ segment_is s.place.layout s.place.region s.tally.height s.tally.counts a.held (stands g here told).balanced.stands (readable g here told) at (within g here) ∙ ap (segment_at (array_of a.held)) (sym here_is);
+      rows_are = c.in_ok-read.ensures.rows told ∙ segment_is s.place.layout s.place.region s.tally.height s.tally.counts a.held (stands g here told).balanced.stands (readable g here told) at (within g here) ∙ ap (segment_at (array_of a.held)) (sym here_is);
     } in
     subst (λ (rs : List Record). FindsLocation u (Ok location) c.args.self.now s rs a b) (sym (c.location_in.ensures.rows ∙ read_rows)) (record {
       location = is_location;
@@ -88,14 +89,16 @@ returns-clause-found g c =
       unwritten = ap (λ (t : Travel). t.written) c.read.ensures.reads;
     })
 
-pub returns-in-Err-clause-found : goal.returns-in-Err-clause-found
-returns-in-Err-clause-found g c =
-    let here = (goal.at.returns-in-Err-clause-found g c).After-read in
+pub returns-in_err-read-clause-found : goal.returns-in_err-read-clause-found
+returns-in_err-read-clause-found g c =
+    let p = err_from_is_err_and c.from_residual.result c.from_residual.ensures.1 in
+    rw (p.1, p.2) (
+    let here = (goal.at.returns-in_err-read-clause-found g c).After-read in
     let a = g.S.Station.view c.args.station.now in
     let b = g.S.Station.view c.read.new.station in
     let s = view_of c.self.inside in
     let at = c.find_segment-segment.result in
-    let found = c.in-Err.ensures.damaged in
+    let found = c.in_err-read.ensures.damaged in
     record {
       location = tt;
       own = tt;
@@ -104,14 +107,17 @@ returns-in-Err-clause-found g c =
       at_own = λ told. found_is s a.held (stands g here told) c.key.result.now at c.find_segment-segment.ensures.found ∙ ap (segment_for (array_of a.held)) c.key.ensures;
       at_is = tt;
       read = subst (λ (v : StoreView). b.travel ≡ after_read (segment_place v.place.layout v.place.region at) (segment_size v.place.layout) a.travel) c.self.view_is c.read.ensures.reads;
-      damage = subst (λ (v : StoreView). IsDamageAt at v.tally.counts c.in-Err.fault) c.self.view_is (own_damage s.tally.counts at c.kept_count-kept.result c.in-Err.fault c.kept_count-kept.ensures found.own);
+      damage = subst (λ (v : StoreView). IsDamageAt at v.tally.counts c.in_err-read.field-0.0) c.self.view_is (own_damage s.tally.counts at c.kept_count-kept.result c.in_err-read.field-0.0 c.kept_count-kept.ensures found.own);
       calls = c.read.ensures.calls;
-      damaged = only_failed s.place.layout s.place.region s.tally.height s.tally.counts at c.kept_count-kept.result c.in-Err.fault a b (λ told. (stands g here told).balanced.stands) (readable g here) (within g here) c.kept_count-kept.ensures found;
-      failed = by_disk c.in-Err.fault found.failed;
+      damaged = only_failed s.place.layout s.place.region s.tally.height s.tally.counts at c.kept_count-kept.result c.in_err-read.field-0.0 a b (λ told. (stands g here told).balanced.stands) (readable g here) (within g here) c.kept_count-kept.ensures found;
+      failed = by_disk c.in_err-read.field-0.0 found.failed;
       store = c.self.view_is;
       steps = c.read.ensures.steps;
       unwritten = ap (λ (t : Travel). t.written) c.read.ensures.reads;
-    }
+    })
 
-pub returns-in-Err-clause-orderly : goal.returns-in-Err-clause-orderly
-returns-in-Err-clause-orderly g c = own_orderly c.find_segment-segment.result c.kept_count-kept.result c.in-Err.fault c.in-Err.ensures.damaged.own
+pub returns-in_err-read-clause-orderly : goal.returns-in_err-read-clause-orderly
+returns-in_err-read-clause-orderly g c =
+    let p = err_from_is_err_and c.from_residual.result c.from_residual.ensures.1 in
+    rw (p.1, p.2) (
+    own_orderly c.find_segment-segment.result c.kept_count-kept.result c.in_err-read.field-0.0 c.in_err-read.ensures.damaged.own)

@@ -1,4 +1,5 @@
 use Rattle.std.proofs.Common.{Bool, Option, Some, None, sym, ap, subst, ◌∙◌}
+use Rattle.std.proofs.lemmas.Result.{err_from_is_err_and}
 use Rattle.std.specs.Prelude.{is_ok, sum}
 use Rattle.density_rule.specs.Bounds.{upper_of}
 use Rattle.pma_store.specs.Items.{ChangesNone, CountsAsFound, IsAsFound}
@@ -14,42 +15,47 @@ use Rattle.pma_store.proofs.store.OpenArray.make_item.Goals as goal
 
 pub apply_at-requires-clause-on : goal.apply_at-requires-clause-on
 apply_at-requires-clause-on g c =
-    let first = c.in-Ok.ensures.location in
+    let first = c.in_ok-location.ensures.location in
     subst (λ (s : StoreView). StandsOn s (g.S.Station.view c.find_as.new.station)) (sym first.store) (stands_on c.args.self.now (g.met.S.Station.lawful c.args.station.now) c.requires.on first.steps)
 
-pub returns-in-Ok-apply_at-clause-made : goal.returns-in-Ok-apply_at-clause-made
-returns-in-Ok-apply_at-clause-made g c =
+pub returns-clause-made : goal.returns-clause-made
+returns-clause-made g c =
     let u = update_of c.args.update.now in
-    applied_item u c.in-Ok-apply_at.outcome c.in-Ok-apply_at.report c.charge_of.result c.args.self.now c.apply_at.new.self (subst IsStore c.find_as.ensures.location.store c.find_as.ensures.store)
+    applied_item u c.in_ok-outcome.outcome c.in_ok-outcome.report c.charge_of.result c.args.self.now c.apply_at.new.self (subst IsStore c.find_as.ensures.location.store c.find_as.ensures.store)
     (slot_format c.args.self.now c.find_as.new.self c.find_as.ensures.location.store c.find_as.ensures.store) c.requires.on
-    (applied_behind u c.in-Ok.location _ c.args.self.now c.find_as.new.self c.apply_at.new.self c.find_as.new.rows c.in-Ok.ensures.location c.in-Ok-apply_at.ensures.applied)
-    (then_met u c.in-Ok.location _ (λ done. moved u done.0) (λ done. done.1) c.args.self.now c.find_as.new.self c.apply_at.new.self c.find_as.new.rows c.in-Ok.ensures.location c.in-Ok-apply_at.ensures.within)
+    (applied_behind u c.in_ok-location.location _ c.args.self.now c.find_as.new.self c.apply_at.new.self c.find_as.new.rows c.in_ok-location.ensures.location c.in_ok-outcome.ensures.applied)
+    (then_met u c.in_ok-location.location _ (λ done. moved u done.0) (λ done. done.1) c.args.self.now c.find_as.new.self c.apply_at.new.self c.find_as.new.rows c.in_ok-location.ensures.location c.in_ok-outcome.ensures.within)
     c.charge_of.ensures.charge c.charge_of.ensures.small
 
-pub returns-in-Err-apply_at-clause-made : goal.returns-in-Err-apply_at-clause-made
-returns-in-Err-apply_at-clause-made g c =
+pub returns-in_err-outcome-clause-made : goal.returns-in_err-outcome-clause-made
+returns-in_err-outcome-clause-made g c =
+    let p = err_from_is_err_and c.from_residual-in_err-outcome.result c.from_residual-in_err-outcome.ensures.1 in
+    rw (p.1, p.2) (
     let u = update_of c.args.update.now in
-    failed_item u c.in-Err-apply_at.fault c.args.self.now c.apply_at.new.self (subst IsStore c.find_as.ensures.location.store c.find_as.ensures.store)
-    (applied_behind u c.in-Ok.location _ c.args.self.now c.find_as.new.self c.apply_at.new.self c.find_as.new.rows c.in-Ok.ensures.location c.in-Err-apply_at.ensures.applied)
-    (then_met u c.in-Ok.location _ (λ done. moved u done.0) (λ done. done.1) c.args.self.now c.find_as.new.self c.apply_at.new.self c.find_as.new.rows c.in-Ok.ensures.location c.in-Err-apply_at.ensures.within)
+    failed_item u c.in_err-outcome.field-0.0 c.args.self.now c.apply_at.new.self (subst IsStore c.find_as.ensures.location.store c.find_as.ensures.store)
+    (applied_behind u c.in_ok-location.location _ c.args.self.now c.find_as.new.self c.apply_at.new.self c.find_as.new.rows c.in_ok-location.ensures.location c.in_err-outcome.ensures.applied)
+    (then_met u c.in_ok-location.location _ (λ done. moved u done.0) (λ done. done.1) c.args.self.now c.find_as.new.self c.apply_at.new.self c.find_as.new.rows c.in_ok-location.ensures.location c.in_err-outcome.ensures.within))
 
-pub returns-in-Err-clause-made : goal.returns-in-Err-clause-made
-returns-in-Err-clause-made g c = unfound_item (update_of c.args.update.now) c.in-Err.fault c.args.self.now c.find_as.new.self c.find_as.new.rows (subst IsStore c.find_as.ensures.location.store c.find_as.ensures.store) c.in-Err.ensures.location
+pub returns-in_err-location-clause-made : goal.returns-in_err-location-clause-made
+returns-in_err-location-clause-made g c =
+    let p = err_from_is_err_and c.from_residual.result c.from_residual.ensures.1 in
+    rw (p.1, p.2) (
+    unfound_item (update_of c.args.update.now) c.in_err-location.field-0.0 c.args.self.now c.find_as.new.self c.find_as.new.rows (subst IsStore c.find_as.ensures.location.store c.find_as.ensures.store) c.in_err-location.ensures.location)
 
 -- counts stay where nothing of its kind was found
-pub returns-in-Ok-apply_at-clause-as_found : goal.returns-in-Ok-apply_at-clause-as_found
-returns-in-Ok-apply_at-clause-as_found g c = by c.args.found c.in-Ok.ensures.as_found
+pub returns-clause-as_found : goal.returns-clause-as_found
+returns-clause-as_found g c = by c.args.found c.in_ok-location.ensures.as_found
   where
-    by : (o : Option Bool) → IsAsFound o (is_ok c.in-Ok.location.found) → CountsAsFound o (update_of c.args.update.now) c.args.self.now.tally c.apply_at.new.self.tally
+    by : (o : Option Bool) → IsAsFound o (is_ok c.in_ok-location.location.found) → CountsAsFound o (update_of c.args.update.now) c.args.self.now.tally c.apply_at.new.self.tally
     by None same = tt
-    by (Some present) same = λ none. c.in-Ok-apply_at.ensures.counts (subst (ChangesNone (update_of c.args.update.now)) (sym same) none) ∙ ap (λ (v : StoreView). v.tally) c.find_as.ensures.location.store
+    by (Some present) same = λ none. c.in_ok-outcome.ensures.counts (subst (ChangesNone (update_of c.args.update.now)) (sym same) none) ∙ ap (λ (v : StoreView). v.tally) c.find_as.ensures.location.store
 
 -- and the number of records goes by what was found
-pub returns-in-Ok-apply_at-clause-sums : goal.returns-in-Ok-apply_at-clause-sums
-returns-in-Ok-apply_at-clause-sums g c = by c.args.found c.in-Ok.ensures.as_found
+pub returns-clause-sums : goal.returns-clause-sums
+returns-clause-sums g c = by c.args.found c.in_ok-location.ensures.as_found
   where
-    by : (o : Option Bool) → IsAsFound o (is_ok c.in-Ok.location.found) → SumsItem o (update_of c.args.update.now) (upper_of (limit_of c.args.self.now)) (sum c.args.self.now.tally.counts) (sum c.apply_at.new.self.tally.counts)
+    by : (o : Option Bool) → IsAsFound o (is_ok c.in_ok-location.location.found) → SumsItem o (update_of c.args.update.now) (upper_of (limit_of c.args.self.now)) (sum c.args.self.now.tally.counts) (sum c.apply_at.new.self.tally.counts)
     by None same = tt
     by (Some present) same =
         subst (λ (b : Bool). SumsItem (Some b) (update_of c.args.update.now) (upper_of (limit_of c.args.self.now)) (sum c.args.self.now.tally.counts) (sum c.apply_at.new.self.tally.counts)) same
-        (subst (λ (s : StoreView). SumsItem (Some (is_ok c.in-Ok.location.found)) (update_of c.args.update.now) (upper_of (limit_of s)) (sum s.tally.counts) (sum c.apply_at.new.self.tally.counts)) c.find_as.ensures.location.store c.in-Ok-apply_at.ensures.sums)
+        (subst (λ (s : StoreView). SumsItem (Some (is_ok c.in_ok-location.location.found)) (update_of c.args.update.now) (upper_of (limit_of s)) (sum s.tally.counts) (sum c.apply_at.new.self.tally.counts)) c.find_as.ensures.location.store c.in_ok-outcome.ensures.sums)

@@ -1,4 +1,5 @@
 use Rattle.std.proofs.Common.{◌≡◌, ℕ, suc, ◌+◌, ◌<◌, ◌%◌, [], Bool, Option, Ok, Err, length, get_or, ap, subst, sym, ◌∙◌, arith}
+use Rattle.std.proofs.lemmas.Result.{err_from_is_err_and}
 use Rattle.std.specs.Prelude.{is_some, sum}
 use Rattle.batch_intent.specs.Spelling.{fits_item}
 use Rattle.batch_intent.proofs.Kept.{all_at}
@@ -45,8 +46,10 @@ make_item-requires-clause-found g c told =
     subst (λ (o : Option Bool). IsAsFound o (is_some (value_of (key_of (update_of c.update_in-update.result)) (segment_at segments (segment_for segments (key_of (update_of c.update_in-update.result))))))) (sym c.found_of.ensures)
     (subst (λ (u : Update). IsAsFound (found_at c.args.found i) (is_some (value_of (key_of u) (segment_at segments (segment_for segments (key_of u)))))) (sym item) own)
 
-pub returns-in-Err-clause-made : goal.returns-in-Err-clause-made
-returns-in-Err-clause-made g c =
+pub returns-in_err-charge-clause-made : goal.returns-in_err-charge-clause-made
+returns-in_err-charge-clause-made g c =
+    let p = err_from_is_err_and c.from_residual.result c.from_residual.ensures.1 in
+    rw (p.1, p.2) (
     let items = c.args.intent.now in
     let d : Update = unbind [] in
     let i = c.loop-i.i in
@@ -55,7 +58,7 @@ returns-in-Err-clause-made g c =
     let a = g.S.Station.view c.args.station.now in
     let b = g.S.Station.view c.loop-i.station in
     let e = g.S.Station.view c.make_item.new.station in
-    one_fails items i c.loop-i.charges c.args.self.now c.loop-i.self c.make_item.new.self a b e c.loop-i.invariant.made d lt c.in-Err.fault c.len-i-end.ensures.intent.most (subst (λ (u : Update). MakesItem u (Err c.in-Err.fault) c.loop-i.self c.make_item.new.self b e) item c.in-Err.ensures.made)
+    one_fails items i c.loop-i.charges c.args.self.now c.loop-i.self c.make_item.new.self a b e c.loop-i.invariant.made d lt c.in_err-charge.field-0.0 c.len-i-end.ensures.intent.most (subst (λ (u : Update). MakesItem u (Err c.in_err-charge.field-0.0) c.loop-i.self c.make_item.new.self b e) item c.in_err-charge.ensures.made))
 
 pub loop-i-preserved : goal.loop-i-preserved
 loop-i-preserved g c =
@@ -69,38 +72,38 @@ loop-i-preserved g c =
     let e = g.S.Station.view c.make_item.new.station in
     let next : suc i ≡ i + 1 = omega arith in
     record {
-      made = subst (λ (n : ℕ). HasMade items n (c.loop-i.charges + c.in-Ok.charge) c.args.self.now c.make_item.new.self a e) next
-          (one_more items i c.loop-i.charges c.args.self.now c.loop-i.self c.make_item.new.self a b e c.loop-i.invariant.made d lt c.in-Ok.charge (g.met.S.Station.lawful c.make_item.new.station)
-          (subst (λ (u : Update). MakesItem u (Ok c.in-Ok.charge) c.loop-i.self c.make_item.new.self b e) item c.in-Ok.ensures.made));
+      made = subst (λ (n : ℕ). HasMade items n (c.loop-i.charges + c.in_ok-charge.charge) c.args.self.now c.make_item.new.self a e) next
+          (one_more items i c.loop-i.charges c.args.self.now c.loop-i.self c.make_item.new.self a b e c.loop-i.invariant.made d lt c.in_ok-charge.charge (g.met.S.Station.lawful c.make_item.new.station)
+          (subst (λ (u : Update). MakesItem u (Ok c.in_ok-charge.charge) c.loop-i.self c.make_item.new.self b e) item c.in_ok-charge.ensures.made));
       sums =
           let same : limit_of c.loop-i.self ≡ limit_of c.args.self.now = ap height_limit c.loop-i.invariant.made.layout in
           next_sums c.args.found items i (upper_of (limit_of c.args.self.now)) (sum c.args.self.now.tally.counts) (sum c.loop-i.self.tally.counts) (sum c.make_item.new.self.tally.counts) lt c.loop-i.invariant.sums
           (subst (λ (h : ℕ). SumsItem (found_at c.args.found i) (get_or items i d) (upper_of h) (sum c.loop-i.self.tally.counts) (sum c.make_item.new.self.tally.counts)) same
           (subst (λ (u : Update). SumsItem (found_at c.args.found i) u (upper_of (limit_of c.loop-i.self)) (sum c.loop-i.self.tally.counts) (sum c.make_item.new.self.tally.counts)) item
-          (subst (λ (o : Option Bool). SumsItem o (update_of c.update_in-update.result) (upper_of (limit_of c.loop-i.self)) (sum c.loop-i.self.tally.counts) (sum c.make_item.new.self.tally.counts)) c.found_of.ensures c.in-Ok.ensures.sums)));
+          (subst (λ (o : Option Bool). SumsItem o (update_of c.update_in-update.result) (upper_of (limit_of c.loop-i.self)) (sum c.loop-i.self.tally.counts) (sum c.make_item.new.self.tally.counts)) c.found_of.ensures c.in_ok-charge.ensures.sums)));
     }
 
-pub returns-in-Ok-close_intent-clause-made : goal.returns-in-Ok-close_intent-clause-made
-returns-in-Ok-close_intent-clause-made g c =
+pub returns-in-Ok-clause-made : goal.returns-in-Ok-clause-made
+returns-in-Ok-clause-made g c =
     let items = c.args.intent.now in
     let a = g.S.Station.view c.args.station.now in
     let b = g.S.Station.view c.loop-i.station in
     let e = g.S.Station.view c.close_intent.new.station in
     let end : c.loop-i.i ≡ length items = omega (arith, c.len-i-end.ensures.count, c.loop-i-test.false) in
     let made = subst (λ (n : ℕ). HasMade items n c.loop-i.charges c.args.self.now c.loop-i.self a b) end c.loop-i.invariant.made in
-    all_made items c.loop-i.charges c.args.self.now c.loop-i.self a b e made c.close_intent.ensures.steps c.close_intent.ensures.cost c.close_intent.ensures.calls c.len-i-end.ensures.intent.most (g.met.S.Station.lawful c.close_intent.new.station) c.in-Ok-close_intent.ensures.settled
-    (rests_closed c.loop-i.self.place.layout c.loop-i.self.turn (g.met.S.Station.lawful c.close_intent.new.station) made.on.rests c.in-Ok-close_intent.ensures.settled c.close_intent.ensures.steps)
-    (λ told. ap (λ (n : ℕ). n % 2) (c.in-Ok-close_intent.ensures.closed told))
+    all_made items c.loop-i.charges c.args.self.now c.loop-i.self a b e made c.close_intent.ensures.steps c.close_intent.ensures.cost c.close_intent.ensures.calls c.len-i-end.ensures.intent.most (g.met.S.Station.lawful c.close_intent.new.station) c.in-Ok.ensures.settled
+    (rests_closed c.loop-i.self.place.layout c.loop-i.self.turn (g.met.S.Station.lawful c.close_intent.new.station) made.on.rests c.in-Ok.ensures.settled c.close_intent.ensures.steps)
+    (λ told. ap (λ (n : ℕ). n % 2) (c.in-Ok.ensures.closed told))
 
-pub returns-in-Err-close_intent-clause-made : goal.returns-in-Err-close_intent-clause-made
-returns-in-Err-close_intent-clause-made g c =
+pub returns-in-Err-clause-made : goal.returns-in-Err-clause-made
+returns-in-Err-clause-made g c =
     let items = c.args.intent.now in
     let a = g.S.Station.view c.args.station.now in
     let b = g.S.Station.view c.loop-i.station in
     let e = g.S.Station.view c.close_intent.new.station in
     let end : c.loop-i.i ≡ length items = omega (arith, c.len-i-end.ensures.count, c.loop-i-test.false) in
     let made = subst (λ (n : ℕ). HasMade items n c.loop-i.charges c.args.self.now c.loop-i.self a b) end c.loop-i.invariant.made in
-    not_closed items c.loop-i.charges c.args.self.now c.loop-i.self a b e made c.close_intent.ensures.steps c.close_intent.ensures.cost c.close_intent.ensures.calls c.len-i-end.ensures.intent.most c.in-Err-close_intent.ensures.cause
+    not_closed items c.loop-i.charges c.args.self.now c.loop-i.self a b e made c.close_intent.ensures.steps c.close_intent.ensures.cost c.close_intent.ensures.calls c.len-i-end.ensures.intent.most c.in-Err.ensures.cause
 
-pub returns-in-Ok-close_intent-clause-sums : goal.returns-in-Ok-close_intent-clause-sums
-returns-in-Ok-close_intent-clause-sums g c = all_sums c.args.found c.args.intent.now c.loop-i.i _ _ _ (omega (arith, c.len-i-end.ensures.count, c.loop-i-test.false)) c.loop-i.invariant.sums
+pub returns-in-Ok-clause-sums : goal.returns-in-Ok-clause-sums
+returns-in-Ok-clause-sums g c = all_sums c.args.found c.args.intent.now c.loop-i.i _ _ _ (omega (arith, c.len-i-end.ensures.count, c.loop-i-test.false)) c.loop-i.invariant.sums

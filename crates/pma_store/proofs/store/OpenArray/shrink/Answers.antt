@@ -1,6 +1,6 @@
 use Rattle.std.proofs.Common.{◌≡◌, ◌⊎◌, ◌-◌, ◌≤◌, inl, ap, refl, sym, subst, ◌∙◌, arith}
 use Rattle.std.specs.Prelude.{sum, OnOk, IfErr}
-use Rattle.std.proofs.lemmas.Result.{on_ok_weaker}
+use Rattle.std.proofs.lemmas.Result.{on_ok_weaker, err_from_is_err_and}
 use Rattle.station.specs.View.{Told}
 use Rattle.station.proofs.Composition.{told_on}
 use Rattle.density_rule.specs.Bounds.{IsInBounds}
@@ -25,10 +25,10 @@ pub shrink_cleared-requires-clause-bounds : goal.shrink_cleared-requires-clause-
 shrink_cleared-requires-clause-bounds g c = subst (λ (v : StoreView). IsInBounds (v.tally.height - 1) (v.tally.height - 1) (sum v.tally.counts)) (sym c.clear.ensures.turned) c.requires.bounds
 
 pub shrink_cleared-requires-clause-bare : goal.shrink_cleared-requires-clause-bare
-shrink_cleared-requires-clause-bare g c = subst (λ (v : StoreView). Told (g.S.Station.view c.clear.new.station) → IsBare v.place.layout (g.S.Station.view c.clear.new.station).held) (sym c.clear.ensures.turned) c.in-Ok.ensures.bare
+shrink_cleared-requires-clause-bare g c = subst (λ (v : StoreView). Told (g.S.Station.view c.clear.new.station) → IsBare v.place.layout (g.S.Station.view c.clear.new.station).held) (sym c.clear.ensures.turned) c.in_ok-clear.ensures.bare
 
-pub returns-in-Ok-clause-kept : goal.returns-in-Ok-clause-kept
-returns-in-Ok-clause-kept g c =
+pub returns-clause-kept : goal.returns-clause-kept
+returns-clause-kept g c =
     let s = c.args.self.now in
     let t = c.clear.new.self in
     let b = g.S.Station.view c.clear.new.station in
@@ -37,30 +37,36 @@ returns-in-Ok-clause-kept g c =
     let own = subst (λ (v : StoreView). KeepsStore c.shrink_cleared.result (copying_cost v.place.layout (v.tally.height - 1)) (copying_calls v.place.layout v.tally.height (v.tally.height - 1)) v c.shrink_cleared.new.self b d) c.clear.ensures.turned c.shrink_cleared.ensures.kept in
     keeps_behind c.shrink_cleared.result (clear_cost s.place.layout) (copying_cost s.place.layout (s.tally.height - 1)) (clear_calls s.place.layout) (copying_calls s.place.layout s.tally.height (s.tally.height - 1)) s (record s { turn = t.turn }) c.shrink_cleared.new.self refl refl first.steps first.cost first.calls own
 
-pub returns-in-Ok-clause-among : goal.returns-in-Ok-clause-among
-returns-in-Ok-clause-among g c = subst (λ (v : StoreView). IfErr c.shrink_cleared.result (λ fault. (fault ≡ Failed) ⊎ IsMetAmong v.tally fault)) c.clear.ensures.turned c.shrink_cleared.ensures.among
+pub returns-clause-among : goal.returns-clause-among
+returns-clause-among g c = subst (λ (v : StoreView). IfErr c.shrink_cleared.result (λ fault. (fault ≡ Failed) ⊎ IsMetAmong v.tally fault)) c.clear.ensures.turned c.shrink_cleared.ensures.among
 
-pub returns-in-Ok-clause-place : goal.returns-in-Ok-clause-place
-returns-in-Ok-clause-place g c =
+pub returns-clause-place : goal.returns-clause-place
+returns-clause-place g c =
     on_ok_weaker c.shrink_cleared.result (place_cleared c.args.self.now c.clear.new.self c.shrink_cleared.new.self (ap (λ (v : StoreView). v.place) c.clear.ensures.turned) c.clear.ensures.touched) c.shrink_cleared.ensures.place
 
-pub returns-in-Ok-clause-array : goal.returns-in-Ok-clause-array
-returns-in-Ok-clause-array g c =
+pub returns-clause-array : goal.returns-clause-array
+returns-clause-array g c =
     on_ok_weaker c.shrink_cleared.result (λ array told.
     array (told_on c.clear.ensures.kept.steps.frame told)
-    ∙ ap (λ (x : Array). resized x (c.clear.new.self.tally.height - 1)) (c.in-Ok.ensures.array told)
+    ∙ ap (λ (x : Array). resized x (c.clear.new.self.tally.height - 1)) (c.in_ok-clear.ensures.array told)
     ∙ ap (λ (v : StoreView). resized (array_of (g.S.Station.view c.args.station.now).held) (v.tally.height - 1)) c.clear.ensures.turned) c.shrink_cleared.ensures.array
 
-pub returns-in-Ok-clause-tally : goal.returns-in-Ok-clause-tally
-returns-in-Ok-clause-tally g c =
+pub returns-clause-tally : goal.returns-clause-tally
+returns-clause-tally g c =
     subst (λ (v : StoreView). OnOk c.shrink_cleared.result (c.shrink_cleared.new.self.tally ≡ record v.tally {
       height = v.tally.height - 1;
       counts = resized_counts v.tally.counts (v.tally.height - 1);
       marks = resized_marks (v.tally.height - 1);
     })) c.clear.ensures.turned c.shrink_cleared.ensures.tally
 
-pub returns-in-Err-clause-kept : goal.returns-in-Err-clause-kept
-returns-in-Err-clause-kept g c = keeps_within _ (clear_cost c.args.self.now.place.layout) _ (clear_calls c.args.self.now.place.layout) _ c.args.self.now c.clear.new.self (omega arith) (omega arith) c.in-Err.ensures.kept
+pub returns-in_err-clear-clause-kept : goal.returns-in_err-clear-clause-kept
+returns-in_err-clear-clause-kept g c =
+    let p = err_from_is_err_and c.from_residual.result c.from_residual.ensures.1 in
+    rw (p.1, p.2) (
+    keeps_within _ (clear_cost c.args.self.now.place.layout) _ (clear_calls c.args.self.now.place.layout) _ c.args.self.now c.clear.new.self (omega arith) (omega arith) c.in_err-clear.ensures.kept)
 
-pub returns-in-Err-clause-among : goal.returns-in-Err-clause-among
-returns-in-Err-clause-among g c = inl c.in-Err.ensures.disk
+pub returns-in_err-clear-clause-among : goal.returns-in_err-clear-clause-among
+returns-in_err-clear-clause-among g c =
+    let p = err_from_is_err_and c.from_residual.result c.from_residual.ensures.1 in
+    rw (p.1, p.2) (
+    inl c.in_err-clear.ensures.disk)

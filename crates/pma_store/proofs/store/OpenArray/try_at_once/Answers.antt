@@ -1,4 +1,5 @@
 use Rattle.std.proofs.Common.{◌≡◌, ℕ, ◌+◌, ◌*◌, ◌^◌, ◌<◌, ◌≤◌, List, length, take, get_or, Result, Ok, Err, Some, None, refl, sym, ap, subst, ◌∙◌, arith}
+use Rattle.std.proofs.lemmas.Result.{err_from_is_err_and}
 use Rattle.std.specs.Prelude.{is_ok, sum}
 use Rattle.std.proofs.lemmas.List.{length-take-le}
 use Rattle.station.specs.View.{Told}
@@ -33,7 +34,7 @@ use Rattle.pma_store.proofs.Unfit.{not_once}
 use Rattle.pma_store.proofs.Resting.{readable_held}
 use Rattle.pma_store.proofs.Standing.{rows_ascend}
 use Rattle.pma_store.proofs.store.OpenArray.try_at_once.Goals as goal
-use Rattle.pma_store.proofs.store.OpenArray.try_at_once.Goals.{in-Ok-commit_edits, in-Err-commit_edits, After-find_segments, After-look_over}
+use Rattle.pma_store.proofs.store.OpenArray.try_at_once.Goals.{in-Ok, in-Err, After-find_segments, After-look_over}
 
 -- the store is open before it
 opened : (g : _) (c : After-find_segments g) → IsOpenOn (view_of c.self.inside) (g.S.Station.view c.args.station.now)
@@ -59,17 +60,19 @@ same g c = λ τ. record (view_of c.self.inside) { journal = same_journal τ; tu
     same_journal : c.look_over.new.frames.journal ≡ (view_of c.self.inside).journal
     same_journal = c.look_over.ensures.looks.journal ∙ sym c.self.invariant.journal
 
-pub returns-in-Err : goal.returns-in-Err
-returns-in-Err g c =
-    let here = (goal.at.returns-in-Err g c).After-look_over in
-    let found = (goal.at.returns-in-Err g c).After-find_segments in
+pub returns-in_err-look_over : goal.returns-in_err-look_over
+returns-in_err-look_over g c =
+    let p = err_from_is_err_and c.from_residual.result c.from_residual.ensures.1 in
+    rw (p.1, p.2) (
+    let here = (goal.at.returns-in_err-look_over g c).After-look_over in
+    let found = (goal.at.returns-in_err-look_over g c).After-find_segments in
     let s = view_of c.self.inside in
     let a = g.S.Station.view c.args.station.now in
     let b = g.S.Station.view c.look_over.new.station in
     let items = c.args.intent.now in
-    subst (λ (v : StoreView). AppliesBatch items (Err c.in-Err.fault) v (record s { journal = c.look_over.new.frames.journal; turn = c.look_over.new.frames.turn }) a b) c.self.view_is
-    (subst (λ (t : StoreView). AppliesBatch items (Err c.in-Err.fault) s t a b) (sym (same g here))
-    (validating_fails items c.in-Err.fault s s (g.met.S.Station.lawful c.args.station.now) (opened g found) (looks_fail items c.in-Err.fault s c.find_segments.new.segments c.look_over.new.frames c.look_over.new.look (tall_of s c.self.invariant) c.in-Err.ensures.looks)))
+    subst (λ (v : StoreView). AppliesBatch items (Err c.in_err-look_over.field-0.0) v (record s { journal = c.look_over.new.frames.journal; turn = c.look_over.new.frames.turn }) a b) c.self.view_is
+    (subst (λ (t : StoreView). AppliesBatch items (Err c.in_err-look_over.field-0.0) s t a b) (sym (same g here))
+    (validating_fails items c.in_err-look_over.field-0.0 s s (g.met.S.Station.lawful c.args.station.now) (opened g found) (looks_fail items c.in_err-look_over.field-0.0 s c.find_segments.new.segments c.look_over.new.frames c.look_over.new.look (tall_of s c.self.invariant) c.in_err-look_over.ensures.looks))))
 
 -- the most records, for the store's fields
 most : (g : _) (c : After-find_segments g) → c.args.most ≡ upper_of (limit_of (view_of c.self.inside))
@@ -85,7 +88,7 @@ returns-in_default g c =
     let items = c.args.intent.now in
     subst (λ (v : StoreView). ValidatesItems items (Ok None) v (record s { journal = c.look_over.new.frames.journal; turn = c.look_over.new.frames.turn }) a b) c.self.view_is
     (subst (λ (t : StoreView). ValidatesItems items (Ok None) s t a b) (sym (same g here))
-    (validates items s c.find_segments.new.segments c.look_over.new.frames c.look_over.new.look (opened g found).on c.find_segments.ensures.size (belong g found) (within g found) c.in-Ok.ensures.looks
+    (validates items s c.find_segments.new.segments c.look_over.new.frames c.look_over.new.look (opened g found).on c.find_segments.ensures.size (belong g found) (within g found) c.in_ok-look_over.ensures.looks
     c.records.result c.args.most None (most g found) c.records.ensures c.in_default.ensures.validated tt))
 
 pub returns-in_default-list_fitting : goal.returns-in_default-list_fitting
@@ -96,7 +99,7 @@ returns-in_default-list_fitting g c =
     let a = g.S.Station.view c.args.station.now in
     let b = g.S.Station.view c.look_over.new.station in
     let items = c.args.intent.now in
-    let looks = c.in-Ok.ensures.looks in
+    let looks = c.in_ok-look_over.ensures.looks in
     let validated = c.in-Some.validated in
     let tells = validates items s c.find_segments.new.segments c.look_over.new.frames c.look_over.new.look (opened g found).on c.find_segments.ensures.size (belong g found) (within g found) looks
     c.records.result c.args.most (Some validated) (most g found) c.records.ensures c.in-Some.ensures.validated c.in-Some.ensures.found in
@@ -156,33 +159,33 @@ returns g c =
       is = still g here is;
       store = c.self.invariant;
       intent = c.len-len.ensures.intent;
-      loaded = c.in-Ok.ensures.looks.loaded;
-      looked = λ told. subst (λ (x : List ℕ). HasLooked s.place.layout.format (array_of x) numbers items frames look (2 ^ s.tally.height)) (held told) (c.in-Ok.ensures.looks.looked (told_back steps.frame told));
-      used = λ told. subst (λ (x : List ℕ). AreUsed s.place.layout (array_of x) items frames look.whole) (held told) (c.in-Ok.ensures.looks.used (told_back steps.frame told));
+      loaded = c.in_ok-look_over.ensures.looks.loaded;
+      looked = λ told. subst (λ (x : List ℕ). HasLooked s.place.layout.format (array_of x) numbers items frames look (2 ^ s.tally.height)) (held told) (c.in_ok-look_over.ensures.looks.looked (told_back steps.frame told));
+      used = λ told. subst (λ (x : List ℕ). AreUsed s.place.layout (array_of x) items frames look.whole) (held told) (c.in_ok-look_over.ensures.looks.used (told_back steps.frame told));
       belong = λ told. subst (λ (x : List ℕ). BelongThere (array_of x) numbers items) (held told) (belong g found (told_back steps.frame told));
       journal = c.look_over.ensures.looks.journal;
       fits = c.in-Some-list_fitting.ensures.fits;
     } in
-    let tells = validates items s numbers frames look is.on c.find_segments.ensures.size (belong g found) (within g found) c.in-Ok.ensures.looks c.records.result c.args.most (Some validated) (most g found) c.records.ensures c.in-Some.ensures.validated c.in-Some.ensures.found in
+    let tells = validates items s numbers frames look is.on c.find_segments.ensures.size (belong g found) (within g found) c.in_ok-look_over.ensures.looks c.records.result c.args.most (Some validated) (most g found) c.records.ensures c.in-Some.ensures.validated c.in-Some.ensures.found in
     let validated_is = λ (told : Told b). tells.validated (told_back steps.frame told) ∙ ap (λ (x : List ℕ). validated_of (limit_of s) (map_of x) items) (held told) in
     let index = c.commit_edits.new.index in
     let turn = c.commit_edits.new.frames.turn in
     let tally = c.commit_edits.new.tally in
-    let looks = c.in-Ok.ensures.looks.looks in
-    let here_looked : look.count ≤ length looks.looked = c.in-Ok.ensures.looks.few in
+    let looks = c.in_ok-look_over.ensures.looks.looks in
+    let here_looked : look.count ≤ length looks.looked = c.in_ok-look_over.ensures.looks.few in
     let looked = looks_behind items s.tally.height steps looks in
     let few : look.count ≤ length looked.0.looked = omega (arith, here_looked, looked.1) in
     let calls : e.calls ≤ b.calls + runs_calls s.place.layout (run_count frames.numbers) → CallsBatch items s a e =
-    λ few. once_looked items s numbers frames look validated changes ready law_b version validated_is c.in-Some.ensures.total {start = a} {c = e} looks here_looked (λ told. omega (arith, c.in-Ok.ensures.looks.loaded.count_is, used_few s.place.layout (array_of a.held) items frames look.whole c.in-Ok.ensures.looks.loaded.held (c.in-Ok.ensures.looks.used told))) few in
+    λ few. once_looked items s numbers frames look validated changes ready law_b version validated_is c.in-Some.ensures.total {start = a} {c = e} looks here_looked (λ told. omega (arith, c.in_ok-look_over.ensures.looks.loaded.count_is, used_few s.place.layout (array_of a.held) items frames look.whole c.in_ok-look_over.ensures.looks.loaded.held (c.in_ok-look_over.ensures.looks.used told))) few in
     let journal = c.commit_edits.ensures.journal ∙ c.look_over.ensures.looks.journal ∙ sym c.self.invariant.journal in
     subst (λ (v : StoreView). TriesOnce items c.match-commit_edits.result v (record s { tally = tally; index = index; journal = c.commit_edits.new.frames.journal; turn = turn }) a e) c.self.view_is (elim c.match-commit_edits.branch [
-      | in-Ok-commit_edits w ↦
+      | in-Ok w ↦
           subst (λ (r : Result Attempt StoreFault). TriesOnce items r s (record s { tally = tally; index = index; journal = c.commit_edits.new.frames.journal; turn = turn }) a e) (sym w.result-is)
           (subst (λ (j : ℕ). AppliesBatch items (Ok (done_by (counts_of validated) (2 * edits_of validated))) s (record s { tally = tally; index = index; journal = j; turn = turn }) a e) (sym journal)
-          (validated_then items (Ok (done_by (counts_of validated) (2 * edits_of validated))) s (record s { tally = tally; index = index; turn = turn }) is law steps c.look_over.ensures.looks.unwritten looks (calls w.in-Ok-commit_edits.ensures.committed.frames.calls) (λ refusal. refusal)
-          (committed items s numbers frames look validated changes ready law_b version validated_is c.in-Some.ensures.total looked.0 few (g.met.S.Station.lawful c.commit_edits.new.station) turn index tally w.in-Ok-commit_edits.ensures.committed)))
-      | in-Err-commit_edits w ↦
-          let commits = w.in-Err-commit_edits.ensures.committed in
+          (validated_then items (Ok (done_by (counts_of validated) (2 * edits_of validated))) s (record s { tally = tally; index = index; turn = turn }) is law steps c.look_over.ensures.looks.unwritten looks (calls w.in-Ok.ensures.committed.frames.calls) (λ refusal. refusal)
+          (committed items s numbers frames look validated changes ready law_b version validated_is c.in-Some.ensures.total looked.0 few (g.met.S.Station.lawful c.commit_edits.new.station) turn index tally w.in-Ok.ensures.committed)))
+      | in-Err w ↦
+          let commits = w.in-Err.ensures.committed in
           subst (λ (r : Result Attempt StoreFault). TriesOnce items r s (record s { tally = tally; index = index; journal = c.commit_edits.new.frames.journal; turn = turn }) a e) (sym w.result-is)
           (subst (λ (t : StoreView). AppliesBatch items (Err Failed) s t a e) (sym (λ τ. record s { tally = commits.unchanged.1 τ; index = commits.unchanged.0 τ; journal = journal τ; turn = turn }))
           (validated_then items (Err Failed) s (record s { turn = turn }) is law steps c.look_over.ensures.looks.unwritten looks (calls commits.frames.calls) tt
