@@ -8,7 +8,7 @@ ghost use Rattle.station.specs.CrashStation.{crash_view};
 ghost use Rattle.station.specs.View.{NothingPending};
 
 use crate::files::{
-    Counts, FORMATS, PICKS, file_of, lay, lay_header, lay_rows, layout_of, place_of, see_records,
+    Counts, FORMATS, PICKS, file_of, lay, lay_header, lay_rows, layout_of, offset_of, see_records,
 };
 use crate::opened::{end, open_by_index, open_cleared, open_parts, opens, opens_by_index};
 use crate::untold::{UntoldStation, failing, untold};
@@ -21,7 +21,7 @@ use std::alloc::Global;
 use std::process::Abort;
 use std::test::Fail;
 
-// The place of the clean gate.
+// The offset of the clean gate, in the file's first page.
 const CLEAN: usize = 704;
 
 // More calls than an opening and a leaving make.
@@ -237,13 +237,13 @@ const LONG: Layout = Layout {
 
 // Its file, with 12 records in each segment and three pages for its index.
 fn long_file(rt: &impl Abort, alloc: Global) -> Result<Vec<u8>, Fail> {
-    let end = place_of(rt, LONG, 2, 0);
+    let end = offset_of(rt, LONG, 2, 0);
     assert_eq!(rt; end, 1073152);
     let mut file = vec![in alloc; 0; end + 3 * 4096]?;
     lay_header(rt, &mut file, LONG, 7);
     for segment in 0..128 {
-        let place = place_of(rt, LONG, 0, segment);
-        lay_rows(rt, &mut file, 1, place, 12 * segment, 12)?;
+        let offset = offset_of(rt, LONG, 0, segment);
+        lay_rows(rt, &mut file, 1, offset, 12 * segment, 12)?;
     }
     Ok(file)
 }
@@ -349,7 +349,7 @@ fn a_failed_call_beside_two_journals(rt: HostRuntime) -> Result<(), Fail> {
     see_failing(&rt, rt.alloc(), indexed(PAIRED, 1))
 }
 
-/// The version of a file whose index was left, a place and its byte then, and whether the file is opened by its index. One with
+/// The version of a file whose index was left, an offset and its byte then, and whether the file is opened by its index. One with
 /// two journals is, whichever of the empty ones is the live one.
 const OTHERS: [(u32, usize, u8, bool); 11] = [
     (INDEXED, CLEAN, 254, false),
@@ -367,12 +367,12 @@ const OTHERS: [(u32, usize, u8, bool); 11] = [
 
 #[test]
 fn what_is_left_at_the_other_gates_and_versions(rt: HostRuntime) -> Result<(), Fail> {
-    for (version, place, byte, is_quick) in OTHERS {
+    for (version, offset, byte, is_quick) in OTHERS {
         let mut file = left_file(&rt, rt.alloc(), indexed(version, 1), &ROWS[1])?;
-        lay(&rt, &mut file, place, &[byte]);
+        lay(&rt, &mut file, offset, &[byte]);
         let mut station = untold(&rt, rt.alloc(), &file)?;
         let is_some = opens_by_index(rt.alloc(), &mut station)?;
-        assert!(rt; is_some == is_quick, "{place}");
+        assert!(rt; is_some == is_quick, "{offset}");
     }
     Ok(())
 }
@@ -403,10 +403,10 @@ fn refused_at(rt: &impl Abort, alloc: Global, file: &[u8]) -> Result<Option<u32>
 #[test]
 fn a_wrong_index_is_refused_at_its_place(rt: HostRuntime) -> Result<(), Fail> {
     let left = left_file(&rt, rt.alloc(), indexed(INDEXED, 1), &ROWS[1])?;
-    for (place, bytes, want) in WRONG {
+    for (offset, bytes, want) in WRONG {
         let mut file = Vec::from_slice(rt.alloc(), &left)?;
-        lay(&rt, &mut file, place, bytes);
-        assert_eq!(rt; refused_at(&rt, rt.alloc(), &file)?, Some(want), "{place}");
+        lay(&rt, &mut file, offset, bytes);
+        assert_eq!(rt; refused_at(&rt, rt.alloc(), &file)?, Some(want), "{offset}");
     }
     Ok(())
 }

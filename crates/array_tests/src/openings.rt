@@ -3,7 +3,7 @@
 ghost use Rattle.std.specs.Prelude.{◌≤◌};
 
 use crate::files::{
-    Counts, FORMATS, file_of, lay, lay_row, layout_of, noting, place_of, row, see_opens,
+    Counts, FORMATS, file_of, lay, lay_row, layout_of, noting, offset_of, row, see_opens,
     see_records, see_stops,
 };
 use crate::opened::opens;
@@ -38,7 +38,7 @@ fn reason(rt: &impl Abort, alloc: Global, file: &[u8]) -> Result<Option<Reason>,
     }
 }
 
-/// The place and the byte of one change to a store of two segments with 32 and 32 records, and the reason.
+/// The offset and the byte of one change to a store of two segments with 32 and 32 records, and the reason.
 const CHANGES: [(usize, u8, Reason); 19] = [
     (3072, b'p', Reason::Identity),
     (3079, b'F', Reason::Identity),
@@ -94,10 +94,10 @@ fn a_change_is_refused_by_its_reason(rt: HostRuntime) -> Result<(), Fail> {
     let sound = file_of(&rt, rt.alloc(), LAYOUT, 1, EVEN)?;
     assert_eq!(rt; sound.len() as u64, LENGTH);
     assert_eq!(rt; reason(&rt, rt.alloc(), &sound)?, None);
-    for (place, byte, want) in CHANGES {
+    for (offset, byte, want) in CHANGES {
         let mut file = sound.to_vec(rt.alloc())?;
-        lay(&rt, &mut file, place, &[byte]);
-        assert_eq!(rt; reason(&rt, rt.alloc(), &file)?, Some(want), "at {place}");
+        lay(&rt, &mut file, offset, &[byte]);
+        assert_eq!(rt; reason(&rt, rt.alloc(), &file)?, Some(want), "at {offset}");
     }
     for length in [0, 4095, 4096, 57343] {
         assert!(rt; length < sound.len());
@@ -219,8 +219,8 @@ fn the_order_and_the_density_of_segments(rt: HostRuntime) -> Result<(), Fail> {
         }
         // (segment 1 begins with the last key of segment 0)
         let mut file = file_of(&rt, rt.alloc(), layout, 1, EVEN)?;
-        let place = place_of(&rt, layout, 0, 1);
-        lay_row(&rt, &mut file, place, &row(32, format)?);
+        let offset = offset_of(&rt, layout, 0, 1);
+        lay_row(&rt, &mut file, offset, &row(32, format)?);
         let want = Some(Reason::Order { segment: 1 });
         assert_eq!(rt; reason(&rt, rt.alloc(), &file)?, want);
     }
@@ -276,13 +276,13 @@ fn torn(rt: &impl Abort, alloc: Global, layout: Layout) -> Result<Vec<u8>, Fail>
     for segment in [0, 2] {
         for page in 0..layout.format {
             assert!(rt; image < 4 && layout.format <= 2);
-            let first = place_of(rt, layout, 0, segment);
+            let first = offset_of(rt, layout, 0, segment);
             assert!(rt; first <= 1000000);
-            let place = first + 4096 * page as usize;
-            assert!(rt; place + 4096 <= file.len());
-            let bytes = file[place..place + 4096].to_vec(alloc)?;
+            let offset = first + 4096 * page as usize;
+            assert!(rt; offset + 4096 <= file.len());
+            let bytes = file[offset..offset + 4096].to_vec(alloc)?;
             lay(rt, &mut file, 8192 + 4096 * image as usize, &bytes);
-            lay(rt, &mut file, place + 64, &[255; 200]);
+            lay(rt, &mut file, offset + 64, &[255; 200]);
             let number = layout.format * segment + page;
             lay(
                 rt,

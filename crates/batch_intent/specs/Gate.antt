@@ -33,7 +33,7 @@ intent_area file = map (λ k. byte file (INTENT + k)) (range_with_len 0 INTENT_S
 pub record HoldsItems (items : List Update) (file : List ℕ) : Type 0 where
   pub spelled : (k : ℕ) → k < length (intent_bytes items) → byte file (INTENT + k) ≡ byte (intent_bytes items) k
 
--- What the writing of an intent may leave: intent and gate alone are touched. Where the gate was even and is odd, the intent
+-- What the writing of an intent may leave: intent and gate alone are touched. If the gate was even and is odd, the intent
 -- is that of the items.
 pub record Intends (items : List Update) (old new : List ℕ) : Type 0 where
   pub touched : Touched IsIntentPlace old new

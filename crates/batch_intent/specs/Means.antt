@@ -1,4 +1,4 @@
--- What a file means: the map that it represents, with the items of its intent made where its gate is odd.
+-- What a file means: the map that it represents, with the items of its intent made if its gate is odd.
 use Rattle.std.specs.Prelude.{◌≡◌, ℕ, ◌+◌, if◌then◌else◌, Bool, true, false, List, [], take, Option, Some, None}
 use Rattle.station.specs.Bytes.{byte, InRange}
 use Rattle.batch_intent.specs.declared.places.TheConstants.{INTENT, INTENT_SIZE}
@@ -25,7 +25,7 @@ has_pending image = has_intent (layout_in image) image
 unfoldable pub pending : List ℕ → List Update
 pending image = if has_pending image then items_in (intent_area image) else []
 
--- The image means this map at this height: it represents a map, its intent has items, one or more that fit its slot format where
+-- The image means this map at this height: it represents a map, its intent has items, one or more that fit its slot format if
 -- they are to be applied and none else, none of them meets a full store, and this is the map after them. A session on the image
 -- begins with the state after them: this map, and the height to which they lead.
 pub record Means (image : List ℕ) (m : Map) (height : ℕ) : Type 0 where
@@ -43,7 +43,7 @@ pub record Means (image : List ℕ) (m : Map) (height : ℕ) : Type 0 where
 abbrev pub MeansMap : Layout → List ℕ → Map → Type 0
 MeansMap layout image m = (layout_in image ≡ layout) × ((height : ℕ) × Means image m height)
 
--- the map that an image means, where it means one
+-- the map that an image means, if it means one
 abbrev pub meant_map : List ℕ → Map
 meant_map image = map_after_items (height_limit (layout_in image)) (map_of image) (pending image)
 

@@ -25,7 +25,7 @@ bound_value (unbind key) = []
 abbrev pub has_sizes : ℕ → ℕ → Update → Bool
 has_sizes key_size value_size u = nat_le 1 (length (key_of u)) && (nat_le (length (key_of u)) key_size && nat_le (length (bound_value u)) value_size)
 
--- whether an item fits a slot format, with the empty value where it binds none
+-- whether an item fits a slot format, with the empty value if it binds none
 abbrev pub fits_item : ℕ → Update → Bool
 fits_item format u = is_record format (key_of u, bound_value u)
 

@@ -70,7 +70,7 @@ impl Intent {
 
     /// Adds an item behind the others.
     ///
-    /// It is refused where there are 16, else where one has the key, else where the spelling would have more than 512 bytes;
+    /// It is refused if there are 16, else if one has the key, else if the spelling would have more than 512 bytes;
     /// then nothing changes.
     pub fn push(&mut self, item: Item) -> Result<(), IntentFault>
         // An item that is taken is the last one. Else nothing changes, and the fault is the first that holds: 16 items are there,

@@ -60,7 +60,7 @@ pub fn updates_keep_intents()
     ensures { (old new : List ℕ) → slot_format new ≡ slot_format old → Touched IsApart old new → KeepsIntent old new }
 {}
 
-/// A law: there is no reason against a file that is to be opened exactly where it means a map.
+/// A law: there is no reason against a file that is to be opened exactly if it means a map.
 pub fn opening_reasons_are_exact()
     ensures no_reason { (image : List ℕ) → opening_reason image ≡ None → Means image (meant_map image) (height_of image) }
     ensures accepted { (image : List ℕ) (m : Map) (height : ℕ) → Means image m height → opening_reason image ≡ None }

@@ -2,7 +2,7 @@
 //!
 //! A batch writes its items into the header page, syncs, and opens a gate, a byte whose low bit says that the items are to be
 //! applied. From there on the file means the map after all of them, however many were made: made again from the first on
-//! they come to the same map. An opening makes them where the gate is odd, and closes it.
+//! they come to the same map. An opening makes them if the gate is odd, and closes it.
 #![tactic(auto)]
 
 mod gate;

@@ -18,11 +18,11 @@ use crate::validating::validate_intent;
 use header_gate::{Gate, HeaderFault, INTENT_VERSION, Layout, Reason};
 use station::Station;
 
-/// The intent of a file of the layout, where its version has intents and its gate is odd: its items are to be applied, and fit
+/// The intent of a file of the layout, if its version has intents and its gate is odd: its items are to be applied, and fit
 /// the slot format.
 ///
 /// `NotStore` names the place of the number of items, or of the first item, that is wrong; no byte is changed. Whether an
-/// item meets a full store isn't validated. Nothing is read where the version has no intents, and where the gate is even its byte
+/// item meets a full store isn't validated. Nothing is read if the version has no intents, and if the gate is even its byte
 /// alone.
 pub fn read_intent<S: Station>(
     station: &mut S,

@@ -15,10 +15,10 @@ use crate::item::Item;
 use crate::places::INTENT_SIZE;
 use key_slot::{Key, Value};
 
-// The first byte of a put.
+// The first byte of a put. It isn't 0, so zeros that were never written spell no item.
 pub(crate) const PUT: u8 = 1;
 
-// The first byte of a remove.
+// The first byte of a remove, likewise.
 pub(crate) const REMOVE: u8 = 2;
 
 // The bytes of an item before its key: what it is, and the lengths of key and value.

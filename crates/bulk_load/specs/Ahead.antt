@@ -67,7 +67,7 @@ pub record IsAbove (key : Option Bytes) (a : Ahead) : Type 0 where
   pub onward : at_hand a ≡ [] → a.reader.next ≢ a.reader.end → (rs : List Record) → begins_above a.reader.last rs ≡ true →
       begins_above key rs ≡ true
 
--- whether records begin with one below a key, or with any where there is no key
+-- whether records begin with one below a key, or with any if there is no key
 abbrev pub begins_under : Option Bytes → List Record → Bool
 begins_under key [] = false
 begins_under None (r ∷ rs) = true
@@ -83,7 +83,7 @@ abbrev pub over : Option Bytes → List Record → List Record
 over None rs = []
 over (Some key) rs = where_key key_cmp (λ other. not (is_lt (key_cmp other key))) rs
 
--- no record ahead is below a key, and none is left where there is no key
+-- no record ahead is below a key, and none is left if there is no key
 pub record StopsAt (key : Option Bytes) (a : Ahead) : Type 0 where
   pub here : begins_under key (at_hand a) ≡ false
   pub all : at_hand a ≡ [] → a.reader.next ≡ a.reader.end
@@ -111,7 +111,7 @@ pub record ReadsAhead {T : Type 0} (place : Place) (result : Result T StoreFault
   pub calls : b.calls ≤ a.calls + (new.reader.next - old.reader.next)
   pub onward : old.reader.next ≤ new.reader.next
   pub upto : new.reader.next ≤ 2 ^ old.tally.now.height
-  -- where bytes are told only the disk stops it
+  -- if bytes are told only the disk stops it
   pub damaged : IfErr result (λ fault. Told a → fault ≡ Failed)
   -- and on any station the damage of the segment that was read last
   pub cause : IfErr result (λ fault. (i : ℕ) × (i < 2 ^ old.tally.now.height) × (old.reader.next ≤ i)

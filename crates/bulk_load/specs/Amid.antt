@@ -93,7 +93,7 @@ IsLiveDamage place from x y t (fault.Damaged segment why) = (i : ℕ) × (i < 2 
 IsLiveDamage place from x y t fault = Unit {0}
 
 -- Why records of the store aren't copied: those under a key are more than may be beside those that result, or a disk call
--- failed, or a segment is damaged, which none is where the station tells its bytes.
+-- failed, or a segment is damaged, which none is if the station tells its bytes.
 abbrev pub IsCopyFault : Place → Option Bytes → MergeRun → View → LoadFault → Type 0
 IsCopyFault place key s a (fault.Full n) = (n ≡ most_records place.layout) × (Told a →
     most_records place.layout < s.taken.records + length (under key (left_in (array_of a.held) s.ahead)))
@@ -104,7 +104,7 @@ IsCopyFault place key s a (fault.Line n) = ⊥
 IsCopyFault place key s a fault.Script = ⊥
 IsCopyFault place key s a fault.Spent = ⊥
 
--- where too many records result, they are more than those that did, those at hand, and those of segments that weren't read
+-- if too many records result, they are more than those that did, those at hand, and those of segments that weren't read
 abbrev pub IsOverKept : Place → MergeRun → LoadFault → Type 0
 IsOverKept place s (fault.Full n) = most_records place.layout + read_by s.ahead < s.taken.records + hand s.ahead + sum s.ahead.tally.now.counts
 IsOverKept place s fault = Unit {0}
@@ -188,12 +188,12 @@ MayStop most (fault.NotEmpty n) = ⊥
 MayStop most fault.Script = ⊥
 MayStop most fault.Spent = ⊥
 
--- so many updates were read, and this is the last of their keys
+-- that many updates were read, and this is the last of their keys
 pub record HasKeys (edits : List Update) (s : MergeRun) : Type 0 where
   pub edits_are : s.edits ≡ length edits
   pub last : s.last ≡ last_key (map mark_of edits)
 
--- so many of them bind a key
+-- that many of them bind a key
 pub record HasEdits (edits : List Update) (s : MergeRun) : Type 0 where
   pub keys : HasKeys edits s
   pub binds : s.found.stored + s.found.replaced ≡ binds_in edits

@@ -42,8 +42,8 @@ IsLineFault most s (Damaged segment why) = ⊥
 IsLineFault most s Script = ⊥
 IsLineFault most s Spent = ⊥
 
--- Why reading ended before the end, by what comes of the lines, where the source tells them. `Script` comes only where a
--- read failed, and `Spent` only where all bytes were taken that may be; and either only where the complete lines among the bytes
+-- Why reading ended before the end, by what comes of the lines, if the source tells them. `Script` comes only if a
+-- read failed, and `Spent` only if all bytes were taken that may be; and either only if the complete lines among the bytes
 -- that were taken aren't at fault.
 abbrev pub IsReadingFault : ℕ → ℕ → ReaderView → SourceView → SourceView → LoadFault → Type 0
 IsReadingFault format most r0 s0 s (Line n) = SourceTold s0 → IsWrongLine format most (raw_lines (rest r0 s0)) n
@@ -54,7 +54,7 @@ IsReadingFault format most r0 s0 s Spent = SourceTold s0 → IsSpentIn format mo
 IsReadingFault format most r0 s0 s (NotEmpty n) = ⊥
 IsReadingFault format most r0 s0 s (Damaged segment why) = ⊥
 
--- Why a text isn't loaded into a store of that many records. `NotEmpty` comes exactly where there are some, and nothing was
+-- Why a text isn't loaded into a store of that many records. `NotEmpty` comes exactly if there are some, and nothing was
 -- taken from the source then.
 abbrev pub IsLoadFault : ℕ → ℕ → ℕ → ReaderView → SourceView → SourceView → LoadFault → Type 0
 IsLoadFault format most records r0 s0 s (NotEmpty n) = (n ≡ records) × (0 < records) × (s ≡ s0)
@@ -100,7 +100,7 @@ IsOutsideFault s0 s (Line n) = ⊥
 IsOutsideFault s0 s (Full n) = ⊥
 IsOutsideFault s0 s Spent = ⊥
 
--- where a segment is damaged, a frame shows it
+-- if a segment is damaged, a frame shows it
 abbrev pub IsShownBy : ℕ → Batch → LoadFault → Type 0
 IsShownBy format b (Damaged segment why) = (n : ℕ) × ShowsPacked format n b (store.Damaged segment why)
 IsShownBy format b fault = Unit {0}

@@ -55,7 +55,7 @@ pub record IsUnfinished (format : ℕ) (lines : List (List ℕ)) : Type 0 where
   pub no_text : (rows : List Record) → IsLoadText format lines rows → ⊥
 
 -- Line n is refused by a store that may hold that many records: it is the first that no load text can have there, or one more
--- than there are, where the lines end before the one with the number of records; and the lines before it have no more records
+-- than there are, if the lines end before the one with the number of records; and the lines before it have no more records
 -- than that.
 pub record IsRefusedAt (format most : ℕ) (lines : List (List ℕ)) (n : ℕ) : Type 0 where
   pub why : IsFirstWrong format lines n ⊎ (IsUnfinished format lines × (n ≡ length lines + 1))

@@ -33,7 +33,7 @@ after_line most k rows true (End n) = wrong k
 after_line most k rows false (End n) = if n == length rows then reads rows true else wrong k
 after_line most k rows ended Bad = wrong k
 
--- line k, where reading goes on so far
+-- line k, if reading goes on so far
 abbrev pub load_step : ℕ → ℕ → ℕ → Loading → List ℕ → Loading
 load_step format most k (reads rows ended) raw = after_line most k rows ended (load_line_raw format raw)
 load_step format most k (wrong n) raw = wrong n
@@ -48,11 +48,11 @@ load_from format most k s (raw ∷ lines) = load_from format most (k + 1) (load_
 abbrev pub loading : ℕ → ℕ → List (List ℕ) → Loading
 loading format most lines = load_from format most 1 (reads [] false) lines
 
--- the first wrong line, or the one behind the last where the lines end before the line with the number of records
+-- the first wrong line, or the one behind the last if the lines end before the line with the number of records
 abbrev pub IsWrongLine : ℕ → ℕ → List (List ℕ) → ℕ → Type 0
 IsWrongLine format most lines n = (loading format most lines ≡ wrong n) ⊎ ((rows : List Record) × (loading format most lines ≡ reads rows false) × (n ≡ length lines + 1))
 
--- where the source tells it, all that is to be given comes to these records
+-- if the source tells it, all that is to be given is these records
 abbrev pub IsTextOf : ℕ → ℕ → ReaderView → SourceView → List Record → Type 0
 IsTextOf format most reader source rows = SourceTold source → loading format most (raw_lines (rest reader source)) ≡ reads rows true
 

@@ -25,7 +25,7 @@ use Rattle.bulk_load.specs.Packing.{AreRows}
 abbrev pub most_records : Layout → ℕ
 most_records l = upper_of (height_limit l)
 
--- all that is to be given is a text with these records, for a store in the file, where the source tells it
+-- all that is to be given is a text with these records, for a store in the file, if the source tells it
 abbrev pub TextFor : Layout → ReaderView → SourceView → List Record → Type 0
 TextFor l reader source rows = IsTextOf l.format (most_records l) reader source rows
 

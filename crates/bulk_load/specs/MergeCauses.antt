@@ -56,7 +56,7 @@ pub record IsTextCut (format : ℕ) (r0 : ReaderView) (s0 s : SourceView) : Type
   pub cut : IsCutShort (rest r0 s0) s.left given
   pub begins : BeginsMerge format given
 
--- this line is the first that no merge text can have there, or the one behind the last where the lines end before the one with
+-- this line is the first that no merge text can have there, or the one behind the last if the lines end before the one with
 -- the number of updates
 abbrev pub IsLineRefused : ℕ → List (List ℕ) → ℕ → Type 0
 IsLineRefused format lines n = IsFirstUnmerged format lines n ⊎ (IsMergeUnfinished format lines × (n ≡ length lines + 1))

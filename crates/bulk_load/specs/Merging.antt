@@ -41,7 +41,7 @@ after_merge_line most rows k edits true (End n) = wrong k
 after_merge_line most rows k edits false (End n) = if n == length edits then reads edits true else wrong k
 after_merge_line most rows k edits ended Bad = wrong k
 
--- line k, where reading goes on so far
+-- line k, if reading goes on so far
 abbrev pub merge_step : ℕ → ℕ → List Record → ℕ → Merging → List ℕ → Merging
 merge_step format most rows k (reads edits ended) raw = after_merge_line most rows k edits ended (merge_line_raw format raw)
 merge_step format most rows k (wrong n) raw = wrong n
@@ -56,7 +56,7 @@ merge_from format most rows k s (raw ∷ lines) = merge_from format most rows (k
 abbrev pub merging : ℕ → ℕ → List Record → List (List ℕ) → Merging
 merging format most rows lines = merge_from format most rows 1 (reads [] false) lines
 
--- the first wrong line, or the one behind the last where the lines end before the line with the number of updates
+-- the first wrong line, or the one behind the last if the lines end before the line with the number of updates
 abbrev pub IsUnmergedLine : ℕ → ℕ → List Record → List (List ℕ) → ℕ → Type 0
 IsUnmergedLine format most rows lines n =
     (merging format most rows lines ≡ wrong n) ⊎ ((edits : List Update) × (merging format most rows lines ≡ reads edits false) × (n ≡ length lines + 1))
@@ -66,6 +66,6 @@ abbrev pub IsOverfull : ℕ → ℕ → Map → List (List ℕ) → Type 0
 IsOverfull format most m lines =
     (merging format most (entries m) lines ≡ full) ⊎ ((edits : List Update) × (merging format most (entries m) lines ≡ reads edits true) × (most < len (map_after_edits m edits)))
 
--- where the source tells it, all that is to be given comes to these updates
+-- if the source tells it, all that is to be given is these updates
 abbrev pub IsMergeOf : ℕ → ℕ → Map → ReaderView → SourceView → List Update → Type 0
 IsMergeOf format most m reader source edits = SourceTold source → merging format most (entries m) (raw_lines (rest reader source)) ≡ reads edits true

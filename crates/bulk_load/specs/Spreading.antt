@@ -81,7 +81,7 @@ pub record ReadsPacked {T : Type 0} (place : Place) (n : ℕ) (result : Result T
   -- each segment's bytes are read once
   pub read : OnOk result (b.travel.read + segment_size place.layout * t.unread ≤ a.travel.read + segment_size place.layout * s.unread)
   pub most_read : b.travel.read ≤ a.travel.read + segment_size place.layout * s.unread
-  -- where bytes are told only the disk stops it
+  -- if bytes are told only the disk stops it
   pub damaged : IfErr result (λ fault. Told a → (rows : List Record) → ArePacked place n rows s f a.held → fault ≡ Failed)
   pub cause : IfErr result (HasCause place.layout.format n g)
   pub failed : IsErrOf result Failed → Rose a.disk_faults b.disk_faults

@@ -67,7 +67,7 @@ pub(crate) fn all_ahead<'a>(place: &Place, tally: &'a Tally) -> Ahead<'a>
     }
 }
 
-/// The next record, where it is below a key, or at all where there is no key. It stays the next.
+/// The next record, if it is below a key, or at all if there is no key. It stays the next.
 pub(crate) fn next_below<S: Station>(
     station: &mut S,
     place: &Place,

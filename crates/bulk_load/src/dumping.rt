@@ -14,7 +14,7 @@ use window_tally::Tally;
 
 /// A sweep over all records of the store that has this place and this tally; the segments are read into the page.
 ///
-/// Where it is at its end, the lines of the records that it gave, and a line with their number, are a load text.
+/// If it is at its end, the lines of the records that it gave, and a line with their number, are a load text.
 pub fn sweep_all<'a>(place: &Place, tally: &'a Tally, page: &'a mut SegmentBuffer) -> Sweep<'a>
     requires layout { IsLayout place.now.layout }
     requires region { place.now.region < 2 }

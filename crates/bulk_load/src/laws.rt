@@ -18,9 +18,9 @@ ghost use Rattle.bulk_load.specs.LoadText.{IsLoadText, IsFirstWrong, IsUnfinishe
 ghost use Rattle.bulk_load.specs.Loading.{IsWrongLine, loading, reads, wrong, full};
 
 /// A law: what comes of lines that are read one at a time is what they are as a load text. Those that are read whole are a
-/// text with these records, and a text is read whole where the store may hold as many. A wrong line is the first that no
-/// text can have there; where lines end before the line with their number of records, some text begins with them, and they
-/// are none. Where they are too many, some text begins with lines that have one record more than the store may hold. No more
+/// text with these records, and a text is read whole if the store may hold as many. A wrong line is the first that no
+/// text can have there; if lines end before the line with their number of records, some text begins with them, and they
+/// are none. If they are too many, some text begins with lines that have one record more than the store may hold. No more
 /// records than it may hold come before a line that is wrong, and of lines with which reading goes on no refusal is due.
 pub fn texts_are_read_by_lines()
     // Lines that are read whole are a load text with these records. A load text is read whole if the store may hold as many
@@ -39,7 +39,7 @@ pub fn texts_are_read_by_lines()
     ensures full { (format most : ℕ) (lines : List (List ℕ)) → most + 1 < 2 ^ 32 → loading format most lines ≡ full → IsOneTooMany format most lines }
     // Lines that are read whole have no more records than the store may hold.
     ensures few { (format most : ℕ) (lines : List (List ℕ)) (rows : List Record) → loading format most lines ≡ reads rows true → length rows ≤ most }
-    // If the store may hold fewer than `2^32` records: a line that is told to be wrong is the first that no load text can have
+    // If the store may hold fewer than `2^32` records: a line that is named as wrong is the first that no load text can have
     // there, or one more than there are if these end before the one with the number of records; and before it are no more records
     // than the store may hold.
     ensures refused { (format most n : ℕ) (lines : List (List ℕ)) → most < 2 ^ 32 → IsWrongLine format most lines n → IsRefusedAt format most lines n }
@@ -49,7 +49,7 @@ pub fn texts_are_read_by_lines()
         loading format most lines ≡ reads rows ended → MayGoOn format most lines }
 {}
 
-/// A law: a text has one refusal. Where a line of it is refused, no record too many comes before that; and where there is one
+/// A law: a text has one refusal. If a line of it is refused, no record too many comes before that; and if there is one
 /// record too many, no line before it is refused.
 pub fn refusals_exclude_each_other()
     // Lines of which one is refused have no record too many, and of lines that have a record too many none is refused.

@@ -33,9 +33,9 @@ use window_tally::Tally;
 /// least height that holds them is taken, they are spread there in place, and a flip makes that region the live one. So
 /// whatever a crash leaves represents the empty map, or the map of the whole text. On Ok the place is that of the region.
 ///
-/// `NotEmpty` exactly where the store holds records; nothing is taken from the source then. `Line` exactly where this line,
-/// counted from 1, is the first that no load text can have there, or is one more than there are where the text ends without
-/// the line with its number of records. `Full` exactly where a record follows as many as a store of the greatest height
+/// `NotEmpty` exactly if the store holds records; nothing is taken from the source then. `Line` exactly if this line,
+/// counted from 1, is the first that no load text can have there, or is one more than there are if the text ends without
+/// the line with its number of records. `Full` exactly if a record follows as many as a store of the greatest height
 /// holds. Each fault but the disk's leaves the file as it was, outside of what isn't live.
 pub fn load_rows<I: Source, S: Station>(
     source: &mut I,

@@ -55,8 +55,8 @@ pub struct Merged {
 /// they are spread there in place, and a flip makes that region the live one. So whatever a crash leaves represents the map
 /// before all updates or after all of them. On Ok the place is that of the region.
 ///
-/// `Line` names the first line, counted from 1, that no merge text can have there, or one more than there are where the text
-/// ends without the line with the number of its updates. `Full` comes where more records result than a store of the greatest
+/// `Line` names the first line, counted from 1, that no merge text can have there, or one more than there are if the text
+/// ends without the line with the number of its updates. `Full` comes if more records result than a store of the greatest
 /// height holds: up to the key of some line with no wrong line before it, whatever follows, or in all of a whole text. Each
 /// fault but the disk's leaves the file as it was, outside of what isn't live.
 pub fn merge_rows<I: Source, S: Station>(

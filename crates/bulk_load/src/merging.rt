@@ -157,7 +157,7 @@ fn next_line<I: Source>(
     }
 }
 
-// Takes one line, which has this number, where it can stand there.
+// Takes one line, which has this number, if it can stand there.
 fn take_line<S: Station>(
     station: &mut S,
     place: &Place,

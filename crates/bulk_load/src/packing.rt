@@ -35,7 +35,7 @@ pub(crate) struct Taken {
     pub ended: bool,
 }
 
-/// Packs a record behind the others. Where all frames that are used are full then, they are written.
+/// Packs a record behind the others. If all frames that are used are full then, they are written.
 pub(crate) fn pack<S: Station>(
     station: &mut S,
     place: &Place,

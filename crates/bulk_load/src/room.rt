@@ -7,7 +7,8 @@ ghost use Rattle.bulk_load.specs.Packing.{room_in};
 
 use header_gate::Layout;
 
-/// The most frames that are used, however long the journal is: a MiB at a time.
+/// The most frames that are used, however long the journal is: 256 pages are a MiB, so that each read and
+/// write takes many segments.
 pub(crate) const MOST_FRAMES: u32 = 256;
 
 /// How many segments are in the frames at most.

@@ -50,7 +50,7 @@ first_oversized f (u ∷ us) =
     else if nat_lt (value_room f) (length (bound_value u)) then Some OversizedValue
     else first_oversized f us
 
--- the refusal of a size, or else the items, where no key stands twice
+-- the refusal of a size, or else the items, if no key stands twice
 abbrev pub if_sized : Option Command → List Update → Command
 if_sized (Some refused) us = refused
 if_sized None us = if are_distinct us then Batch us else RepeatedKey

@@ -1,4 +1,4 @@
--- What the steps inside the reading of a line come to, in a file of a slot format f.
+-- What the steps inside the reading of a line do, in a file of a slot format f.
 use Rattle.std.specs.Prelude.{ℕ, List, Option, Some, None}
 use Rattle.key_slot.specs.Record.{Bytes}
 use Rattle.command_text.specs.Command.{with_key, with_bound, with_number}
@@ -15,7 +15,7 @@ of_key keyed.Next key = command.Next key
 of_key keyed.Prev key = command.Prev key
 of_key keyed.Close key = command.Close key
 
--- what follows where a bound was read, or the refusal
+-- what follows if a bound was read, or the refusal
 abbrev pub on_bound : (Option (List ℕ) → Command) → Option (Option (List ℕ)) → Command
 on_bound next (Some bound) = next bound
 on_bound next None = command.OversizedKey

@@ -8,7 +8,7 @@ use Rattle.map_model.specs.Store.{Map, Update, bind, unbind}
 use Rattle.command_text.specs.declared.command.Command.{Command}
 use Rattle.command_text.specs.declared.command.Command.TheVariants as command
 
--- the updates that a command asks for
+-- the updates that a command requests
 abbrev pub updates_asked : Command → List Update
 updates_asked (command.Put key value) = bind key value ∷ []
 updates_asked (command.Remove key) = unbind key ∷ []

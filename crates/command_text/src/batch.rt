@@ -23,7 +23,7 @@ pub(crate) struct ItemWords<'a> {
     puts: bool,
     key: &'a [u8],
     value: &'a [u8],
-    // What follows the `;` behind it, where there is one.
+    // What follows the `;` behind it, if there is one.
     behind: Option<&'a [u8]>,
 }
 
@@ -127,7 +127,7 @@ fn item_word(bytes: &[u8]) -> Option<(&[u8], &[u8])>
     Some((word, rest))
 }
 
-// The word of a put's value and what follows it; no bytes where there is none.
+// The word of a put's value and what follows it; no bytes if there is none.
 fn value_word(puts: bool, bytes: &[u8]) -> (&[u8], &[u8])
     ensures { BeginsWithValue puts (words bytes.now) result.0.now (words result.1.now) }
 {

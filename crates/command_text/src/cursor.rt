@@ -11,7 +11,7 @@ use super::parse::{Keyed, read_bound, read_keyed};
 use super::words::{next_word, read_key};
 use key_slot::Key;
 
-// The command of this name with the words that follow it, where it asks something of the cursors.
+// The command of this name with the words that follow it, if it asks something of the cursors.
 pub(super) fn read_cursor(name: &[u8], rest: &[u8], format: u32, command: &mut Command)
     requires { format ≤ wide }
     ensures { command.new ≡ cursor_named format name.now (words rest.now) }

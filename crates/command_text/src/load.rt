@@ -26,7 +26,7 @@ pub enum LoadLine {
 /// What a line is in a load text of records for slots of this format, 1 or 2, as `LineReader::line` gives it: a carriage
 /// return in it belongs to a word.
 ///
-/// `Bad` where it is no note, no `record KEY` or `record KEY VALUE` with sizes of the format, and no `end N` with a
+/// `Bad` if it is no note, no `record KEY` or `record KEY VALUE` with sizes of the format, and no `end N` with a
 /// number below 2^32.
 pub fn parse_load(line: &[u8], format: u32) -> LoadLine
     requires format { format ≤ wide }

@@ -30,7 +30,7 @@ pub record Gift : Type 0 where
 abbrev pub records_of : List Gift → List Record
 records_of gifts = map (λ g. g.row) gifts
 
--- the way in which a command has the cursor of a name step, where it does
+-- the way in which a command has the cursor of a name step, if it does
 abbrev pub way_by : Bytes → Command → Option Way
 way_by name (command.Next other) = if eq_by_cmp key_cmp other name then Some onward else None
 way_by name (command.Prev other) = if eq_by_cmp key_cmp other name then Some back else None
@@ -41,12 +41,12 @@ abbrev pub gift_line : Way → Map → Reply → List Gift
 gift_line way m (reply.Row row) = record { way = way; map = m; row = record_of row } ∷ []
 gift_line way m _ = []
 
--- those of lines, where a cursor stepped
+-- those of lines, if a cursor stepped
 abbrev pub gifts_if : Option Way → Map → List Reply → List Gift
 gifts_if None m lines = []
 gifts_if (Some way) m lines = flat_map (gift_line way m) lines
 
--- the records of the reply to a command, where it has the cursor of a name step
+-- the records of the reply to a command, if it has the cursor of a name step
 abbrev pub gifts_by : Bytes → Layout → Session → Command → List Gift
 gifts_by name l s c = gifts_if (way_by name c) s.store.map (session_answers l s c)
 
@@ -60,12 +60,12 @@ abbrev pub Each : (Gift → Type 0) → List Gift → Type 0
 Each P [] = Unit {0}
 Each P (g ∷ gs) = P g × Each P gs
 
--- each is the nearest to the key of the one before it, and the first to a key that is given, where there is one
+-- each is the nearest to the key of the one before it, and the first to a key that is given, if there is one
 abbrev pub AreNearest : Option Bytes → Option Bytes → Option Bytes → List Gift → Type 0
 AreNearest low high past [] = Unit {0}
 AreNearest low high past (g ∷ gs) = IsNearest g.way low high past g.map g.row × AreNearest low high (Some g.row.0) gs
 
--- the key of the last one, or one that is given where there is none
+-- the key of the last one, or one that is given if there is none
 abbrev pub last_given : Option Bytes → List Gift → Option Bytes
 last_given past [] = past
 last_given past (g ∷ gs) = last_given (Some g.row.0) gs
@@ -98,7 +98,7 @@ StepsOnly way name (c ∷ cs) = IfSome (way_by name c) (λ w. w ≡ way) × Step
 abbrev pub at_end : Bytes → Option Bytes → Option Bytes → Layout → Session → List Command → Session
 at_end name low high l s cs = session_after l (opened name low high l s) cs
 
--- where it says its end, when it is to step once more
+-- if it says its end, when it is to step once more
 abbrev pub Ends : Way → Bytes → Option Bytes → Option Bytes → Layout → Session → List Command → Type 0
 Ends way name low high l s cs = session_answers l (at_end name low high l s cs) (step_command way name) ≡ reply.CursorEnd ∷ []
 

@@ -12,8 +12,8 @@ ghost use Rattle.cursor_set.specs.Lives.{InEach, StaysOpen, StepsOnly, Ends, Has
 ghost use Rattle.cursor_set.specs.Ways.{IsDescending, NoneBeyond};
 
 /// A law of sessions: whatever commands come between, a cursor that is opened and stays open gives records within its bounds,
-/// each of which is in the map at that moment. Where it steps in one way alone, their keys strictly rise, or strictly fall; and
-/// where it comes to its end then, each key within its bounds that was in the map in every state since its opening was given
+/// each of which is in the map at that moment. If it steps in one way alone, their keys strictly rise, or strictly fall; and
+/// if it comes to its end then, each key within its bounds that was in the map in every state since its opening was given
 /// exactly once.
 pub fn cursors_give_each_record_once()
     // Whatever commands come between, the keys that a cursor gives while it stays open strictly rise if it only steps on, and
@@ -38,7 +38,7 @@ pub fn cursors_give_each_record_once()
 
 /// A law of sessions: whatever commands come between, and in whatever order a cursor that stays open is told to step on and back,
 /// each step gives the record whose key is nearest to the last that it gave: the least above it, or the greatest below. A cursor
-/// that gave none steps on from its lower bound, and back from its upper one. It comes to its end where there is no such record.
+/// that gave none steps on from its lower bound, and back from its upper one. It comes to its end if there is no such record.
 pub fn cursors_step_to_the_nearest()
     // While a cursor stays open each step on gives the least key above the last one given, and each step back the greatest below,
     // within the bounds and in the map of that moment. A cursor that gave none begins at its bounds.

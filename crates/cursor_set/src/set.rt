@@ -55,7 +55,7 @@ impl CursorSet {
 
     /// Opens a cursor over the records whose keys are not below `low` and below `high`.
     ///
-    /// Where a cursor of this name is open, or 16 are, nothing changes.
+    /// If a cursor of this name is open, or 16 are, nothing changes.
     pub fn begin(&mut self, name: &Key, low: Option<Key>, high: Option<Key>) -> Opened
         // `Taken` if the name has a cursor, else `NoRoom` if 16 are open, else `Opened`.
         ensures answer { result ≡ opening self.old name.now }
@@ -98,7 +98,7 @@ impl CursorSet {
     /// The next record of a cursor: that with the least key within its bounds which is above the key of the last record that
     /// it gave.
     ///
-    /// Where there is none the cursor is closed. It reads at most two segments, and without a cursor none. A fault of the store
+    /// If there is none the cursor is closed. It reads at most two segments, and without a cursor none. A fault of the store
     /// leaves the set as it was.
     pub fn next_row<S: Station, R: Seek>(
         &mut self,
@@ -164,7 +164,7 @@ impl CursorSet {
     /// The previous record of a cursor: that with the greatest key within its bounds which is below the key of the last record
     /// that it gave. A cursor that gave none steps back from its upper bound.
     ///
-    /// Where there is none the cursor is closed. It reads at most two segments, and without a cursor none. A fault of the store
+    /// If there is none the cursor is closed. It reads at most two segments, and without a cursor none. A fault of the store
     /// leaves the set as it was.
     pub fn step_back<S: Station, R: Seek>(
         &mut self,

@@ -15,7 +15,7 @@ pub record IsInPlace (l : Layout) (file : List ℕ) : Type 0 where
   pub pages : (j o : ℕ) → j < length (live_table l file) → o < page_size →
       byte file (region_place l (live_copy file) + page_size * get_or (live_table l file) j 0 + o) ≡ byte file (image_place l j + live_shift l file + o)
 
--- where a journal is to be laid it lies in place; so no byte outside gate and journals differs from the recovered image
+-- if a journal is to be laid it lies in place; so no byte outside gate and journals differs from the recovered image
 abbrev pub IsDone : Layout → List ℕ → Type 0
 IsDone l file = is_laid l file ≡ true → IsInPlace l file
 

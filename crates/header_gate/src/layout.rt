@@ -2,37 +2,41 @@
 
 ghost use Rattle.std.specs.Prelude.{◌≡◌, ◌+◌, ◌^◌, ◌<◌, ◌≤◌, ◌↔◌, IsTrue};
 
-/// The greatest height limit that a file may have. An opening without an index reads all of the 65536 segments then.
+/// The greatest height limit that a file may have: numbers of segments and positions in an index have 16 bits then. An opening
+/// without an index reads all of the 65536 segments.
 pub const GREATEST_HEIGHT: u32 = 16;
 
-/// The greatest slot format, which is how many pages a segment of it has.
+/// The greatest slot format, which is how many pages a segment of it has: there are two, one for short records and one for longer.
 pub const GREATEST_FORMAT: u32 = 2;
 
-/// The greatest version of a file that is read.
+/// The greatest version of a file that is read: versions count what files came to have, and two journals came last, as `PAIRED`.
 pub const LATEST_VERSION: u32 = 4;
 
-/// The first version of a file whose header page has an intent.
+/// The first version of a file whose header page has an intent. Version 1 was before it, and has none.
 pub const INTENT_VERSION: u32 = 2;
 
-/// The first version of a file whose index stands behind its regions.
+/// The first version of a file whose index stands behind its regions, the next after that of the intent, which it has too.
 pub const INDEXED: u32 = 3;
 
-/// The version of a file that has two journals, by turns, the greatest that a layout may have.
+/// The version of a file that has two journals, by turns. It has all that version 3 has, and is the greatest that a layout may have.
 pub const PAIRED: u32 = 4;
 
 /// The fewest pages that a journal may hold: those of the least window, of two segments, in the longer slots.
 pub const LEAST_JOURNAL: u32 = 4;
 
-/// The place of the selector, a byte whose low bit names the live copy and the live region.
+/// The place of the selector, a byte whose low bit names the live copy and the live region. It is the file's first byte, and nothing
+/// else stands in its sector of 512 bytes.
 pub(crate) const SELECTOR: u64 = 0;
 
-/// The place of header copy 0: a height and a slot format of 4 bytes each. Copy 1 lies 1024 bytes behind it.
+/// The place of header copy 0: a height and a slot format of 4 bytes each. Copy 1 lies 1024 bytes behind it. So the two are in
+/// sectors of their own, and who writes one writes no sector of the other, of the selector or of the gates.
 pub(crate) const COPIES: u64 = 1024;
 
-/// The place of the identity: the text `PMASTORE`, then version, height limit and journal size, of 4 bytes each.
+/// The place of the identity: the text `PMASTORE`, then version, height limit and journal size, of 4 bytes each. It follows the
+/// copies at 1024 and 2048, in a sector that nothing writes once the store is made.
 pub const IDENTITY: u64 = 3072;
 
-/// The text `PMAS` as a number of 32 bits, lowest byte first.
+/// The text `PMAS` as a number of 32 bits, lowest byte first: the identity is read as numbers, so its text is compared as two.
 pub(crate) const NAME_FRONT: u32 = 0x5341_4d50;
 
 /// The text `TORE`, likewise.
@@ -49,7 +53,7 @@ pub const TABLE: u64 = PAGE as u64;
 const AREA_SHARE: u64 = 68;
 
 /// What a file was made with: its height limit, 0 to 16, its journal size in pages, 4 to max(4, 2^hmax), and its version,
-/// 1 to 4; and the slot format of its live region, 1, or 2 where the height limit is at least 1.
+/// 1 to 4; and the slot format of its live region, 1, or 2 if the height limit is at least 1.
 #[derive(Clone, Copy)]
 pub struct Layout {
     /// The greatest height that the store may have.

@@ -1,4 +1,4 @@
--- Clean images. A store may be opened by the index in its file where the clean gate is odd, and whatever a crash leaves
+-- Clean images. A store may be opened by the index in its file if the clean gate is odd, and whatever a crash leaves
 -- has then to be clean.
 use Rattle.std.specs.Prelude.{◌≡◌, ◌⊎◌, ◌≤◌, ℕ, List, [], None}
 use Rattle.std.specs.Option.{unwrap_or}
@@ -27,7 +27,7 @@ version_of image = (layout_in image).version
 abbrev pub IsIndexed : ℕ → Type 0
 IsIndexed version = (INDEXED ≤ version) × (version ≤ LATEST_VERSION)
 
--- the first key of segment i, or nothing where it is empty
+-- the first key of segment i, or nothing if it is empty
 abbrev pub fence_of_segment : Array → ℕ → Bytes
 fence_of_segment segments i = unwrap_or (first_key segments i) []
 

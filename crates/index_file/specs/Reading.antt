@@ -59,7 +59,7 @@ count_calls h = parts 1024 (2 ^ h)
 abbrev pub area_calls : ℕ → ℕ
 area_calls h = node_calls h + count_calls h
 
--- the travel after one read of that many bytes, or none where there are none
+-- the travel after one read of that many bytes, or none if there are none
 abbrev pub after_part : ℕ → ℕ → Travel → Travel
 after_part place n t = if n == 0 then t else after_read place n t
 

@@ -14,9 +14,9 @@ use crate::gate::close_clean;
 use header_gate::{Header, HeaderFault, INDEXED, read_header};
 use station::{Failed, Station};
 
-/// Closes the clean gate of a file of version 3 or later where it is odd. Each word that opens a file begins with it.
+/// Closes the clean gate of a file of version 3 or later if it is odd. Each word that opens a file begins with it.
 ///
-/// It reads the header, and syncs only where it closes. A file that the header refuses is left as it is, and so is one
+/// It reads the header, and syncs only if it closes. A file that the header refuses is left as it is, and so is one
 /// without an odd clean gate. A clean file stays clean at every moment, and no byte but the clean gate changes.
 pub fn close_index<S: Station>(station: &mut S) -> Result<(), Failed>
     // At every moment, and in the held bytes whatever is answered, no byte differs but the clean gate's.

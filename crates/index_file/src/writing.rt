@@ -20,10 +20,10 @@ use station::{Failed, Station};
 use veb_index::Index;
 use window_tally::Tally;
 
-/// Nodes in a piece.
+/// Nodes in a piece: 64 of 64 bytes are its 4096.
 pub(crate) const PIECE_NODES: u32 = 64;
 
-/// Counts in a piece.
+/// Counts in a piece: 1024 of 4 bytes, likewise.
 pub(crate) const PIECE_COUNTS: u32 = 1024;
 
 /// Writes the nodes of an index of `h` levels into the file.

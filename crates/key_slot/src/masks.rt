@@ -11,6 +11,8 @@ pub(crate) const VECTOR_SIZE: usize = 16;
 /// How many bytes of a field lie before its last vector, at most: the value's field in format 2 is the longest.
 pub(crate) const BEFORE_LAST: usize = MAX_VALUE_LEN - VECTOR_SIZE;
 
+// How many rows the table has. The bytes of a field end up to 64 before the beginning of a vector, or up to 80 behind it, or at it:
+// 64 + 80 + 1.
 const ROWS: usize = 2 * BEFORE_LAST + VECTOR_SIZE + 1;
 
 /// The masks, row by row, at addresses that 16 divides: an instruction takes a vector from such a place in memory.
@@ -21,12 +23,13 @@ pub(crate) struct Masks {
 }
 
 /// The masks by how many bytes a field has from its vector on, counted from `BEFORE_LAST` bytes before it: 255 at each byte
-/// that is to be zero, which is at all where it has none, and at no byte where it has 16.
+/// that is to be zero, which is at all if it has none, and at no byte if it has 16.
 pub(crate) static MASKS: Masks = Masks {
     aligned: 0,
     rows: TABLE,
 };
 
+// 255 in the rows of vectors that begin where their field has ended, then a 0 more in each row, up to 16, for one byte more of the field.
 const TABLE: [u8; ROWS * VECTOR_SIZE] = [
     255, 255, 255, 255, 255, 255, 255, 255, 255, 255, 255, 255, 255, 255, 255, 255, 255, 255, 255,
     255, 255, 255, 255, 255, 255, 255, 255, 255, 255, 255, 255, 255, 255, 255, 255, 255, 255, 255,

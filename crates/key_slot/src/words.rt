@@ -1,4 +1,4 @@
-//! Bytes as numbers, the greatest first: where the numbers of two runs of bytes differ, they compare as the bytes do.
+//! Bytes as numbers, the greatest first: if the numbers of two runs of bytes differ, they compare as the bytes do.
 
 ghost use Rattle.std.specs.Prelude.{◌≡◌, ◌+◌, ◌<◌, ◌≤◌, ℕ, length, slice_index, slice_range};
 ghost use Rattle.std.specs.Slice.Scan.{big_endian};
@@ -7,7 +7,7 @@ ghost use Rattle.key_slot.specs.Fronts.{IsKeyNumber};
 
 use super::sizes::KEY_AT;
 
-/// How many bytes a word has.
+/// How many bytes a word has: those of a number of 64 bits, which one instruction compares. Each field of a key is whole words.
 pub(crate) const WORD_SIZE: usize = 8;
 
 /// The number of the eight bytes from a place on, the greatest first.

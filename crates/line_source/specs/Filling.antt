@@ -28,7 +28,7 @@ pub record HasFailed (old : ReaderView) (before : SourceView) (new : ReaderView)
   pub left : SourceTold before → after.left ≡ before.left
   pub rose : SourceRose before after
 
--- what stays where held bytes are given or let go
+-- what stays if held bytes are given or let go
 pub record IsKept (old new : ReaderView) : Type 0 where
   pub room : new.room ≡ old.room
   pub ended : new.ended ≡ old.ended
@@ -39,7 +39,7 @@ pub data IsGiven (step : LineStep) (long : Bool) (raw line : List ℕ) : Type 0 
   a_line : step ≡ Line → long ≡ false → length raw ≤ line_limit → line ≡ strip_carriage_return raw → IsGiven step long raw line
   a_long_line : step ≡ LongLine → line ≡ [] → (long ≡ true) ⊎ (line_limit < length raw) → IsGiven step long raw line
 
--- what is given where the end was met
+-- what is given if the end was met
 pub data GivesLast (step : LineStep) (long : Bool) (old new : ReaderView) : Type 0 where
   the_end : step ≡ End → long ≡ false → old.held ≡ [] → new ≡ record old { line = []; done = true } → GivesLast step long old new
   last_line : (long ≡ true) ⊎ (0 < length old.held) → new.held ≡ [] → IsKept old new → IsGiven step long old.held new.line → GivesLast step long old new

@@ -43,7 +43,7 @@ pub record GivesEnd (old : List ℕ) (reader : ReaderView) (source : SourceView)
   pub before : old ≡ []
   pub after : rest reader source ≡ []
 
--- what an answer says of what was to be given before it, where the source tells it
+-- what an answer says of what was to be given before it, if the source tells it
 abbrev pub Gives : LineStep → List ℕ → ReaderView → SourceView → Type 0
 Gives Line = GivesLine
 Gives LongLine = SkipsLine
@@ -81,7 +81,7 @@ pub record IsExact (step : LineStep) (reader : ReaderView) (source : SourceView)
   pub only : step ≡ Spent → IsSpent reader source
   pub always : IsSpent reader source → (step ≡ Spent) ⊎ (step ≡ ReadFailed)
 
--- each byte taken lowers the room by one, what was taken is a front of what was left, and the end is seen only where
+-- each byte taken lowers the room by one, what was taken is a front of what was left, and the end is seen only if
 -- nothing is left and there is room for more
 pub record Takes (old : ReaderView) (before : SourceView) (new : ReaderView) (after : SourceView) : Type 0 where
   pub count : length before.left + new.room ≡ length after.left + old.room

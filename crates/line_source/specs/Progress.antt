@@ -59,7 +59,7 @@ pub record IsCutShort (script left : List ℕ) (given : List (List ℕ)) : Type 
   -- their complete lines are those given
   pub complete : complete_lines taken ≡ given
 
--- what a last answer says of all that was to be given, where the source tells it: at the end every line was given,
+-- what a last answer says of all that was to be given, if the source tells it: at the end every line was given,
 -- nothing is left, and fewer bytes were there than might have been taken; else the complete lines among the bytes taken
 -- were, and at `Spent` these bytes are as many as might be taken
 abbrev pub GivesAll : LineStep → ReaderView → SourceView → List (List ℕ) → SourceView → Type 0

@@ -5,7 +5,7 @@ use Rattle.std.specs.Prelude.{◌≡◌, ℕ, ◌+◌, ◌-◌, ◌^◌, ◌≤�
 pub record SourceView : Type 0 where
   -- whether the source tells what it has left
   pub tells : Bool
-  -- what is left, where the source tells it
+  -- what is left, if the source tells it
   pub left : List ℕ
   -- how many reads failed so far
   pub faults : ℕ

@@ -9,7 +9,7 @@ use super::source::{ReadFailed, Source};
 use std::alloc::{AllocError, Global};
 use std::marker::Model;
 
-/// A script in memory, which comes in pieces and fails where it is told to.
+/// A script in memory, which comes in pieces, and whose calls fail by a plan.
 #[derive(Drop)]
 pub struct MemSource {
     bytes: Vec<u8>,
@@ -40,7 +40,7 @@ impl Model for MemSource {
 impl MemSource {
     /// A source of these bytes, which gives at most `piece` of them a call.
     ///
-    /// Call number n, from 0, fails exactly where n is in `fail`. It takes memory for both lists, and `AllocError` is want
+    /// Call number n, from 0, fails exactly if n is in `fail`. It takes memory for both lists, and `AllocError` is want
     /// of memory.
     pub fn new(
         alloc: Global,

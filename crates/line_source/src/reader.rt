@@ -126,7 +126,7 @@ impl LineReader {
         // At most 4096 bytes are held, that is, taken and not given yet.
         ensures ahead { length self.new.held ≤ most_held }
         // After each answer but a last one the bytes held and those that may still be taken are fewer in sum, so that reading
-        // comes to an end; with a given line fewer by its bytes at least.
+        // ends; with a given line fewer by its bytes at least.
         ensures falls { is_last result ≡ false
             → self.new.room + length self.new.held < self.old.room + length self.old.held }
         ensures given { self.new.room + length self.new.held + length self.new.line ≤ self.old.room + length self.old.held }
@@ -192,7 +192,7 @@ impl LineReader {
         LineStep::Line
     }
 
-    // Gives all that is held as the last line, or the end where there is none.
+    // Gives all that is held as the last line, or the end if there is none.
     fn give_last(&mut self, long: bool) -> LineStep
         ensures last { GivesLast result long self.old self.new }
         ensures ahead { length self.new.held ≤ most_held }

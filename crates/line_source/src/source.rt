@@ -15,7 +15,7 @@ pub trait Source {
 
     /// Moves the first bytes of what is left into the front of `buf`, and answers how many.
     ///
-    /// For a `buf` that isn't empty, 0 is the end of the script. `ReadFailed` comes only where the count of failed
+    /// For a `buf` that isn't empty, 0 is the end of the script. `ReadFailed` comes only if the count of failed
     /// reads rose; nothing was taken then.
     fn take(&mut self, buf: &mut [u8]) -> Result<usize, ReadFailed>
         // On Ok as many bytes as it answers, the first that were left, stand at the front of `buf`, and the others are left.

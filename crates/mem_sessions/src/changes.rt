@@ -7,7 +7,7 @@ use crate::sessions::{SMOOTH, status_over, words_on_file};
 use station::{Failed, SayFailed, Station, Travel};
 use std::alloc::{AllocError, Global};
 
-// The longest file that it serves, in bytes.
+// The longest file that it serves, in bytes: the most that any station's reach may be.
 const REACH: usize = 1 << 40;
 
 /// A call, a place, and the byte that stands at the place from the call on.

@@ -4,7 +4,7 @@ use crate::sessions::{LONGEST, Plan, SMOOTH, Verb, status_over, words_to};
 use station::{CrashStation, MemStation, Pick, Station};
 use std::alloc::{AllocError, Global};
 
-/// The most calls that are noted.
+/// The most calls that are noted: more than any session of these tests makes, so that each is noted.
 pub const CALLS: u32 = 120;
 
 /// A session whose calls were noted.

@@ -1,4 +1,4 @@
--- What items make of an array, where they fit one commit: an edit of each segment to which a key of theirs belongs.
+-- What items make of an array, if they fit one commit: an edit of each segment to which a key of theirs belongs.
 use Rattle.std.specs.Prelude.{◌≡◌, ℕ, ◌+◌, ◌<◌, ◌==◌, ◌&&◌, if◌then◌else◌, Bool, true, false, List, [], ◌∷◌, length, take, get_or}
 use Rattle.header_gate.specs.Paged.{segment_image}
 use Rattle.key_slot.specs.Record.{Record}
@@ -39,7 +39,7 @@ abbrev pub marks_by_changes : ℕ → List ItemChange → Marks → Marks
 marks_by_changes height [] marks = marks
 marks_by_changes height (c ∷ cs) marks = marks_by_changes height cs (updated_marks height c.segment marks)
 
--- how many images of segments an item may write, by whether its key is there: two where it edits a segment
+-- how many images of segments an item may write, by whether its key is there: two if it edits a segment
 abbrev pub charge_one : Bool → Update → ℕ
 charge_one b (bind key value) = 2
 charge_one true (unbind key) = 2

@@ -10,6 +10,7 @@ use segment::Damage;
 use std::alloc::Global;
 use std::test::Fail;
 
+// The two slot formats.
 const NARROW: u32 = 1;
 
 const WIDE: u32 = 2;

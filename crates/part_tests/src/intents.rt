@@ -13,6 +13,7 @@ use std::alloc::Global;
 use std::process::Abort;
 use std::test::Fail;
 
+// Places in the header page: the intent's gate, and the intent, which ends with the page.
 const GATE: usize = 640;
 
 const INTENT: usize = 3584;

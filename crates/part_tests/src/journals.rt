@@ -31,10 +31,10 @@ const PLACE: Place = Place {
 // The length of a store of eight segments, in bytes: two pages, eight images and two regions.
 const LENGTH: usize = 106496;
 
-// The place of its segment 0 in region 0.
+// The offset of its segment 0 in region 0, behind the two pages and eight images.
 const SEGMENT_0: usize = 40960;
 
-// How many device calls make a store.
+// How many device calls make a store: the length, two writes and a sync.
 const MAKING: u32 = 4;
 
 // A batch of segments `a`, `b` and `c`; the first slot of each is filled with one more than its number.

@@ -1,4 +1,4 @@
--- How many calls of the device a command makes, and the line that asks for it.
+-- How many calls of the device a command makes, and the line that has it.
 use Rattle.std.specs.Prelude.{◌≡◌, ℕ, ◌+◌, ◌/◌, ◌^◌, ◌<◌, ◌≤◌, length, Option, Some, None}
 use Rattle.std.specs.FinMap.{entries, get}
 use Rattle.station.specs.View.{View, Told}
@@ -16,15 +16,15 @@ use Rattle.pma_store.specs.Calling.{asked_calls}
 use Rattle.pma_store.specs.Damaging.{picked}
 use Rattle.pma_store.specs.Store.{StoreView}
 
--- that many calls are those of an update, by what the kept counts ask for in one segment, to which the key belongs; the first one
--- reads that segment, and where they ask for nothing the commit makes nine behind it, at version 4 six
+-- that many calls are those of an update, by what the kept counts need in one segment, to which the key belongs; the first one
+-- reads that segment, and if they need nothing the commit makes nine behind it, at version 4 six
 pub record IsForUpdate (change : Change) (key : Bytes) (s : StoreView) (a : View) (calls : ℕ) : Type 0 where
   pub at : ℕ
   pub within : at < 2 ^ s.tally.height
   pub own : Told a → at ≡ segment_for (array_of a.held) key
   pub is : calls ≡ 1 + asked_calls s.place.layout s.tally.height (picked change at s.tally)
 
--- that many calls are those of a step of a cursor, which reads a segment or two; where there is none, none
+-- that many calls are those of a step of a cursor, which reads a segment or two; if there is none, none
 abbrev pub IsForStep : Option Cursor → ℕ → Type 0
 IsForStep None calls = calls ≡ 0
 IsForStep (Some k) calls = calls ≡ 2
@@ -35,7 +35,7 @@ pub record IsForRange (low high : Option Bytes) (limit : ℕ) (s : StoreView) (a
   pub within : calls ≤ 2 ^ s.tally.height
   pub few : Told a → calls ≤ length (scanned low high limit (entries (map_of a.held))) / 4 + 2
 
--- That many calls are those of a command, with these cursors open: of an update by what is asked for, of a batch by its segments and
+-- That many calls are those of a command, with these cursors open: of an update by what it needs, of a batch by its segments and
 -- its items, of a get one, of a range one for each segment that it reads, of a check one for each segment, of a step of a cursor two,
 -- and of every other command none.
 abbrev pub IsForCommand : Command → StoreView → Cursors → View → ℕ → Type 0

@@ -20,7 +20,7 @@ abbrev pub IsSettledStatus : ℕ → Type 0
 IsSettledStatus status = IsRest status ⊎ (status ≡ REPLY_FAULT)
 
 -- The outcome of the end of a run, whose serving ended with such a status, and whose file has no index that means anything. Nothing is
--- pending then, and where all was answered the index was left, if the file has room for one; or a disk call failed.
+-- pending then, and if all was answered the index was left, if the file has room for one; or a disk call failed.
 pub record EndsRun (served status : ℕ) (s : StoreView) (a b : View) : Type 0 where
   pub status_is : (status ≡ served) ⊎ (status ≡ DISK_FAULT)
   -- no moment changes the map

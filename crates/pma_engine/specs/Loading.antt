@@ -61,7 +61,7 @@ status_of_load (Err (load.Damaged segment why)) = REFUSED
 status_of_load (Err load.Script) = SCRIPT_FAULT
 status_of_load (Err load.Spent) = TOO_LONG
 
--- where the source tells it, all that it has left is a load text with these records, which a store of this layout admits: in its
+-- if the source tells it, all that it has left is a load text with these records, which a store of this layout admits: in its
 -- slot format, and as many as it may hold
 abbrev pub HasText : Layout → SourceView → List Record → Type 0
 HasText l s rows = SourceTold s → IsLoadText l.format (raw_lines s.left) rows × (length rows ≤ most_records l)
@@ -75,7 +75,7 @@ pub record MeansText (l : Layout) (s : SourceView) (image : List ℕ) : Type 0 w
   pub layout : layout_in image ≡ l
   pub means : Means image (from_sorted rows) height
 
--- the new image has the layout of the old one, and means each map that it does; or, where that has no records, the map of the
+-- the new image has the layout of the old one, and means each map that it does; or, if that has no records, the map of the
 -- whole text
 abbrev pub MayLoad : SourceView → List ℕ → List ℕ → Type 0
 MayLoad s old new = (m : Map) → MeansMap (layout_in old) old m → MeansMap (layout_in old) new m ⊎ ((m ≡ empty_map) × MeansText (layout_in old) s new)
@@ -96,12 +96,12 @@ pub record IsReadWhole (most : ℕ) (s0 s1 : SourceView) : Type 0 where
   pub all : s1.left ≡ []
   pub short : length s0.left < most
 
--- where the source tells it, line n is the first that no load text can have there, or one more than there are, where the lines
+-- if the source tells it, line n is the first that no load text can have there, or one more than there are, if the lines
 -- end before the one with the number of records; and before it are no more records than a store of this layout may hold
 abbrev pub IsWrongAt : Layout → SourceView → ℕ → Type 0
 IsWrongAt l s n = SourceTold s → IsRefusedAt l.format (most_records l) (raw_lines s.left) n
 
--- where the source tells it, a record follows as many as a store of this layout may hold
+-- if the source tells it, a record follows as many as a store of this layout may hold
 abbrev pub IsTooLong : Layout → SourceView → Type 0
 IsTooLong l s = SourceTold s → IsOneTooMany l.format (most_records l) (raw_lines s.left)
 
@@ -202,7 +202,7 @@ pub record LoadsFile (status most : ℕ) (s0 s1 : SourceView) (a b : View) : Typ
   pub written : status ≡ DONE → Told a → b.travel.written ≤ a.travel.written + (reopening_cost a.held + load_cost (layout_in a.held) (height_of b.held))
   pub most_written : Told a → b.travel.written ≤ a.travel.written + (reopening_cost a.held + load_cost (layout_in a.held) (height_limit (layout_in a.held)))
 
--- the outcome of a load into an open store of this layout with that many records, on whose station nothing is pending, where that many
+-- the outcome of a load into an open store of this layout with that many records, on whose station nothing is pending, if that many
 -- bytes may be written before the text is read; its file has no intent that is to be applied
 pub record LoadsOpened (status most : ℕ) (l : Layout) (records before : ℕ) (s0 s1 : SourceView) (a b : View) : Type 0 where
   pub status_is : IsRest status ⊎ ((status ≡ REFUSED) ⊎ (status ≡ DISK_FAULT))

@@ -150,7 +150,7 @@ pub record UpgradesFile (status : ℕ) (a b : View) : Type 0 where
   -- height that an upgrade gives the file.
   pub written : Told a → b.travel.written ≤ a.travel.written + (reopening_cost a.held + upgrade_cost (layout_in a.held) (opened_height a.held))
 
--- the outcome of the upgrade of an open store, on whose station nothing is pending, where that many bytes may be written before it is
+-- the outcome of the upgrade of an open store, on whose station nothing is pending, if that many bytes may be written before it is
 -- widened; its file has no intent that is to be applied
 pub record UpgradesOpened (status : ℕ) (l : Layout) (height before : ℕ) (a b : View) : Type 0 where
   pub status_is : (status ≡ DONE) ⊎ ((status ≡ REFUSED) ⊎ (status ≡ DISK_FAULT))

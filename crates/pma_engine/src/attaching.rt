@@ -1,4 +1,4 @@
-//! The file of a job that works on a store: how it is opened, and the end where it isn't.
+//! The file of a job that works on a store: how it is opened, and the end if it isn't.
 
 ghost use Rattle.std.specs.Prelude.{◌≡◌, ◌+◌, ◌≤◌, None, Some, OnOk, true, false};
 ghost use Rattle.station.specs.Steps.{Says};
@@ -27,7 +27,7 @@ use recovery::{OpenFault, Parts};
 use station::{Failed, Station};
 use std::alloc::Global;
 
-/// Attaches the file of that name, and opens its store: by the index in the file where `quick` asks for it and one was left, and
+/// Attaches the file of that name, and opens its store: by the index in the file if `quick` is set and one was left, and
 /// else by its live region. The index is closed before anything else is written, and the items of an intent that is to be applied
 /// are made. Nothing is pending behind it.
 pub(crate) fn open_file<S: Station>(
@@ -54,7 +54,7 @@ pub(crate) fn open_file<S: Station>(
     }
 }
 
-// Opens the store by the index in its file, where one was left, and else by its live region.
+// Opens the store by the index in its file, if one was left, and else by its live region.
 fn open_by_index<S: Station>(alloc: Global, station: &mut S) -> Result<Store, OpenFault>
     requires clean { Told (S.view station.old) → IsClean (S.view station.old).held }
     ensures opens { OpensStore true result (S.view station.old) (S.view station.new) }
@@ -84,7 +84,7 @@ fn open_parts<S: Station>(station: &mut S, parts: Parts) -> Result<Store, OpenFa
     }
 }
 
-// Closes the index, and opens the store by its live region. Where the file has two journals, its last commit may have left pages
+// Closes the index, and opens the store by its live region. If the file has two journals, its last commit may have left pages
 // pending, so one sync more is made.
 fn open_by_region<S: Station>(alloc: Global, station: &mut S) -> Result<Store, OpenFault>
     ensures opens { OpensStore false result (S.view station.old) (S.view station.new) }
@@ -122,7 +122,7 @@ fn sync_opened<S: Station>(station: &mut S, store: Store) -> Result<Store, OpenF
     }
 }
 
-/// Ends a job whose store could not be opened, and says the line where its file is refused.
+/// Ends a job whose store could not be opened, and says the line if its file is refused.
 pub(crate) fn end_unopened<S: Station>(station: &mut S, fault: OpenFault) -> u8
     ensures status { result ≡ status_of_opening fault }
     ensures calls { (S.view station.new).calls ≤ (S.view station.old).calls + 512 }

@@ -21,7 +21,7 @@ use std::alloc::Global;
 /// Opens the store of that name, and says the lines of all its records, ascending, and then a line with their number: a load
 /// text. Nothing is written once the store is open.
 ///
-/// A file that is refused is told in one line. What was said where a call failed is a front of the lines, and has no line with
+/// If the file is refused, one line says why. What was said before a call failed is a front of the lines, and has no line with
 /// the number, so no load takes it for the whole.
 pub(crate) fn dump_file<S: Station>(alloc: Global, station: &mut S, name: &str) -> u8
     requires first { (S.view station.old).attached ≡ None }

@@ -17,7 +17,7 @@ use pma_store::Store;
 use segment::StoreFault;
 use station::Station;
 
-/// Ends a run whose serving ended with this status: leaves nothing pending, and where all was done, the index of the store in its
+/// Ends a run whose serving ended with this status: leaves nothing pending, and if all was done, the index of the store in its
 /// file, if the file has room for one.
 ///
 /// The index is left last, so that no commit comes behind it.

@@ -26,9 +26,9 @@ use std::alloc::Global;
 
 /// Opens the store of that name, which has no records, and reads a load text into it, of which it takes at most `most` bytes.
 ///
-/// A crash at any moment leaves the store without records, or with all that the text has. A store that has records is told in
-/// one line before anything is taken from the source, and a text that is wrong or has too many records by the number of its line
-/// or the most records. Else nothing is said.
+/// A crash at any moment leaves the store without records, or with all that the text has. If the store has records, one
+/// line says so before anything is taken from the source; if the text is wrong or has too many records, one line has the number of
+/// its line or the most records. Else nothing is said.
 pub(crate) fn load_file<I: Source, S: Station>(
     alloc: Global,
     source: &mut I,
@@ -54,7 +54,7 @@ pub(crate) fn load_file<I: Source, S: Station>(
     }
 }
 
-// Reads the text into an open store, and says the line where it isn't loaded. A store that has records is left as it is; in a file
+// Reads the text into an open store, and says the line if it isn't loaded. A store that has records is left as it is; in a file
 // with two journals the live one is cleared before any other.
 fn load_opened<I: Source, S: Station>(
     source: &mut I,
@@ -110,7 +110,7 @@ fn load_settled<I: Source, S: Station>(
     end_loaded(station, loaded)
 }
 
-/// Ends a load, and says the line where the text isn't loaded.
+/// Ends a load, and says the line if the text isn't loaded.
 pub(crate) fn end_loaded<S: Station>(station: &mut S, loaded: Result<Loaded, LoadFault>) -> u8
     ensures status { result ≡ status_of_load loaded }
     ensures says { Says (line_text (line_of_load loaded)) (S.view station.old) (S.view station.new) }

@@ -33,8 +33,8 @@ use std::alloc::Global;
 /// Opens the store of that name, and makes the updates of a merge text in it, of which it takes at most `most` bytes.
 ///
 /// A crash at any moment leaves the store with the map of before, or with that after all updates of the text. Once they are
-/// made, one line tells how many of them bound a new key, bound a present one, took a record away, and found none. A text that
-/// is wrong, or of which too many records result, is told in one line by the number of its line or the most records. Else
+/// made, one line tells how many of them bound a new key, bound a present one, took a record away, and found none. If the
+/// text is wrong, or too many records result of it, one line says so, with the number of its line or the most records. Else
 /// nothing is said.
 pub(crate) fn merge_file<I: Source, S: Station>(
     alloc: Global,
@@ -112,7 +112,7 @@ fn merge_settled<I: Source, S: Station>(
     end_merged(station, merged)
 }
 
-// Ends a merge, and says what was merged, or the line where the text isn't merged.
+// Ends a merge, and says what was merged, or the line if the text isn't merged.
 fn end_merged<S: Station>(station: &mut S, merged: Result<Merged, LoadFault>) -> u8
     ensures status { EndsMerge merged result }
     ensures says { Says (line_text (line_of_merge merged)) (S.view station.old) (S.view station.new) }

@@ -16,7 +16,7 @@ use std::marker::Model;
 /// The most bytes that are said at once: as many as are read at once, so that a scan says about as often as it reads.
 pub(crate) const BUFFER_LEN: usize = 16384;
 
-/// The most bytes of one line.
+/// The most bytes of one line: those that a `ReplyText` has room for, in which a line is written if it can't be copied.
 pub(crate) const LINE_LEN: usize = 512;
 
 /// Lines that are said at once, and the text in which a line that can't be copied is written first.

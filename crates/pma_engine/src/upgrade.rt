@@ -22,13 +22,13 @@ use segment::StoreFault;
 use station::Station;
 use std::alloc::Global;
 
-// The slot format that an upgrade makes.
+// The slot format that an upgrade makes: a store begins in format 1, and 2 is the only other one.
 const WIDE: u32 = 2;
 
 /// Opens the store of that name, and spreads its records in slots of format 2 over the other region. The items of an intent
 /// that is to be applied are made before that, so that none is left for the longer slots.
 ///
-/// A store that isn't upgraded is told in one line, and so is a file that is refused. Else nothing is said.
+/// If the store isn't upgraded, or the file is refused, one line says why. Else nothing is said.
 pub(crate) fn upgrade_file<S: Station>(alloc: Global, station: &mut S, name: &str) -> u8
     requires first { (S.view station.old).attached ≡ None }
     requires named { NamedBy name.now (S.view station.old).fixed.name }
@@ -45,7 +45,7 @@ pub(crate) fn upgrade_file<S: Station>(alloc: Global, station: &mut S, name: &st
     }
 }
 
-// Upgrades an open store, and says the line where it isn't upgraded. A store that is refused is left as it is; in a file with two
+// Upgrades an open store, and says the line if it isn't upgraded. A store that is refused is left as it is; in a file with two
 // journals the live one is cleared before any other is upgraded.
 fn upgrade_opened<S: Station>(station: &mut S, store: Store) -> u8
     requires open { IsOpenOn store (S.view station.old) }
@@ -80,7 +80,7 @@ fn upgrade_settled<S: Station>(station: &mut S, store: Store) -> u8
     end_upgraded(station, copy, upgraded)
 }
 
-// Ends the upgrade of a store with this live copy, and says the line where it isn't upgraded.
+// Ends the upgrade of a store with this live copy, and says the line if it isn't upgraded.
 fn end_upgraded<S: Station>(station: &mut S, copy: u32, upgraded: Result<Upgrade, StoreFault>) -> u8
     ensures status { result ≡ status_of_upgrade upgraded }
     ensures says { Says (line_text (line_of_upgrade copy upgraded)) (S.view station.old) (S.view station.new) }

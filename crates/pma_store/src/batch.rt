@@ -1,6 +1,6 @@
 //! Several updates as one command, all of them or none.
 //!
-//! A batch whose items ask for no rebalance and no resize is one commit. Any other is written down as an intent first, and its
+//! A batch whose items need no rebalance and no resize is one commit. Any other is written down as an intent first, and its
 //! items are then made one after another; where a crash stops that, the next opening makes them.
 
 ghost use Rattle.std.specs.Prelude.{◌≡◌, ◌^◌, ◌<◌, ◌≤◌, ◌↔◌, Some, OnOk, IfOk, IfErr, IsErrOf, is_err, length, sum, T, IsTrue, is_ok, is_some};

@@ -45,7 +45,7 @@ use station::Station;
 use veb_index::Index;
 use window_tally::Tally;
 
-/// The most items that a batch may have.
+/// The most items that a batch may have, as a length of arrays: an intent has room for no more.
 pub(crate) const MOST: usize = MOST_ITEMS as usize;
 
 /// What was found of a batch.

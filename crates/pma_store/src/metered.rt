@@ -73,7 +73,7 @@ impl Metered {
         self.store
     }
 
-    /// What was noted since the session began, and what the charges may come to.
+    /// What was noted since the session began, and the most that the charges may be.
     pub fn cost(&self) -> Cost
         // The number of updates, the sum of their charges, and `514 * U + 32 * (h + 1) * 2^h` for U updates, with h the height at
         // the start. The sum doesn't pass this bound, also after a fault.
@@ -119,7 +119,7 @@ impl Metered {
 
     /// Binds the key to the value, as [`Store::put`] does.
     ///
-    /// It is one update, which is noted with its charge where it answers Ok. So far fewer than `2^63` were.
+    /// It is one update, which is noted with its charge if it answers Ok. So far fewer than `2^63` were.
     pub fn put<S: Station>(
         &mut self,
         station: &mut S,
@@ -142,7 +142,7 @@ impl Metered {
         // differ.
         ensures counted { IfErr result (TellsOther (2 ^ limit_of self.old.store)) }
         // Damage is met before anything is written, and isn't that keys are out of order, unless by the kept counts such a change
-        // of some segment asks for a rebalance or a resize first.
+        // of some segment needs a rebalance or a resize first.
         ensures early { IfErr result (IsMetFirst Add self.old.store.tally (S.view station.old) (S.view station.new)) }
         // On every station the update goes by the kept counts and marks, as `UpdatesAt` says.
         ensures at { UpdatesAt (bind key.now value.now) result (λ done. is_new done.0) (λ done. done.1) self.old.store self.new.store (S.view station.old) (S.view station.new) }
@@ -161,7 +161,7 @@ impl Metered {
 
     /// Takes the key's record away, as [`Store::remove`] does.
     ///
-    /// It is one update, which is noted with its charge where it answers Ok. So far fewer than `2^63` were.
+    /// It is one update, which is noted with its charge if it answers Ok. So far fewer than `2^63` were.
     pub fn remove<S: Station>(
         &mut self,
         station: &mut S,
@@ -182,7 +182,7 @@ impl Metered {
         // differ.
         ensures counted { IfErr result (TellsOther (2 ^ limit_of self.old.store)) }
         // Damage is met before anything is written, and isn't that keys are out of order, unless by the kept counts such a change
-        // of some segment asks for a rebalance or a resize first.
+        // of some segment needs a rebalance or a resize first.
         ensures early { IfErr result (IsMetFirst Take self.old.store.tally (S.view station.old) (S.view station.new)) }
         // On every station the update goes by the kept counts and marks, as `UpdatesAt` says.
         ensures at { UpdatesAt (unbind key.now) result (λ done. done.0) (λ done. done.1) self.old.store self.new.store (S.view station.old) (S.view station.new) }
@@ -200,7 +200,7 @@ impl Metered {
 
     /// Makes the items of an intent, all of them or none, as [`Store::batch`] does.
     ///
-    /// Each item is an update, and they are noted together where they were made. So far fewer than `2^63` were noted.
+    /// Each item is an update, and they are noted together if they were made. So far fewer than `2^63` were noted.
     pub fn batch<S: Station>(
         &mut self,
         station: &mut S,

@@ -63,7 +63,7 @@ impl OpenArray {
         self.grow_cleared(station)
     }
 
-    // The same, where no page is to be replayed over the live region.
+    // The same, if no page is to be replayed over the live region.
     fn grow_cleared<S: Station>(&mut self, station: &mut S) -> Result<(), StoreFault>
         requires on { StandsOn self.old (S.view station.old) }
         requires nothing { NothingPending (S.view station.old) }
@@ -120,7 +120,7 @@ impl OpenArray {
         self.shrink_cleared(station)
     }
 
-    // The same, where no page is to be replayed over the live region.
+    // The same, if no page is to be replayed over the live region.
     fn shrink_cleared<S: Station>(&mut self, station: &mut S) -> Result<(), StoreFault>
         requires on { StandsOn self.old (S.view station.old) }
         requires nothing { NothingPending (S.view station.old) }

@@ -13,7 +13,7 @@ use Rattle.std.specs.FinMap.Entries.{below_all, where_key}
 use Rattle.key_slot.specs.Record.{Bytes, Record, key_cmp, IsAscending}
 use Rattle.key_slot.proofs.Truth.{first, second, passed}
 use Rattle.map_model.specs.Scan.{is_below, is_from, is_within}
-use Rattle.range_scan.specs.Seeking.{later, is_at, stands_at, PlacedPast, first_below}
+use Rattle.range_scan.specs.Seeking.{later, is_at, stands_at, IsIndexPast, first_below}
 use Rattle.range_scan.specs.Seeking.{NoneAhead, is_ahead}
 use Rattle.segment.specs.Rows.{key_at}
 use Rattle.range_scan.specs.Sweeping.{first_for}
@@ -158,19 +158,19 @@ ahead_before low past high rs before = ahead_is low past high rs ∙ ap (where_k
 at_not : (low past high : Option Bytes) (key : Bytes) → is_at past key ≡ true → is_ahead low past high key ≡ false
 at_not low past high key at = ahead_by low past high key ∙ ap (λ (b : Bool). is_within (later low past) high key && not b) at ∙ and_false (is_within (later low past) high key)
 
--- records at whose end the place stands
-pub none_past : (low past high : Option Bytes) (rs : List Record) (place : ℕ) → PlacedPast (later low past) past rs place → length rs ≤ place → ahead_of low past high rs ≡ []
-none_past low past high rs place p at_end =
+-- records at whose end the index stands
+pub none_past : (low past high : Option Bytes) (rs : List Record) (index : ℕ) → IsIndexPast (later low past) past rs index → length rs ≤ index → ahead_of low past high rs ≡ []
+none_past low past high rs index p at_end =
     ap (ahead_of low past high) (sym (take-append-drop p.from rs))
     ∙ ahead-append low past high (take p.from rs) (drop p.from rs)
     ∙ ap (λ (es : List Record). es ++ ahead_of low past high (drop p.from rs)) (ahead_before low past high (take p.from rs) p.before)
-    ∙ by_list (drop p.from rs) (length-drop p.from rs) p.place_is
+    ∙ by_list (drop p.from rs) (length-drop p.from rs) p.index_is
   where
-    by_list : (ds : List Record) → length ds ≡ length rs - p.from → place ≡ cond (stands_at past (slice_get ds 0)) (p.from + 1) p.from → ahead_of low past high ds ≡ []
+    by_list : (ds : List Record) → length ds ≡ length rs - p.from → index ≡ cond (stands_at past (slice_get ds 0)) (p.from + 1) p.from → ahead_of low past high ds ≡ []
     by_list [] size is = refl
     by_list (x ∷ xs) size is = by_at (is_at past x.0) refl is
       where
-        by_at : (b : Bool) → is_at past x.0 ≡ b → place ≡ cond b (p.from + 1) p.from → ahead_of low past high (x ∷ xs) ≡ []
+        by_at : (b : Bool) → is_at past x.0 ≡ b → index ≡ cond b (p.from + 1) p.from → ahead_of low past high (x ∷ xs) ≡ []
         by_at false at here = absurd (omega (arith, here, at_end, size))
         by_at true at here = by_rest xs (omega (arith, here, at_end, size))
           where
@@ -210,10 +210,10 @@ module _ (layout : Layout) (region height : ℕ) (counts image : List ℕ) (stan
 some≢none : {A : Type 0} (x : A) → Some x ≡ None → ⊥
 some≢none x e = subst T (ap is_some e) tt
 
--- The record at a place.
+-- The record at an index.
 
-pub first_drop : (high : Option Bytes) (rs : List Record) (place : ℕ) (r : Record) → slice_get rs place ≡ Some r → first_below high (drop place rs) ≡ cond (is_below high r.0) (Some r) None
-first_drop high [] place r is = absurd (some≢none r (sym is))
+pub first_drop : (high : Option Bytes) (rs : List Record) (index : ℕ) (r : Record) → slice_get rs index ≡ Some r → first_below high (drop index rs) ≡ cond (is_below high r.0) (Some r) None
+first_drop high [] index r is = absurd (some≢none r (sym is))
 first_drop high (x ∷ rs) zero r is = by_same (some_inj x r is)
   where
     some_inj : (a b : Record) → Some a ≡ Some b → a ≡ b
@@ -224,15 +224,15 @@ first_drop high (x ∷ rs) zero r is = by_same (some_inj x r is)
 first_drop high (x ∷ rs) (suc n) r is = first_drop high rs n r is
 
 -- The second segment of a look has a record that is looked for.
-pub second_found : (start past : Option Bytes) (rs : List Record) (place : ℕ) → PlacedPast start past rs place → T (are_from start rs) → 4 ≤ length rs → length rs ≤ place → ⊥
-second_found start past rs place p from four at_end =
+pub second_found : (start past : Option Bytes) (rs : List Record) (index : ℕ) → IsIndexPast start past rs index → T (are_from start rs) → 4 ≤ length rs → length rs ≤ index → ⊥
+second_found start past rs index p from four at_end =
     let front : T (are_from start (take p.from rs)) = (from-append start (take p.from rs) (drop p.from rs) (subst (λ (es : List Record). T (are_from start es)) (sym (take-append-drop p.from rs)) from)).0 in
     let none : take p.from rs ≡ [] = no_both start (take p.from rs) front p.before in
     let whole : drop p.from rs ≡ rs = ap (λ (es : List Record). es ++ drop p.from rs) (sym none) ∙ take-append-drop p.from rs in
-    let far : place ≤ p.from + 1 = by_test (stands_at past (slice_get (drop p.from rs) 0)) p.place_is in
+    let far : index ≤ p.from + 1 = by_test (stands_at past (slice_get (drop p.from rs) 0)) p.index_is in
     omega (arith, ap length whole, length-drop p.from rs, far, four, at_end)
   where
-    by_test : (b : Bool) → place ≡ cond b (p.from + 1) p.from → place ≤ p.from + 1
+    by_test : (b : Bool) → index ≡ cond b (p.from + 1) p.from → index ≤ p.from + 1
     by_test true is = omega (arith, is)
     by_test false is = omega (arith, is)
 
@@ -244,38 +244,38 @@ rows_take (s ∷ segments) (suc n) lt =
     ap (λ (k : ℕ). rows (take k (s ∷ segments))) {x = suc n + 1} {y = suc (n + 1)} (omega arith)
     ∙ ap (λ (es : List Record). s ++ es) (rows_take segments n (omega (arith, lt))) ∙ sym (append_assoc s (rows (take n segments)) (get_or segments n []))
 
-pub none_more : (start past high : Option Bytes) (segments : Array) (n place : ℕ) → n < length segments → NoneAhead start past high (rows (take n segments))
-    → PlacedPast start past (get_or segments n []) place → length (get_or segments n []) ≤ place → NoneAhead start past high (rows (take (n + 1) segments))
-none_more start past high segments n place lt none p at_end low is =
+pub none_more : (start past high : Option Bytes) (segments : Array) (n index : ℕ) → n < length segments → NoneAhead start past high (rows (take n segments))
+    → IsIndexPast start past (get_or segments n []) index → length (get_or segments n []) ≤ index → NoneAhead start past high (rows (take (n + 1) segments))
+none_more start past high segments n index lt none p at_end low is =
     ap (ahead_of low past high) (rows_take segments n lt)
     ∙ ahead-append low past high (rows (take n segments)) (get_or segments n [])
     ∙ ap (λ (es : List Record). es ++ ahead_of low past high (get_or segments n [])) (none low is)
-    ∙ none_past low past high (get_or segments n []) place (subst (λ (b : Option Bytes). PlacedPast b past (get_or segments n []) place) is p) at_end
+    ∙ none_past low past high (get_or segments n []) index (subst (λ (b : Option Bytes). IsIndexPast b past (get_or segments n []) index) is p) at_end
 
 -- one that isn't below the bound
-pub none_below : (high : Option Bytes) (h key : Bytes) (rs : List Record) (place : ℕ) → high ≡ Some h → key_at rs place ≡ Some key → is_lt (key_cmp key h) ≡ false → first_below high (drop place rs) ≡ None
-none_below high h key [] place is at lt = absurd (some≢none key (sym at))
+pub none_below : (high : Option Bytes) (h key : Bytes) (rs : List Record) (index : ℕ) → high ≡ Some h → key_at rs index ≡ Some key → is_lt (key_cmp key h) ≡ false → first_below high (drop index rs) ≡ None
+none_below high h key [] index is at lt = absurd (some≢none key (sym at))
 none_below high h key (x ∷ rs) zero is at lt =
     let same : x.0 ≡ key = cc in
     ap (λ (b : Bool). cond b (Some x) None) (ap (λ (o : Option Bytes). is_below o x.0) is ∙ ap (λ (k : Bytes). is_lt (key_cmp k h)) same ∙ lt)
 none_below high h key (x ∷ rs) (suc n) is at lt = none_below high h key rs n is at lt
 
 -- one that is
-pub one_below : (high : Option Bytes) (r : Record) (rs : List Record) (place : ℕ) → slice_get rs place ≡ Some r → is_below high r.0 ≡ true → Some r ≡ first_below high (drop place rs)
-one_below high r rs place at below = sym (first_drop high rs place r at ∙ ap (λ (b : Bool). cond b (Some r) None) below)
+pub one_below : (high : Option Bytes) (r : Record) (rs : List Record) (index : ℕ) → slice_get rs index ≡ Some r → is_below high r.0 ≡ true → Some r ≡ first_below high (drop index rs)
+one_below high r rs index at below = sym (first_drop high rs index r at ∙ ap (λ (b : Bool). cond b (Some r) None) below)
 
-pub key_of_row : (rs : List Record) (place : ℕ) (r : Record) (key : Bytes) → slice_get rs place ≡ Some r → key_at rs place ≡ Some key → r.0 ≡ key
-key_of_row rs place r key at key_is =
+pub key_of_row : (rs : List Record) (index : ℕ) (r : Record) (key : Bytes) → slice_get rs index ≡ Some r → key_at rs index ≡ Some key → r.0 ≡ key
+key_of_row rs index r key at key_is =
     let both : Some r.0 ≡ Some key = sym (ap (option_map (λ (x : Record). x.0)) at) ∙ key_is in
     cc
 
--- whether a record at a place has the key
-pub place_at : (past : Option Bytes) (rs : List Record) (place : ℕ) (key : Bytes) → key_at rs place ≡ Some key → stands_at past (slice_get (drop place rs) 0) ≡ is_at past key
-place_at past [] place key at = absurd (some≢none key (sym at))
-place_at past (x ∷ rs) zero key at =
+-- whether a record at an index has the key
+pub at_index : (past : Option Bytes) (rs : List Record) (index : ℕ) (key : Bytes) → key_at rs index ≡ Some key → stands_at past (slice_get (drop index rs) 0) ≡ is_at past key
+at_index past [] index key at = absurd (some≢none key (sym at))
+at_index past (x ∷ rs) zero key at =
     let same : x.0 ≡ key = cc in
     ap (is_at past) same
-place_at past (x ∷ rs) (suc n) key at = place_at past rs n key at
+at_index past (x ∷ rs) (suc n) key at = at_index past rs n key at
 
 pub none_at : (past : Option Bytes) (o : Option Record) → past ≡ None → stands_at past o ≡ false
 none_at past None is = refl
@@ -330,30 +330,30 @@ apart_above (Some p) x y lt e = by_tie (key_cmp x p) refl e
     by_tie Greater is f = absurd (true≢false (sym f))
     by_tie Equal is f = ap is_eq (sym (alike_right order x p y is) ∙ order.antisymm y x ∙ ap ordering_reverse lt)
 
--- the first record ahead stands at the place
-pub first_found : (low past high : Option Bytes) (rs rest : List Record) (place : ℕ) → PlacedPast (later low past) past rs place → place < length rs → IsAscending (rs ++ rest)
-    → slice_get (ahead_of low past high (rs ++ rest)) 0 ≡ first_below high (drop place rs)
-first_found low past high rs rest place p lt ascending =
+-- the first record ahead stands at the index
+pub first_found : (low past high : Option Bytes) (rs rest : List Record) (index : ℕ) → IsIndexPast (later low past) past rs index → index < length rs → IsAscending (rs ++ rest)
+    → slice_get (ahead_of low past high (rs ++ rest)) 0 ≡ first_below high (drop index rs)
+first_found low past high rs rest index p lt ascending =
     let whole : rs ++ rest ≡ take p.from rs ++ (drop p.from rs ++ rest) = ap (λ (l : List Record). l ++ rest) (sym (take-append-drop p.from rs)) ∙ append_assoc (take p.from rs) (drop p.from rs) rest in
     let onward : IsAscending (drop p.from rs ++ rest) = (is_sorted-append {X = Bytes} key_cmp (take p.from rs) (drop p.from rs ++ rest) (subst IsAscending whole ascending)).1 in
     ap (λ (l : List Record). slice_get (ahead_of low past high l) 0) whole
     ∙ ap (λ (l : List Record). slice_get l 0) (ahead-append low past high (take p.from rs) (drop p.from rs ++ rest))
     ∙ ap (λ (l : List Record). slice_get (l ++ ahead_of low past high (drop p.from rs ++ rest)) 0) (ahead_before low past high (take p.from rs) p.before)
-    ∙ by_list (drop p.from rs) refl p.behind p.place_is onward
+    ∙ by_list (drop p.from rs) refl p.behind p.index_is onward
   where
-    by_list : (ds : List Record) → drop p.from rs ≡ ds → T (are_from (later low past) ds) → place ≡ cond (stands_at past (slice_get ds 0)) (p.from + 1) p.from → IsAscending (ds ++ rest)
-        → slice_get (ahead_of low past high (ds ++ rest)) 0 ≡ first_below high (drop place rs)
+    by_list : (ds : List Record) → drop p.from rs ≡ ds → T (are_from (later low past) ds) → index ≡ cond (stands_at past (slice_get ds 0)) (p.from + 1) p.from → IsAscending (ds ++ rest)
+        → slice_get (ahead_of low past high (ds ++ rest)) 0 ≡ first_below high (drop index rs)
     by_list [] are from is asc = absurd (omega (arith, is, lt, length-drop p.from rs, ap length are))
     by_list (x ∷ xs) are from is asc = by_at (is_at past x.0) refl is
       where
-        by_at : (b : Bool) → is_at past x.0 ≡ b → place ≡ cond b (p.from + 1) p.from → slice_get (ahead_of low past high (x ∷ (xs ++ rest))) 0 ≡ first_below high (drop place rs)
+        by_at : (b : Bool) → is_at past x.0 ≡ b → index ≡ cond b (p.from + 1) p.from → slice_get (ahead_of low past high (x ∷ (xs ++ rest))) 0 ≡ first_below high (drop index rs)
         by_at false at here =
             first_is low past high x xs (xs ++ rest) (passed _ (first (is_from (later low past) x.0) (are_from (later low past) xs) from)) at asc
             ∙ ap (first_below high) (sym (ap (λ (n : ℕ). drop n rs) here ∙ are))
         by_at true at here =
             ap (λ (b : Bool). slice_get (cond b (x ∷ ahead_of low past high (xs ++ rest)) (ahead_of low past high (xs ++ rest))) 0) (at_not low past high x.0 at)
             ∙ by_rest xs are from asc
-            ∙ ap (first_below high) (sym (ap (λ (n : ℕ). drop n rs) {x = place} {y = suc p.from} (omega (arith, here)) ∙ drop_one p.from rs x xs are))
+            ∙ ap (first_below high) (sym (ap (λ (n : ℕ). drop n rs) {x = index} {y = suc p.from} (omega (arith, here)) ∙ drop_one p.from rs x xs are))
           where
             by_rest : (es : List Record) → drop p.from rs ≡ x ∷ es → T (are_from (later low past) (x ∷ es)) → IsAscending (x ∷ (es ++ rest)) → slice_get (ahead_of low past high (es ++ rest)) 0 ≡ first_below high es
             by_rest [] is_one f a = absurd (omega (arith, here, lt, length-drop p.from rs, ap length is_one))
@@ -367,12 +367,12 @@ rows_split segments zero = refl
 rows_split [] (suc n) = refl
 rows_split (s ∷ segments) (suc n) = ap (λ (l : List Record). s ++ l) (rows_split segments n) ∙ sym (append_assoc s (rows (take n segments)) (rows (drop n segments)))
 
-pub found_in : (low past high : Option Bytes) (segments : Array) (n place : ℕ) (rs : List Record) → n < length segments → rs ≡ get_or segments n [] → ahead_of low past high (rows (take n segments)) ≡ []
-    → PlacedPast (later low past) past rs place → place < length rs → IsAscending (rows (drop n segments)) → slice_get (ahead_of low past high (rows segments)) 0 ≡ first_below high (drop place rs)
-found_in low past high segments n place rs lt same none p there ascending =
+pub found_in : (low past high : Option Bytes) (segments : Array) (n index : ℕ) (rs : List Record) → n < length segments → rs ≡ get_or segments n [] → ahead_of low past high (rows (take n segments)) ≡ []
+    → IsIndexPast (later low past) past rs index → index < length rs → IsAscending (rows (drop n segments)) → slice_get (ahead_of low past high (rows segments)) 0 ≡ first_below high (drop index rs)
+found_in low past high segments n index rs lt same none p there ascending =
     let here : rows (drop n segments) ≡ rs ++ rows (drop (n + 1) segments) = rows_from segments n lt ∙ ap (λ (l : List Record). l ++ rows (drop (n + 1) segments)) (sym same) in
     ap (λ (l : List Record). slice_get (ahead_of low past high l) 0) (rows_split segments n)
     ∙ ap (λ (l : List Record). slice_get l 0) (ahead-append low past high (rows (take n segments)) (rows (drop n segments)))
     ∙ ap (λ (l : List Record). slice_get (l ++ ahead_of low past high (rows (drop n segments))) 0) none
     ∙ ap (λ (l : List Record). slice_get (ahead_of low past high l) 0) here
-    ∙ first_found low past high rs (rows (drop (n + 1) segments)) place p there (subst IsAscending here ascending)
+    ∙ first_found low past high rs (rows (drop (n + 1) segments)) index p there (subst IsAscending here ascending)

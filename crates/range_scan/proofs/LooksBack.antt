@@ -166,24 +166,24 @@ below_by end (r ∷ rs) below =
     both (is_below (Some end) r.0) (are_below (Some end) rs) (first (is_lt (key_cmp r.0 end)) (all_below key_cmp end rs) below) (below_by end rs (second (is_lt (key_cmp r.0 end)) (all_below key_cmp end rs) below))
 
 -- A segment behind which all records are behind the bound.
-module _ (low end : Option Bytes) (segments : Array) (ascending : IsAscending (rows segments)) (n place : ℕ) (inside : n < length segments) (ends : EndsBy end (n + 1) segments)
-    (below : T (are_below end (take place (segment_at segments n)))) (behind : T (are_behind end (drop place (segment_at segments n)))) where
+module _ (low end : Option Bytes) (segments : Array) (ascending : IsAscending (rows segments)) (n index : ℕ) (inside : n < length segments) (ends : EndsBy end (n + 1) segments)
+    (below : T (are_below end (take index (segment_at segments n)))) (behind : T (are_behind end (drop index (segment_at segments n)))) where
   abbrev front : List Record
   front = rows (take n segments)
 
   abbrev here : List Record
-  here = take place (segment_at segments n)
+  here = take index (segment_at segments n)
 
   abbrev rest : List Record
-  rest = drop place (segment_at segments n) ++ rows (drop (n + 1) segments)
+  rest = drop index (segment_at segments n) ++ rows (drop (n + 1) segments)
 
   parted : rows segments ≡ (front ++ here) ++ rest
   parted =
       rows_parted segments n
       ∙ ap (λ (rs : List Record). front ++ rs) (
       rows_from segments n inside
-      ∙ ap (λ (rs : List Record). rs ++ rows (drop (n + 1) segments)) (sym (take-append-drop place (segment_at segments n)))
-      ∙ append_assoc here (drop place (segment_at segments n)) (rows (drop (n + 1) segments))
+      ∙ ap (λ (rs : List Record). rs ++ rows (drop (n + 1) segments)) (sym (take-append-drop index (segment_at segments n)))
+      ∙ append_assoc here (drop index (segment_at segments n)) (rows (drop (n + 1) segments))
       )
       ∙ sym (append_assoc front here rest)
 
@@ -191,14 +191,14 @@ module _ (low end : Option Bytes) (segments : Array) (ascending : IsAscending (r
   upto =
       ap (within low end) parted
       ∙ within-append low end (front ++ here) rest
-      ∙ ap (λ (rs : List Record). within low end (front ++ here) ++ rs) (within_past low end rest (behind-append end (drop place (segment_at segments n)) (rows (drop (n + 1) segments)) behind ends))
+      ∙ ap (λ (rs : List Record). within low end (front ++ here) ++ rs) (within_past low end rest (behind-append end (drop index (segment_at segments n)) (rows (drop (n + 1) segments)) behind ends))
       ∙ append-nil (within low end (front ++ here))
 
   upto_ascends : IsAscending (front ++ here)
   upto_ascends = (is_sorted-append {X = Bytes} key_cmp (front ++ here) rest (subst IsAscending parted ascending)).0
 
   -- the last record within the bounds stands in it, where one of its records is below the bound, or no segment is before it
-  pub last_found : (n ≡ 0) ⊎ (0 < length (take place (segment_at segments n))) → last_or None (within low end (rows segments)) ≡ last_from low (take place (segment_at segments n))
+  pub last_found : (n ≡ 0) ⊎ (0 < length (take index (segment_at segments n))) → last_or None (within low end (rows segments)) ≡ last_from low (take index (segment_at segments n))
   last_found some = ap (λ (rs : List Record). last_or None rs) upto ∙ by_list here refl below some
     where
       by_list : (rs : List Record) → here ≡ rs → T (are_below end rs) → (n ≡ 0) ⊎ (0 < length rs) → last_or None (within low end (front ++ here)) ≡ last_from low here
@@ -214,9 +214,9 @@ module _ (low end : Option Bytes) (segments : Array) (ascending : IsAscending (r
           ∙ sym (ap (if_from low) there)
 
 -- All records of the segments before the one to which a bound belongs are below it.
-pub some_before : (end : Option Bytes) (segments : Array) (last n place : ℕ) → last ≡ last_for end segments → n + 1 ≡ last → n < length segments → IsAscending (rows segments) → 0 < length (segment_at segments n)
-    → T (are_behind end (drop place (segment_at segments n))) → 0 < place
-some_before end segments last n (suc place) is one inside ascending some behind = omega arith
+pub some_before : (end : Option Bytes) (segments : Array) (last n index : ℕ) → last ≡ last_for end segments → n + 1 ≡ last → n < length segments → IsAscending (rows segments) → 0 < length (segment_at segments n)
+    → T (are_behind end (drop index (segment_at segments n))) → 0 < index
+some_before end segments last n (suc index) is one inside ascending some behind = omega arith
 some_before None segments last n zero is one inside ascending some behind = by_list (segment_at segments n) some behind
   where
     by_list : (rs : List Record) → 0 < length rs → T (are_behind None rs) → 0 < 0
@@ -239,28 +239,28 @@ four_there layout region height counts image stands last n one lt =
     by_height zero small = absurd (omega (arith, small, one))
     by_height (suc h) small = omega arith
 
--- The record before a place.
+-- The record before an index.
 
-last_at : (rs : List Record) (place : ℕ) (r : Record) → slice_get rs place ≡ Some r → last_or None (take (suc place) rs) ≡ Some r
-last_at [] place r is = absurd (some≢none r (sym is))
+last_at : (rs : List Record) (index : ℕ) (r : Record) → slice_get rs index ≡ Some r → last_or None (take (suc index) rs) ≡ Some r
+last_at [] index r is = absurd (some≢none r (sym is))
 last_at (x ∷ rs) zero r is = is
-last_at (x ∷ rs) (suc place) r is = last_kept (Some x) (take (suc place) rs) r (last_at rs place r is)
+last_at (x ∷ rs) (suc index) r is = last_kept (Some x) (take (suc index) rs) r (last_at rs index r is)
 
-last_before : (rs : List Record) (place : ℕ) (r : Record) → 0 < place → slice_get rs (place - 1) ≡ Some r → last_or None (take place rs) ≡ Some r
+last_before : (rs : List Record) (index : ℕ) (r : Record) → 0 < index → slice_get rs (index - 1) ≡ Some r → last_or None (take index rs) ≡ Some r
 last_before rs zero r some is = absurd (omega (arith, some))
-last_before rs (suc place) r some is = last_at rs place r (ap (slice_get rs) {x = place} {y = suc place - 1} (omega arith) ∙ is)
+last_before rs (suc index) r some is = last_at rs index r (ap (slice_get rs) {x = index} {y = suc index - 1} (omega arith) ∙ is)
 
 -- one that isn't below the bound
-pub one_from : (low : Option Bytes) (r : Record) (rs : List Record) (place : ℕ) → 0 < place → slice_get rs (place - 1) ≡ Some r → is_from low r.0 ≡ true → Some r ≡ last_from low (take place rs)
-one_from low r rs place some at from = sym (ap (if_from low) (last_before rs place r some at) ∙ ap (λ (b : Bool). cond b (Some r) None) from)
+pub one_from : (low : Option Bytes) (r : Record) (rs : List Record) (index : ℕ) → 0 < index → slice_get rs (index - 1) ≡ Some r → is_from low r.0 ≡ true → Some r ≡ last_from low (take index rs)
+one_from low r rs index some at from = sym (ap (if_from low) (last_before rs index r some at) ∙ ap (λ (b : Bool). cond b (Some r) None) from)
 
 -- one that is
-pub none_from : (low : Option Bytes) (l key : Bytes) (rs : List Record) (place : ℕ) → 0 < place → low ≡ Some l → key_at rs (place - 1) ≡ Some key → is_lt (key_cmp key l) ≡ true → None ≡ last_from low (take place rs)
-none_from low l key rs place some is at lt = by_record (slice_get rs (place - 1)) refl at
+pub none_from : (low : Option Bytes) (l key : Bytes) (rs : List Record) (index : ℕ) → 0 < index → low ≡ Some l → key_at rs (index - 1) ≡ Some key → is_lt (key_cmp key l) ≡ true → None ≡ last_from low (take index rs)
+none_from low l key rs index some is at lt = by_record (slice_get rs (index - 1)) refl at
   where
-    by_record : (o : Option Record) → slice_get rs (place - 1) ≡ o → option_map (λ (r : Record). r.0) o ≡ Some key → None ≡ last_from low (take place rs)
+    by_record : (o : Option Record) → slice_get rs (index - 1) ≡ o → option_map (λ (r : Record). r.0) o ≡ Some key → None ≡ last_from low (take index rs)
     by_record None there e = absurd (some≢none key (sym e))
     by_record (Some r) there e =
         let same : r.0 ≡ key = cc in
-        sym (ap (if_from low) (last_before rs place r some there)
+        sym (ap (if_from low) (last_before rs index r some there)
         ∙ ap (λ (b : Bool). cond b (Some r) None) (ap (λ (o : Option Bytes). is_from o r.0) is ∙ ap not (ap (λ (k : Bytes). is_lt (key_cmp k l)) same ∙ lt)))

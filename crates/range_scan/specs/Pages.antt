@@ -20,7 +20,7 @@ use Rattle.range_scan.specs.Running.{first_of, pages_in, read_for, rest_of}
 use Rattle.range_scan.specs.Walk.{after_walk}
 use Rattle.key_slot.specs.Record.{Bytes}
 
--- a fault of one segment by itself: damage names it and is never out of order, a bad slot is one of a segment's, and where
+-- a fault of one segment by itself: damage names it and is never out of order, a bad slot is one of a segment's, and if
 -- another count is told, it differs from the one that is kept
 abbrev pub IsOwnFault : ℕ → ℕ → StoreFault → Type 0
 IsOwnFault i kept Failed = Unit {0}
@@ -45,7 +45,7 @@ IsBadSlot layout region segment a b (regions.OutOfOrder i) = ⊥
 
 -- That many segments were read into a page, from one on, and the first was validated, whatever was answered.
 pub record ReadsInto {T E : Type 0} (layout : Layout) (region segment count : ℕ) (result : Result T E) (page : PageView) (a b : View) : Type 0 where
-  -- also where no bytes are told, its records fit a segment of the format
+  -- also if no bytes are told, its records fit a segment of the format
   pub fits : FitsSegment layout.format page.rows
   pub format_is : page.format ≡ layout.format
   -- a fault leaves none
@@ -57,7 +57,7 @@ pub record ReadsInto {T E : Type 0} (layout : Layout) (region segment count : �
   pub reads : b.travel ≡ after_read (segment_place layout region segment) (segment_size layout * count) a.travel
   pub calls : b.calls ≤ a.calls + 1
 
--- What was found wrong with the segment that was met in a run, where these were read along.
+-- What was found wrong with the segment that was met in a run, if these were read along.
 abbrev pub IsBadAlong : Layout → ℕ → ℕ → List Bytes → View → View → RegionFault → Type 0
 IsBadAlong layout region segment along a b regions.Failed = Rose a.disk_faults b.disk_faults
 IsBadAlong layout region segment along a b (regions.NotSegment i slot) = (i ≡ segment) × (slot < SEGMENT_SLOTS) × (Told a → first_bad_slot layout.format (first_of along (page_in layout region a.held segment)) ≡ Some slot)
@@ -69,7 +69,7 @@ pub record TakesNext {T E : Type 0} (layout : Layout) (region segment count : �
   -- its bytes are the segment of the records, and those read with it stand along
   pub segment_is : OnOk result (Told a → IsSegment layout.format new.rows (first_of old.along (page_in layout region a.held segment)))
   pub along_is : OnOk result (Told a → new.along ≡ rest_of old.along (pages_in layout region a.held (segment + 1) (count - 1)))
-  -- also where no bytes are told, its records fit a segment of the format
+  -- also if no bytes are told, its records fit a segment of the format
   pub fits : FitsSegment layout.format new.rows
   pub format_is : new.format ≡ layout.format
   -- a fault leaves none

@@ -36,7 +36,7 @@ pub record IsRun (layout : Layout) (from to count : ℕ) : Type 0 where
   pub within : from + count ≤ to
   pub room : segment_size layout * count ≤ RUN_SIZE
 
--- the number of the segment that a reader validates next, where these were read along
+-- the number of the segment that a reader validates next, if these were read along
 abbrev pub taken_number : ReaderView → List Bytes → ℕ
 taken_number r along = r.next - length along
 

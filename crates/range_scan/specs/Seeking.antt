@@ -82,13 +82,13 @@ pub record ReadsBehind {A : Type 0} (end : Option Bytes) (k : KeptRegion) (resul
   -- damage is that of the segment that was read last, by the count that is kept for it
   pub causes : IfErr result (IsDamageAt (last + 1 - count) k.counts)
 
--- The first of ascending records that isn't below a bound and has another key than `past` stands at this place: those before
+-- The first of ascending records that isn't below a bound and has another key than `past` stands at this index: those before
 -- it are below the bound, but for one with that key.
-pub record PlacedPast (start past : Option Bytes) (records : List Record) (place : ℕ) : Type 0 where
+pub record IsIndexPast (start past : Option Bytes) (records : List Record) (index : ℕ) : Type 0 where
   pub from : ℕ
   pub before : T (are_before start (take from records))
   pub behind : T (are_from start (drop from records))
-  pub place_is : place ≡ (if stands_at past (slice_get (drop from records) 0) then from + 1 else from)
+  pub index_is : index ≡ (if stands_at past (slice_get (drop from records) 0) then from + 1 else from)
 
 -- whether a key lies ahead: within two bounds, and beyond a third
 abbrev pub is_ahead : Option Bytes → Option Bytes → Option Bytes → Bytes → Bool

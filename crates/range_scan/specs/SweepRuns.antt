@@ -15,7 +15,7 @@ full_from s from = if (is_some s.low) && (from == s.first) then from + 1 else fr
 abbrev pub due : SweepView → ℕ → ℕ → ℕ
 due s from to = sum (take to s.tally.counts) - sum (take (full_from s from) s.tally.counts)
 
--- `count` segments are read at once, from `from` on: all that are allowed, as far as the records that are still wanted ask for
+-- `count` segments are read at once, from `from` on: all that are allowed, as far as the records that are still wanted need
 -- them
 pub record IsSweepRun (s : SweepView) (from count : ℕ) : Type 0 where
   pub run : IsRun s.reader.layout from s.reader.end count

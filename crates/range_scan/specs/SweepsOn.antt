@@ -54,7 +54,7 @@ pub record SweepsOn {A : Type 0} (result : Result A StoreFault) (s t : SweepView
 
 -- Why it stopped: at the segment that it validated last.
 pub record StopsSweep (fault : StoreFault) (s t : SweepView) (a b : View) : Type 0 where
-  -- where bytes are told only the disk stops it
+  -- if bytes are told only the disk stops it
   pub damaged : Told a → fault ≡ Failed
   -- on any station damage is that of the segment that it validated last
   pub causes : IsDamageAt (validated t - 1) s.tally.counts fault

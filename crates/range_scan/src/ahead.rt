@@ -13,7 +13,7 @@ ghost use Rattle.key_slot.specs.Record.{Bytes};
 ghost use Rattle.map_model.specs.Cursors.{onward, record_ahead};
 ghost use Rattle.map_model.specs.Image.{map_of, array_of};
 ghost use Rattle.map_model.specs.Standing.{StandsBalanced};
-ghost use Rattle.range_scan.specs.Seeking.{later, first_below, PlacedPast, ReadsNear};
+ghost use Rattle.range_scan.specs.Seeking.{later, first_below, IsIndexPast, ReadsNear};
 ghost use Rattle.range_scan.specs.Sweeping.{first_for};
 
 use crate::counted::{Region, next_counted, segment_count};
@@ -88,9 +88,9 @@ pub fn first_ahead_in<S: Station>(
     let mut reader = RegionReader::new(*region.layout, region.number, first, end);
     while next_counted(&mut reader, region.tally, station, page)? {
         let rows = page.rows();
-        let place = place_past(&rows, look.start, look.past);
-        if place < rows.len() {
-            return Ok(row_below(&rows, place, look.high));
+        let index = index_past(&rows, look.start, look.past);
+        if index < rows.len() {
+            return Ok(row_below(&rows, index, look.high));
         }
     }
     Ok(None)
@@ -111,30 +111,30 @@ fn end_near(first: u32, segments: u32) -> u32
     }
 }
 
-// The place of the first record that isn't below a bound and has another key than `past`.
-fn place_past(rows: &SegmentView<'_>, start: &Option<Key>, past: &Option<Key>) -> u32
+// The index of the first record that isn't below a bound and has another key than `past`.
+fn index_past(rows: &SegmentView<'_>, start: &Option<Key>, past: &Option<Key>) -> u32
     ensures within { result ≤ length rows.now }
-    ensures place { PlacedPast start.now past.now rows.now result }
+    ensures index { IsIndexPast start.now past.now rows.now result }
 {
-    let place = start_in(rows, start);
-    if place == rows.len() {
-        return place;
+    let index = start_in(rows, start);
+    if index == rows.len() {
+        return index;
     }
     match past {
-        Some(past) if rows.key(place) == *past => place + 1,
-        _ => place,
+        Some(past) if rows.key(index) == *past => index + 1,
+        _ => index,
     }
 }
 
-// The record at a place, where it is below a bound.
-fn row_below(rows: &SegmentView<'_>, place: u32, high: &Option<Key>) -> Option<Row>
-    requires { place < length rows.now }
-    ensures { option_map record_of result ≡ first_below high.now (drop place rows.now) }
+// The record at an index, where it is below a bound.
+fn row_below(rows: &SegmentView<'_>, index: u32, high: &Option<Key>) -> Option<Row>
+    requires { index < length rows.now }
+    ensures { option_map record_of result ≡ first_below high.now (drop index rows.now) }
 {
     if let Some(high) = high {
-        if !(rows.key(place) < *high) {
+        if !(rows.key(index) < *high) {
             return None;
         }
     }
-    Some(rows.row(place))
+    Some(rows.row(index))
 }

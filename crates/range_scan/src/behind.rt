@@ -77,12 +77,12 @@ pub fn last_behind_in<S: Station>(
       counts = region.now.tally.now.counts;
     }) result (S.view station.old) (S.view station.new) }
 {
-    let place = read_below(station, region, page, last, end)?;
-    if place > 0 || last == 0 {
-        return Ok(row_before(&page.rows(), place, low));
+    let index = read_below(station, region, page, last, end)?;
+    if index > 0 || last == 0 {
+        return Ok(row_before(&page.rows(), index, low));
     }
-    let place = read_below(station, region, page, last - 1, end)?;
-    Ok(row_before(&page.rows(), place, low))
+    let index = read_below(station, region, page, last - 1, end)?;
+    Ok(row_before(&page.rows(), index, low))
 }
 
 // Reads a segment, and answers how many of its records are below a bound.
@@ -102,9 +102,9 @@ fn read_below<S: Station>(
         StandsBalanced region.now.layout.now region.now.number region.now.tally.now.height region.now.tally.now.counts (S.view station.old).held }
     requires readable { Told (S.view station.old) → IsRecovered region.now.layout.now (S.view station.old).held }
     ensures rows { OnOk result (Told (S.view station.old) → page.new.rows ≡ segment_at (array_of (S.view station.old).held) segment) }
-    ensures within { IfOk result (λ place. place ≤ length page.new.rows) }
-    ensures below { IfOk result (λ place. T (are_below end.now (take place page.new.rows))) }
-    ensures behind { IfOk result (λ place. T (are_behind end.now (drop place page.new.rows))) }
+    ensures within { IfOk result (λ index. index ≤ length page.new.rows) }
+    ensures below { IfOk result (λ index. T (are_below end.now (take index page.new.rows))) }
+    ensures behind { IfOk result (λ index. T (are_behind end.now (drop index page.new.rows))) }
     ensures causes { IfErr result (IsDamageAt segment region.now.tally.now.counts) }
     ensures damaged { IfErr result (λ fault. Told (S.view station.old) → fault ≡ StoreFault.Failed) }
     ensures failed { IsErrOf result StoreFault.Failed → Rose (S.view station.old).disk_faults (S.view station.new).disk_faults }
@@ -118,7 +118,7 @@ fn read_below<S: Station>(
     Ok(end_in(&page.rows(), end))
 }
 
-// The place of the first record that isn't below a bound.
+// The index of the first record that isn't below a bound.
 fn end_in(rows: &SegmentView<'_>, end: &Option<Key>) -> u32
     ensures within { result ≤ length rows.now }
     ensures below { T (are_below end.now (take result rows.now)) }
@@ -130,18 +130,18 @@ fn end_in(rows: &SegmentView<'_>, end: &Option<Key>) -> u32
     }
 }
 
-// The record before a place, where it isn't below a bound.
-fn row_before(rows: &SegmentView<'_>, place: u32, low: &Option<Key>) -> Option<Row>
-    requires { place ≤ length rows.now }
-    ensures { option_map record_of result ≡ last_from low.now (take place rows.now) }
+// The record before an index, where it isn't below a bound.
+fn row_before(rows: &SegmentView<'_>, index: u32, low: &Option<Key>) -> Option<Row>
+    requires { index ≤ length rows.now }
+    ensures { option_map record_of result ≡ last_from low.now (take index rows.now) }
 {
-    if place == 0 {
+    if index == 0 {
         return None;
     }
     if let Some(low) = low {
-        if rows.key(place - 1) < *low {
+        if rows.key(index - 1) < *low {
             return None;
         }
     }
-    Some(rows.row(place - 1))
+    Some(rows.row(index - 1))
 }

@@ -58,12 +58,12 @@ impl<'a> Sweep<'a> {
         let count = self.run();
         match take_counted(&mut self.reader, self.tally, station, self.page, count) {
             Ok(true) => {
-                self.place = start_in(&self.page.rows(), &self.low);
+                self.index = start_in(&self.page.rows(), &self.low);
                 Ok(true)
             }
             Ok(false) => Ok(false),
             Err(fault) => {
-                self.place = 0;
+                self.index = 0;
                 self.faulted = true;
                 Err(fault)
             }

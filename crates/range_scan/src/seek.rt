@@ -38,7 +38,7 @@ pub trait Seek {
 
     ghost state: { Self → State };
 
-    /// The record with the least key that isn't below `low`, is above `past` and is below `high`, or None where there is none.
+    /// The record with the least key that isn't below `low`, is above `past` and is below `high`, or None if there is none.
     ///
     /// It reads at most two segments, and in a store of one segment that one. After a fault it is closed.
     fn first_row<S: Station>(
@@ -73,7 +73,7 @@ pub trait Seek {
         // One segment is read, or two that stand side by side, each once, and nothing is written (`ReadsNear`).
         ensures reads { ReadsNear (later low past) (kept self.old) result (S.view station.old) (S.view station.new) };
 
-    /// The record with the greatest key that isn't below `low`, is below `past` and is below `high`, or None where there is none.
+    /// The record with the greatest key that isn't below `low`, is below `past` and is below `high`, or None if there is none.
     ///
     /// It reads at most two segments, and in a store of one segment that one: the one to which the lesser of `past` and `high`
     /// belongs, and the one before it. After a fault it is closed.

@@ -29,10 +29,10 @@ use std::marker::Model;
 pub const RUN_SIZE: usize = 16384;
 
 /// The bytes of one segment that was validated, with the number of its records, and those of segments that were read along with
-/// it. Before the first read, and where one failed, it has no records.
+/// it. Before the first read, and if one failed, it has no records.
 ///
 /// Who reads segments one after another makes one page, and reads all of them into it. Nothing of a page's size is
-/// zeroed or copied on the way, but where a read fails.
+/// zeroed or copied on the way, unless a read fails.
 #[derive(Drop)]
 pub struct SegmentBuffer {
     pub(crate) bytes: [u8; RUN_SIZE],
@@ -83,7 +83,7 @@ impl SegmentBuffer {
 
     /// Reads a segment of a region, for which a store keeps that many records, in place of what was read before.
     ///
-    /// It fails where the disk does, where the bytes are no segment, and where they have another number of records; then
+    /// It fails if the disk does, if the bytes are no segment, and if they have another number of records; then
     /// the page has none.
     pub fn read<S: Station>(
         &mut self,

@@ -1,4 +1,4 @@
-//! Segments that are met one after another in a page: each is read by itself, or validated where it was read along.
+//! Segments that are met one after another in a page: each is read by itself, or validated if it was read along.
 
 ghost use Rattle.std.specs.Prelude.{◌≡◌, ◌≢◌, ◌<◌, ◌≤◌, ◌^◌, ◌+◌, [], true, length, Some, None, IfOk, IfErr, OnOk, OnErr, IsErrOf, ℕ, ◌-◌, false, drop};
 ghost use Rattle.station.specs.View.{Told, Rose};
@@ -140,7 +140,7 @@ impl SegmentBuffer {
         }
     }
 
-    // Goes on to that segment, where it is one with that many records that follows a last key. If not, the page stays.
+    // Goes on to that segment, if it is one with that many records that follows a last key. If not, the page stays.
     pub(crate) fn advance(&mut self, kept: u32, last: &Option<Key>) -> bool
         requires some { 0 < length self.old.along }
         ensures advanced { result ≡ true → IsSegment self.old.format self.new.rows (first_of self.old.along []) }

@@ -31,7 +31,7 @@ opening_cost l = replay_cost l + repair_cost l.format (height_limit l)
 abbrev pub replay_calls : Layout → ℕ
 replay_calls l = 6 + l.journal
 
--- a repair of a store of this height, with frames for that many segments: one batch where they are room for all, and else those
+-- a repair of a store of this height, with frames for that many segments: one batch if they are room for all, and else those
 -- of a window's moves and fences
 abbrev pub repair_calls : ℕ → ℕ → ℕ
 repair_calls frames height = if nat_le (2 ^ height) frames then 10 else 12 * (4 * 2 ^ height - 2) + parts frames (2 ^ height)
@@ -48,7 +48,7 @@ behind_calls l height = replay_calls l + region_calls l height + (2 + 2 ^ height
 abbrev pub opening_calls : Layout → ℕ → ℕ
 opening_calls l height = 3 + behind_calls l height
 
--- where no page is to be laid: of two journals the live one's count is read
+-- if no page is to be laid: of two journals the live one's count is read
 abbrev pub bare_calls : Layout → ℕ
 bare_calls l = if l.version == PAIRED then 2 else 0
 
@@ -56,7 +56,7 @@ bare_calls l = if l.version == PAIRED then 2 else 0
 abbrev pub back_calls : List ℕ → ℕ
 back_calls image = bare_calls (layout_in image) + region_calls (layout_in image) (height_of image) + intent_calls image
 
--- The calls that a file asks for. A journal that is to be replayed over the live region, and names some page: those of a replay, a
+-- The calls that a file needs. A journal that is to be replayed over the live region, and names some page: those of a replay, a
 -- write for each run of neighbouring pages that its table names
 abbrev pub laying_calls : List ℕ → ℕ
 laying_calls image = if names_some (layout_in image) image then 6 + run_count (live_table (layout_in image) image) else 0
@@ -78,7 +78,7 @@ asked_opening image = 3 + asked_behind image
 abbrev pub greatest_layout : Layout
 greatest_layout = record { hmax = GREATEST_HEIGHT; journal = 2 ^ GREATEST_HEIGHT; version = INDEXED; format = 1 }
 
--- where no page is to be laid, that count
+-- if no page is to be laid, that count
 abbrev pub bare_reads : Layout → ℕ
 bare_reads l = if l.version == PAIRED then 4 else 0
 

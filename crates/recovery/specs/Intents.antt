@@ -48,7 +48,7 @@ region_reads image = segment_size (layout_in image) * 2 ^ height_of image
 abbrev pub look_reads : List ℕ → ℕ
 look_reads image = if may_meet (height_limit (layout_in image)) (len (map_of image)) (pending image) then region_reads image else 0
 
--- What is read of the intent: nothing where the version has none, the gate's byte, and where this is odd the intent; then the
+-- What is read of the intent: nothing if the version has none, the gate's byte, and if this is odd the intent; then the
 -- look.
 abbrev pub intent_reads : List ℕ → ℕ
 intent_reads image = if nat_lt (layout_in image).version INTENT_VERSION then 0 else (if has_pending image then 1 + INTENT_SIZE + look_reads image else 1)
@@ -57,7 +57,7 @@ intent_reads image = if nat_lt (layout_in image).version INTENT_VERSION then 0 e
 abbrev pub look_calls : List ℕ → ℕ
 look_calls image = if may_meet (height_limit (layout_in image)) (len (map_of image)) (pending image) then 2 ^ height_of image else 0
 
--- at most the calls that read it: one for the gate, and where this is odd one for the items and those of a look
+-- at most the calls that read it: one for the gate, and if this is odd one for the items and those of a look
 abbrev pub intent_calls : List ℕ → ℕ
 intent_calls image = if has_intent (layout_in image) image then 2 + look_calls image else 1
 

@@ -8,7 +8,7 @@ ghost use Rattle.recovery.specs.Intents.{puts_in, meets_by, records_by, place_am
 
 use batch_intent::{Intent, Item, MOST_ITEMS};
 
-/// For each item a flag.
+/// For each item a flag, and an intent has no more items.
 pub(crate) const FLAGS: usize = MOST_ITEMS as usize;
 
 /// The place in the intent of the first item that meets a full store of `most` records, if one does, by which of the items

@@ -1,4 +1,4 @@
--- What private calls of this crate ask for and come to, where several have it in common.
+-- What private calls of this crate require and do, if several have it in common.
 use Rattle.std.specs.Prelude.{◌≡◌, ℕ, ◌+◌, ◌^◌, ◌<◌, ◌≤◌, List, length, sum, All, Result, OnOk}
 use Rattle.station.specs.View.{View, Told, EachHeld}
 use Rattle.station.specs.Steps.{Steps}
@@ -23,7 +23,7 @@ pub record IsPlaceOn (place : Place) (frames : Batch) (v : View) : Type 0 where
   pub journal : frames.journal ≡ place.layout.journal
   pub rests : RestsAt place.layout frames.turn v
 
--- a window that is to be spread: the segments from the first on have these counts, and the records that these come to
+-- a window that is to be spread: the segments from the first on have these counts, and the records that these add up to
 pub record IsWindowFor (place : Place) (first : ℕ) (counts : List ℕ) (total : ℕ) (v : View) : Type 0 where
   pub some : 1 ≤ length counts
   pub room : All (λ count. count ≤ SEGMENT_RECORDS) counts

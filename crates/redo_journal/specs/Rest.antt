@@ -23,7 +23,7 @@ pub record AtRest (l : Layout) (a : View) : Type 0 where
   pub done : Told a → IsDone l a.held
 
 -- What holds between commits: the station is at rest, and each image that a crash may leave has the gate that is noted,
--- 0 where there is one journal. So before version 4 nothing is pending, and the gate is even.
+-- 0 if there is one journal. So before version 4 nothing is pending, and the gate is even.
 pub record RestsAt (l : Layout) (turn : ℕ) (a : View) : Type 0 where
   -- with one journal the gate that is noted is even
   pub single : l.version ≢ PAIRED → turn ≡ 0

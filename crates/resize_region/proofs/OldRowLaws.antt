@@ -88,7 +88,7 @@ ahead_taken share rs behind n r is = append_assoc share (r ∷ []) (drop (n + 1)
 pub ahead_start : (segments : Array) (r : OldRows) (k : ℕ) → r.page.rows ≡ [] → r.reader.next ≡ 0 → 0 ≡ k → rows_ahead segments r ≡ drop k (rows segments)
 ahead_start segments r k none start same =
     let empty : List Record = [] in
-    ap (λ (l : List Record). drop r.place l ++ rows (drop r.reader.next segments)) none ∙ ap (λ (l : List Record). l ++ rows (drop r.reader.next segments)) (drop_of_length-le empty {i = r.place} (omega arith))
+    ap (λ (l : List Record). drop r.index l ++ rows (drop r.reader.next segments)) none ∙ ap (λ (l : List Record). l ++ rows (drop r.reader.next segments)) (drop_of_length-le empty {i = r.index} (omega arith))
     ∙ ap (λ (n : ℕ). rows (drop n segments)) start ∙ ap (λ (n : ℕ). drop n (rows segments)) same
 
 -- A reading that goes on: some segments were read without a fault, and then others.

@@ -24,16 +24,16 @@ pub record IsAmongRows (place : Place) (t : TallyView) (r : OldRows) : Type 0 wh
   pub end_is : r.reader.end ≡ 2 ^ t.height
   pub within : r.reader.next ≤ r.reader.end
   pub unfaulted : r.reader.faulted ≡ false
-  pub taken : r.place ≤ length r.page.rows
+  pub taken : r.index ≤ length r.page.rows
   pub fits : FitsSegment place.layout.format r.page.rows
 
 -- how many records weren't taken, by the counts of the segments
 abbrev pub rows_left : List ℕ → OldRows → ℕ
-rows_left counts r = length r.page.rows - r.place + sum (drop r.reader.next counts)
+rows_left counts r = length r.page.rows - r.index + sum (drop r.reader.next counts)
 
 -- these records, by an array
 abbrev pub rows_ahead : Array → OldRows → List Record
-rows_ahead segments r = drop r.place r.page.rows ++ rows (drop r.reader.next segments)
+rows_ahead segments r = drop r.index r.page.rows ++ rows (drop r.reader.next segments)
 
 -- the next segments of the array ascend, above the last key that was read
 abbrev pub IsInOrder : Array → OldRows → Type 0

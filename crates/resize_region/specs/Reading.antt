@@ -47,7 +47,7 @@ pub record ReadsOn {T : Type 0} (place : Place) (counts : List ℕ) (result : Re
   pub reads : b.travel ≡ after_walk place.layout place.region (read_upto (most_segments place.layout) s) (read_upto (most_segments place.layout) t) a.travel
   pub onward : read_upto (most_segments place.layout) s ≤ read_upto (most_segments place.layout) t
   pub upto : read_upto (most_segments place.layout) t ≤ length counts
-  -- where bytes are told only the disk stops it
+  -- if bytes are told only the disk stops it
   pub damaged : IfErr result (λ fault. Told a → fault ≡ Failed)
   -- and on any station a frame shows the damage
   pub cause : IfErr result (HasCause place.layout.format counts g)

@@ -1,4 +1,4 @@
--- What growth and shrinkage come to.
+-- What growth and shrinkage do.
 use Rattle.std.specs.Prelude.{◌≡◌, ℕ, ◌+◌, ◌-◌, ◌*◌, ◌^◌, ◌<◌, ◌≤◌, Option, IsSome, Result, OnOk, OnErr, IfErr, IsErrOf}
 use Rattle.station.specs.View.{View, Told, EachHeld, NothingPending, Rose}
 use Rattle.station.specs.Steps.{Steps}
@@ -55,7 +55,7 @@ pub record ResizesTo {T : Type 0} (height : ℕ) (result : Result T StoreFault) 
   pub reads : (n : ℕ) × (n ≤ 2 ^ t.height) × Walks place 0 n a.travel b.travel
   -- the calls of a copying, and those of a flip
   pub calls : b.calls ≤ a.calls + (copy_calls (most_segments place.layout) (2 ^ t.height) (2 ^ height) + 4)
-  -- where bytes are told only the disk stops it
+  -- if bytes are told only the disk stops it
   pub damaged : IfErr result (λ fault. Told a → fault ≡ Failed)
   -- and on any station a frame shows the damage
   pub cause : IfErr result (HasCause place.layout.format t.counts frames)

@@ -45,7 +45,7 @@ pub record WritesWide {T : Type 0} (result : Result T StoreFault) (place : Place
   pub journal : g.journal ≡ f.journal
   pub turn : g.turn ≡ f.turn
   pub cost : b.travel.written ≤ a.travel.written + segment_size (widened place.layout) * segments
-  -- where bytes are told only the disk stops it
+  -- if bytes are told only the disk stops it
   pub damaged : IfErr result (λ fault. Told a → fault ≡ Failed)
   -- and on any station damage is that of the segment that was read last
   pub cause : IfErr result (IsDamageIn place t a b)
@@ -76,7 +76,7 @@ pub record SpreadsWide {T : Type 0} (result : Result T StoreFault) (place after 
   pub calls : b.calls ≤ a.calls + widen_calls place t.height
   -- on Ok it was read to its end
   pub whole : OnOk result (Walks place 0 (2 ^ t.height) a.travel b.travel)
-  -- where bytes are told only the disk stops it
+  -- if bytes are told only the disk stops it
   pub damaged : IfErr result (λ fault. Told a → fault ≡ Failed)
   -- and on any station damage is that of the segment that was read last
   pub cause : IfErr result (IsDamageIn place t a b)

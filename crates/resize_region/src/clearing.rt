@@ -17,7 +17,7 @@ use segment::StoreFault;
 use station::{Failed, Station};
 
 /// Leaves nothing pending, and no page that is to be replayed over the live region, so that [`crate::grow`], [`crate::shrink`]
-/// or [`crate::upgrade`] may follow. Where the file has one journal no call is made.
+/// or [`crate::upgrade`] may follow. If the file has one journal no call is made.
 pub fn clear_store<S: Station>(
     station: &mut S,
     place: &Place,

@@ -25,8 +25,8 @@ pub(crate) struct OldRows {
     pub reader: RegionReader,
     /// The segment that was read last.
     pub page: SegmentBuffer,
-    /// Its records from this place on weren't taken.
-    pub place: u32,
+    /// Its records from this index on weren't taken.
+    pub index: u32,
 }
 
 /// Puts the next records into an empty place of the frames, in slots of format 2.
@@ -60,12 +60,12 @@ pub(crate) fn gather<S: Station>(
 {
     let mut have = 0;
     while have < wanted.records {
-        if rows.place == rows.page.rows().len() {
+        if rows.index == rows.page.rows().len() {
             read_on(station, place, tally, rows)?;
         } else {
-            let row = rows.page.rows().row(rows.place);
+            let row = rows.page.rows().row(rows.index);
             put_row(frames, WIDE, wanted.f, have, &row);
-            rows.place += 1;
+            rows.index += 1;
             have += 1;
         }
     }
@@ -100,7 +100,7 @@ fn read_on<S: Station>(
 ) -> Result<bool, StoreFault>
     requires reach { file_length place.now.layout ≤ (S.view station.old).fixed.reach }
     requires among { IsAmongRows place.now tally.now rows.old }
-    requires used_up { rows.old.place ≡ length rows.old.page.rows }
+    requires used_up { rows.old.index ≡ length rows.old.page.rows }
     requires order { Told (S.view station.old) → IsInOrder (array_of (S.view station.old).held) rows.old }
     requires stands { EachHeld (StandsBare place.now tally.now) (S.view station.old) }
     ensures more { IfOk result (λ more. (more ≡ true) ↔ (rows.old.reader.next < 2 ^ tally.now.height)) }
@@ -112,7 +112,7 @@ fn read_on<S: Station>(
     ensures reads { ReadsRows place.now tally.now result rows.old rows.new (S.view station.old) (S.view station.new) }
 {
     if next_counted(&mut rows.reader, tally, station, &mut rows.page)? {
-        rows.place = 0;
+        rows.index = 0;
         Ok(true)
     } else {
         Ok(false)

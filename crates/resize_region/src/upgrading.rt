@@ -38,7 +38,7 @@ use window_tally::Tally;
 /// same map, by the old array or by the new one. Each segment of the live region is read once, in order, and validated.
 ///
 /// On `Done` the place names the other region and format 2; no other answer changes it. `Already`, `OneSegment` and
-/// `TooMany` come of layout and tally alone, and no call of the station is made. `Damaged` is never answered where the
+/// `TooMany` come of layout and tally alone, and no call of the station is made. `Damaged` is never answered if the
 /// station tells its bytes. After every answer the frames hold anything.
 pub fn upgrade<S: Station>(
     station: &mut S,
@@ -117,7 +117,7 @@ pub fn upgrade<S: Station>(
     Ok(Upgrade::Done)
 }
 
-/// Why a store of this many records isn't upgraded, or None where it is.
+/// Why a store of this many records isn't upgraded, or None if it is.
 pub fn refusal(layout: &Layout, records: u32) -> Option<Upgrade>
     requires { IsLayout layout.now }
     // `Already` comes exactly if the slot format is 2, `OneSegment` exactly if it is 1 and the height limit is 0.

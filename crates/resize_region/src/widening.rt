@@ -31,7 +31,7 @@ use spread_plan::share;
 use station::Station;
 use window_tally::Tally;
 
-/// The slot format of an upgraded store.
+/// The slot format of an upgraded store, the only one besides that of a new store.
 pub(crate) const WIDE: u32 = 2;
 
 /// Writes the records of a store of format 1 into `segments` segments of format 2 of the other region. Each old segment is
@@ -55,7 +55,7 @@ pub(crate) fn copy_wide<S: Station>(
     let mut rows = OldRows {
         reader: RegionReader::new(place.layout, place.region, 0, segments_at(tally.height())),
         page: SegmentBuffer::new(),
-        place: 0,
+        index: 0,
     };
     let spread = Spread { records, segments };
     write_wide(station, place, frames, tally, &mut rows, spread)?;

@@ -13,12 +13,12 @@ use slot_wide::{WIDE_SIZE, compare_wide, wide_holds_row};
 pub(crate) trait SlotFormat<const SIZE: usize> {
     ghost number: { ℕ };
 
-    /// Whether a slot holds a row. It fails where the bytes are no slot.
+    /// Whether a slot holds a row. It fails if the bytes are no slot.
     fn holds_row(slot: &[u8; SIZE]) -> Result<bool, BadSlot>
         ensures read { IfOk result (λ holds. slot_of number slot.now ≡ Some (if holds then Some (fields_of number slot.now) else None)) }
         ensures bad { OnErr result (slot_of number slot.now ≡ None) };
 
-    /// Whether the key of a slot is below that of the next one, where both hold rows.
+    /// Whether the key of a slot is below that of the next one, if both hold rows.
     fn is_below(slot: &[u8; SIZE], next: &[u8; SIZE]) -> bool
         requires slot { IsSlot number (Some (fields_of number slot.now)) slot.now }
         requires next { IsSlot number (Some (fields_of number next.now)) next.now }

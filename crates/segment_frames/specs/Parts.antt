@@ -1,7 +1,7 @@
 -- Segments that are read or written in parts, each by one call of the device.
 use Rattle.std.specs.Prelude.{ℕ, ◌+◌, ◌-◌, ◌*◌, ◌/◌, ◌<◌, ◌≤◌}
 
--- how many parts that many segments come to, where a part has room for that many
+-- how many parts that many segments come to, if a part has room for that many
 abbrev pub parts : ℕ → ℕ → ℕ
 parts room count = (count + (room - 1)) / room
 

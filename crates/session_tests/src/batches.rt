@@ -233,8 +233,8 @@ fn a_file_of_version_1_has_no_batches(rt: HostRuntime) {
         ),
     ];
     let left = answered_on(&rt, rt.alloc(), &old, &parts);
-    for (place, byte) in [(640, 1), (3080, 1), (3584, 17)] {
-        assert_eq!(rt; left.get(place).copied(), Some(byte));
+    for (offset, byte) in [(640, 1), (3080, 1), (3584, 17)] {
+        assert_eq!(rt; left.get(offset).copied(), Some(byte));
     }
 }
 

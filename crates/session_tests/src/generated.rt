@@ -57,6 +57,7 @@ fn generated_commands_are_summed(rt: HostRuntime) {
 
 // Counts a command by the last line of its reply.
 fn count_on(rt: &impl Abort, summary: &mut Summary, last: &Reply) {
+    // Far above what any generated script counts, with room below 2^32 for one reply more.
     const MOST: u32 = 1_000_000_000;
     assert!(rt; summary.commands < MOST && summary.stored < MOST && summary.replaced < MOST);
     assert!(rt; summary.removed < MOST && summary.absent < MOST && summary.found < MOST);

@@ -9,7 +9,7 @@ use std::process::Abort;
 // The clean gate.
 const GATE: usize = 704;
 
-// Where the index of a store of height limit 2 begins, and the counts in it.
+// Where the index of a store of height limit 2 begins, and the counts in it, behind four nodes of 64 bytes.
 const AREA: usize = 57344;
 
 const COUNTS: usize = 57600;

@@ -6,6 +6,7 @@ use mem_sessions::{Part, SMOOTH};
 use std::alloc::{AllocError, Global};
 use std::process::Abort;
 
+// Places in the header page: the intent's gate, and the intent, which ends with the page.
 const GATE: usize = 640;
 
 const INTENT: usize = 3584;

@@ -250,7 +250,9 @@ const ARRAYS: &[Row] = &[
             Put(1, 65),
             Lines(
                 b"range k031 k036\nrange k036 k031\nrange * * 0\nrange * k003\nrange k064 *\nrange k032 * 3\nrange k0315 k0316\nprobe k065 7\n",
-                b"record k031\nrecord k032\nrecord k033\nrecord k034\nrecord k035\nend 5\nend 0\nend 0\nrecord k001\nrecord k002\nend 2\nrecord k064\nrecord k065\nend 2\nrecord k032\nrecord k033\nrecord k034\nend 3\nend 0\nprobe segment=1 nodes=1 blocks=1 bound=4\n",
+                b"record k031\nrecord k032\nrecord k033\nrecord k034\nrecord k035\nend 5\nend 0\nend 0\n\
+                  record k001\nrecord k002\nend 2\nrecord k064\nrecord k065\nend 2\n\
+                  record k032\nrecord k033\nrecord k034\nend 3\nend 0\nprobe segment=1 nodes=1 blocks=1 bound=4\n",
             ),
         ],
     ),
@@ -266,27 +268,27 @@ fn sessions_are_answered(rt: HostRuntime) {
     }
 }
 
-// The records of the segment at a place, at a region's place and a number of segments on.
-fn records_at(file: &[u8], place: usize) -> u32 {
+// The records of the segment at an offset, at a region's offset and a number of segments on.
+fn records_at(file: &[u8], offset: usize) -> u32 {
     let mut count = 0u32;
     for slot in 0..64usize {
-        if file.get(place.saturating_add(64 * slot)) == Some(&1) {
+        if file.get(offset.saturating_add(64 * slot)) == Some(&1) {
             count = count.saturating_add(1);
         }
     }
     count
 }
 
-// Sees that the segments from a place on hold that many records.
-pub(super) fn see_shares(rt: &impl Abort, file: &[u8], place: usize, shares: &[u32]) {
-    let mut place = place;
+// Sees that the segments from an offset on hold that many records.
+pub(super) fn see_shares(rt: &impl Abort, file: &[u8], offset: usize, shares: &[u32]) {
+    let mut offset = offset;
     for share in shares {
-        assert_eq!(rt; records_at(file, place), *share);
-        place = place.saturating_add(4096);
+        assert_eq!(rt; records_at(file, offset), *share);
+        offset = offset.saturating_add(4096);
     }
 }
 
-// The regions of a store of height limit 2, and their size.
+// Where the regions of a store of height limit 2 begin, behind two pages and four images, and their size, of four pages.
 pub(super) const REGION_0: usize = 24576;
 
 const REGION_SIZE: usize = 16384;

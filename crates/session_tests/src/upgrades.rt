@@ -50,7 +50,12 @@ const ROWS: &[Row] = &[
         &[Put(1, 65)],
         (0, b""),
         &[Lines(
-            b"check\nput abcdefghijklmnopqrstuvwxyz0123456789ABCD\nput abcdefghijklmnopqrstuvwxyz0123456789ABCDE\nput a xxxxxxxxxxxxxxxxxxxxxxxxxxxxxxxxxxxxxxxxxxxxxxxxxxxxxxxxxxxxxxxxxxxxxxxxxxxxxxxxx\nput a xxxxxxxxxxxxxxxxxxxxxxxxxxxxxxxxxxxxxxxxxxxxxxxxxxxxxxxxxxxxxxxxxxxxxxxxxxxxxxxx\nget a\n",
+            b"check\n\
+              put abcdefghijklmnopqrstuvwxyz0123456789ABCD\n\
+              put abcdefghijklmnopqrstuvwxyz0123456789ABCDE\n\
+              put a xxxxxxxxxxxxxxxxxxxxxxxxxxxxxxxxxxxxxxxxxxxxxxxxxxxxxxxxxxxxxxxxxxxxxxxxxxxxxxxxx\n\
+              put a xxxxxxxxxxxxxxxxxxxxxxxxxxxxxxxxxxxxxxxxxxxxxxxxxxxxxxxxxxxxxxxxxxxxxxxxxxxxxxxx\n\
+              get a\n",
             b"check ok records=65 height=1\nstored\noversized key 40\noversized value 80\nstored\nfound xxxxxxxxxxxxxxxxxxxxxxxxxxxxxxxxxxxxxxxxxxxxxxxxxxxxxxxxxxxxxxxxxxxxxxxxxxxxxxxx\n",
         )],
     ),

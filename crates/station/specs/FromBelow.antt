@@ -22,7 +22,7 @@ pub record Unchanged (a b : View) : Type 0 where
 abbrev pub IsIdleAtLast : View → View → Type 0
 IsIdleAtLast a b = a.calls ≡ last → Unchanged a b
 
--- each image of bytes that R makes of an image of the entry may be left, now where it has the length of the held bytes,
+-- each image of bytes that R makes of an image of the entry may be left, now if it has the length of the held bytes,
 -- and by a crash within the call
 pub record Torn (R : List ℕ → List ℕ → Type 0) (a b : View) : Type 0 where
   -- a crash after the call may leave it, if it has the length of the held bytes
@@ -30,7 +30,7 @@ pub record Torn (R : List ℕ → List ℕ → Type 0) (a b : View) : Type 0 whe
   -- a crash within the call may leave it, whatever its length, with what was said before
   pub within : (t : ℕ) (start image : List ℕ) → t ≤ a.calls → a.may_leave start → R start image → AreBytes image → b.may_have_left t image a.said
 
--- a call that changes bytes as R tells, and was done or failed; where it failed it may have changed nothing
+-- a call that changes bytes as R tells, and was done or failed; if it failed it may have changed nothing
 pub record Tears (R : List ℕ → List ℕ → Type 0) (done : Bool) (a b : View) : Type 0 where
   -- on Ok all that R makes may be left (`Torn`)
   pub ok : done ≡ true → Torn R a b
@@ -39,7 +39,7 @@ pub record Tears (R : List ℕ → List ℕ → Type 0) (done : Bool) (a b : Vie
   -- at the last value of the count of calls nothing changes
   pub idle : IsIdleAtLast a b
 
--- a sync; where it failed nothing became settled
+-- a sync; if it failed nothing became settled
 pub record Settles (done : Bool) (a b : View) : Type 0 where
   -- on a failure each image of the entry may still be left
   pub err : done ≡ false → (image : List ℕ) → a.may_leave image → b.may_leave image

@@ -64,19 +64,19 @@ fn a_torn_gate_names_either_journal(rt: HostRuntime) {
     assert!(rt; torn > 0);
 }
 
-// A copy of a file with the bytes of another one from a place up to another.
+// A copy of a file with the bytes of another one from an offset up to another.
 fn with_part(
     rt: &impl Abort,
     alloc: Global,
     file: &[u8],
     other: &[u8],
-    places: (usize, usize),
+    offsets: (usize, usize),
 ) -> Vec<u8> {
-    let (first, end) = places;
+    let (first, end) = offsets;
     let mut copy = changed(rt, alloc, file, &[]);
-    for (place, old) in copy.iter_mut().enumerate() {
-        if first <= place && place < end {
-            *old = other.get(place).copied().unwrap_or(0);
+    for (offset, old) in copy.iter_mut().enumerate() {
+        if first <= offset && offset < end {
+            *old = other.get(offset).copied().unwrap_or(0);
         }
     }
     copy

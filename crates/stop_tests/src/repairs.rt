@@ -6,39 +6,39 @@ use mem_sessions::{answered_by, push_key};
 use std::alloc::Global;
 use std::process::Abort;
 
-// The place of region 0 in a store of height limit 2.
+// The offset of region 0 in a store of height limit 2, behind two pages and four images.
 const REGION_0: usize = 24576;
 
-// The records of the segment at a place.
-fn records_at(file: &[u8], place: usize) -> u32 {
+// The records of the segment at an offset.
+fn records_at(file: &[u8], offset: usize) -> u32 {
     let mut count = 0u32;
     for slot in 0..64usize {
-        if file.get(place.saturating_add(64 * slot)) == Some(&1) {
+        if file.get(offset.saturating_add(64 * slot)) == Some(&1) {
             count = count.saturating_add(1);
         }
     }
     count
 }
 
-// Sees that the segments from a place on hold that many records.
-fn see_shares(rt: &impl Abort, file: &[u8], place: usize, shares: &[u32]) {
-    let mut place = place;
+// Sees that the segments from an offset on hold that many records.
+fn see_shares(rt: &impl Abort, file: &[u8], offset: usize, shares: &[u32]) {
+    let mut offset = offset;
     for share in shares {
-        assert_eq!(rt; records_at(file, place), *share);
-        place = place.saturating_add(4096);
+        assert_eq!(rt; records_at(file, offset), *share);
+        offset = offset.saturating_add(4096);
     }
 }
 
 // Writes a record into a slot: the size of its key, no value, and the key.
-fn set_record(file: &mut [u8], place: usize, key: &[u8]) {
-    for (offset, byte) in [1, 4, 0, 0, 0, 0, 0, 0].iter().chain(key).enumerate() {
-        if let Some(old) = file.get_mut(place.saturating_add(offset)) {
+fn set_record(file: &mut [u8], offset: usize, key: &[u8]) {
+    for (i, byte) in [1, 4, 0, 0, 0, 0, 0, 0].iter().chain(key).enumerate() {
+        if let Some(old) = file.get_mut(offset.saturating_add(i)) {
             *old = *byte;
         }
     }
 }
 
-// Writes records from a place on whose slots have this size, by 64 bytes: that many keys behind a number. Gives the last number.
+// Writes records from an offset on whose slots have this size, by 64 bytes: that many keys behind a number. Gives the last number.
 fn set_records(
     rt: &impl Abort,
     alloc: Global,
@@ -46,20 +46,20 @@ fn set_records(
     slots: (usize, usize),
     keys: (u32, u32),
 ) -> u32 {
-    let (mut place, size) = slots;
+    let (mut offset, size) = slots;
     let (mut number, count) = keys;
     for _ in 0..count {
         number = number.saturating_add(1);
         let mut key = Vec::new(alloc);
         push_key(&mut key, number).expect(rt, "memory");
-        set_record(file, place, &key);
-        place = place.saturating_add(size.saturating_mul(64));
+        set_record(file, offset, &key);
+        offset = offset.saturating_add(size.saturating_mul(64));
     }
     number
 }
 
 // The command that makes a store, a slot format, the height limit with which a store of it may have height 2, a journal, and
-// the place of region 0 then.
+// the offset of region 0 then.
 #[derive(Clone, Copy)]
 pub(super) struct Room {
     pub(super) command: &'static str,
@@ -97,10 +97,10 @@ pub(super) fn with_counts(
     let changes = [(1024, 2), (1028, room.format), (704, 0)];
     let mut file = changed(rt, alloc, &empty.expect(rt, "the store"), &changes);
     let mut number = 0u32;
-    let mut place = room.region;
+    let mut offset = room.region;
     for count in counts {
-        number = set_records(rt, alloc, &mut file, (place, size), (number, *count));
-        place = place.saturating_add(4096 * size);
+        number = set_records(rt, alloc, &mut file, (offset, size), (number, *count));
+        offset = offset.saturating_add(4096 * size);
     }
     file
 }

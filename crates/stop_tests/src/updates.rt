@@ -24,21 +24,21 @@ const IMAGE_WRITE: u32 = 10;
 
 const GATE_SYNC: u32 = 13;
 
-// How many calls a put makes, with its reply.
+// How many calls a put makes: a read, the nine of a commit of one page, and its reply.
 const PUT_CALLS: u32 = 11;
 
-// A copy of a file with another byte in each place from one up to another.
+// A copy of a file with another byte at each offset from one up to another.
 fn with_fill(
     rt: &impl Abort,
     alloc: Global,
     file: &[u8],
-    places: (usize, usize),
+    offsets: (usize, usize),
     byte: u8,
 ) -> Vec<u8> {
-    let (first, end) = places;
+    let (first, end) = offsets;
     let mut copy = changed(rt, alloc, file, &[]);
-    for (place, old) in copy.iter_mut().enumerate() {
-        if first <= place && place < end {
+    for (offset, old) in copy.iter_mut().enumerate() {
+        if first <= offset && offset < end {
             *old = byte;
         }
     }
@@ -54,7 +54,7 @@ enum Step<'a> {
     Holds(usize, u8),
     // Bytes are changed.
     Change(&'a [(usize, u8)]),
-    // All bytes from a place up to another are changed.
+    // All bytes from an offset up to another are changed.
     Fill((usize, usize), u8),
 }
 
@@ -66,12 +66,12 @@ fn after_step(rt: &impl Abort, alloc: Global, file: &[u8], step: Step<'_>) -> Ve
         Session(script, plan, status, said) => {
             see_session(rt, alloc, file, script, plan, (status, said)).file
         }
-        Holds(place, byte) => {
-            assert_eq!(rt; file.get(place).copied(), Some(byte));
+        Holds(offset, byte) => {
+            assert_eq!(rt; file.get(offset).copied(), Some(byte));
             changed(rt, alloc, file, &[])
         }
         Change(changes) => changed(rt, alloc, file, changes),
-        Fill(places, byte) => with_fill(rt, alloc, file, places, byte),
+        Fill(offsets, byte) => with_fill(rt, alloc, file, offsets, byte),
     }
 }
 

@@ -49,8 +49,8 @@ pub fn row(number: u32, format: u32) -> Result<Row, Fail> {
     })
 }
 
-// The place of a segment: behind the header and a page of the journal's table with its images, twice where there are two.
-fn place_of(rt: &impl Abort, layout: Layout, region: u32, segment: u32) -> usize {
+// The offset of a segment: behind the header and a page of the journal's table with its images, twice where there are two.
+fn offset_of(rt: &impl Abort, layout: Layout, region: u32, segment: u32) -> usize {
     assert!(rt; layout.hmax <= 7 && layout.journal <= 32 && region <= 2 && segment <= 128);
     assert!(rt; layout.format <= 2);
     let journal = 1 + layout.journal;
@@ -85,15 +85,15 @@ pub fn file_of(
     height: u32,
     counts: Counts,
 ) -> Result<Vec<u8>, Fail> {
-    let end = place_of(rt, layout, 2, 0);
+    let end = offset_of(rt, layout, 2, 0);
     assert!(rt; end < 2000000);
     let mut file = vec![in alloc; 0; end + area_of(layout)]?;
     lay_header(rt, &mut file, layout, height);
     let mut number = 0;
     for (i, count) in counts.iter().enumerate() {
         assert!(rt; i < 16 && number < 1000 && *count <= 64);
-        let place = place_of(rt, layout, 0, i as u32);
-        lay_rows(rt, &mut file, layout.format, place, number, *count)?;
+        let offset = offset_of(rt, layout, 0, i as u32);
+        lay_rows(rt, &mut file, layout.format, offset, number, *count)?;
         number += *count;
     }
     Ok(file)
@@ -114,14 +114,14 @@ fn lay_rows(
     rt: &impl Abort,
     file: &mut [u8],
     format: u32,
-    place: usize,
+    offset: usize,
     before: u32,
     count: u32,
 ) -> Result<(), Fail> {
-    assert!(rt; format <= 2 && place < 2000000 && before < 2000 && count <= 64);
+    assert!(rt; format <= 2 && offset < 2000000 && before < 2000 && count <= 64);
     for i in 0..count {
         let row = row(before + i + 1, format)?;
-        lay_row(rt, file, place + (64 * format * i) as usize, &row);
+        lay_row(rt, file, offset + (64 * format * i) as usize, &row);
     }
     Ok(())
 }
@@ -144,7 +144,7 @@ pub fn see_records(
     first: u32,
     last: u32,
 ) -> Result<(u32, Counts), Fail> {
-    assert!(rt; file.len() >= place_of(rt, layout, 2, 0));
+    assert!(rt; file.len() >= offset_of(rt, layout, 2, 0));
     assert!(rt; file.len() >= 8192 && last < 1000);
     let live = file[0] % 2;
     let height = file[1024 + 1024 * live as usize] as u32;
@@ -156,9 +156,9 @@ pub fn see_records(
     let mut counts = [0; 8];
     let mut number = first;
     for segment in 0..1u32 << height {
-        let place = place_of(rt, laid, live as u32, segment);
-        assert!(rt; segment < 8 && place <= file.len() && size <= file.len() - place);
-        let rows = Segment::decode(&file[place..place + size])?;
+        let offset = offset_of(rt, laid, live as u32, segment);
+        assert!(rt; segment < 8 && offset <= file.len() && size <= file.len() - offset);
+        let rows = Segment::decode(&file[offset..offset + size])?;
         for i in 0..rows.len() {
             let Row { key, value } = rows.row(i);
             let wanted = row(number, layout.format)?;

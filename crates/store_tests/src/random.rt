@@ -12,7 +12,7 @@ use std::collections::BTreeMap;
 use std::process::Abort;
 use std::test::Fail;
 
-// How many keys there are, more than the store has room for, and how many records that is.
+// How many keys there are, more than the store has room for, and how many records that is: 8 * (64 - 3), at height 3.
 const KEYS: u32 = 600;
 
 const MOST: u32 = 488;

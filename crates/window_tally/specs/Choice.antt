@@ -1,4 +1,4 @@
--- What an update asks for.
+-- What an update needs.
 use Rattle.std.specs.Prelude.{◌≡◌, ℕ, ◌+◌, ◌-◌, ◌/◌, ◌^◌, ◌<◌, ◌≤◌, ◌==◌, nat_lt, Bool, true, false, if◌then◌else◌, sum, Option, Some, None}
 use Rattle.density_rule.specs.Bounds.{upper_of, IsInBounds}
 use Rattle.density_rule.specs.Windows.{IsWindow, count_in}
@@ -13,7 +13,7 @@ abbrev pub adds : Change → Bool
 adds Add = true
 adds Take = false
 
--- where the whole store would be outside its bounds
+-- if the whole store would be outside its bounds
 abbrev pub resize_of : ℕ → ℕ → Change → Pick
 resize_of hmax height Add = if nat_lt height hmax then Grow else AtLimit
 resize_of hmax height Take = Shrink
@@ -23,7 +23,7 @@ abbrev pub pick_of : ℕ → ℕ → ℕ → Change → Option ℕ → Pick
 pick_of hmax height segment change None = Fits
 pick_of hmax height segment change (Some c) = if c == height then resize_of hmax height change else Spread (record { height = c + 1; number = segment / 2 ^ (c + 1) })
 
--- what is asked for can be done: the window may be spread, the records fit the new height. At the limit they cannot
+-- what is needed can be done: the window may be spread, the records fit the new height. At the limit they cannot
 abbrev pub IsPossible : TallyView → Pick → Type 0
 IsPossible t Fits = Unit {0}
 IsPossible t (Spread w) = IsWindow t.height w.height w.number × (1 ≤ w.height) × IsInBounds t.height w.height (count_in t.counts w.height w.number)

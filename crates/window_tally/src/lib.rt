@@ -33,7 +33,7 @@ mod tree;
 /// How many updates a window has had since a larger window around it was spread.
 #[derive(Clone, Copy, Debug, PartialEq, Eq)]
 pub struct Since {
-    /// 0 where the window is not rested.
+    /// 0 if the window is not rested.
     pub updates: u64,
     /// Whether a larger window around it was spread, and no rest was forgotten since.
     pub rested: bool,
@@ -48,7 +48,7 @@ pub enum Change {
     Take,
 }
 
-/// What an update asks for, before it is made.
+/// What an update needs, before it is made.
 #[derive(Clone, Copy, Debug, PartialEq, Eq)]
 pub enum Pick {
     /// Nothing: all windows over the segment stay within their bounds.
@@ -59,7 +59,7 @@ pub enum Pick {
     Grow,
     /// A store one lower.
     Shrink,
-    /// A store one higher, where there is none.
+    /// A store one higher, if there is none.
     AtLimit,
 }
 
@@ -270,7 +270,7 @@ impl Tally {
         rest_inside(&mut self.marks, height, root);
     }
 
-    /// What a change in the segment asks for, by the counts that the windows of all heights over it would have.
+    /// What a change in the segment needs, by the counts that the windows of all heights over it would have.
     ///
     /// The greatest height at which one would be outside its bounds decides: none fits, the store's own resizes it, any
     /// other spreads the window one above.
@@ -283,7 +283,7 @@ impl Tally {
             let broken = highest_broken_of self.now.height after segment in
             result ≡ pick_of self.now.hmax self.now.height segment change broken }
 
-        // If all windows are within their bounds, what is asked for can be done. If a record is to be added, the store is at its
+        // If all windows are within their bounds, what is needed can be done. If a record is to be added, the store is at its
         // limit exactly if it is full.
         ensures possible { IsBalanced self.now.height self.now.counts → IsPossible self.now result }
         ensures limit { IsBalanced self.now.height self.now.counts → change ≡ Change.Add →
@@ -298,7 +298,7 @@ impl Tally {
         self.choice(segment, change)
     }
 
-    /// What a change asks for, by the greatest height that it would break.
+    /// What a change needs, by the greatest height that it would break.
     fn choice(&self, segment: u32, change: Change) -> Pick
         requires in_store { segment < 2 ^ self.now.height }
         requires some { change ≡ Change.Take → 1 ≤ slice_index self.now.counts segment }
@@ -314,7 +314,7 @@ impl Tally {
         }
     }
 
-    /// What a change asks for that takes the whole store out of its bounds.
+    /// What a change needs that takes the whole store out of its bounds.
     fn resize_for(&self, change: Change) -> Pick
         ensures { result ≡ resize_of self.now.hmax self.now.height change }
     {

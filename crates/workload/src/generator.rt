@@ -9,15 +9,16 @@ use command_text::Command;
 use itoa::Buffer;
 use key_slot::{Key, Value};
 
-// The multiplier and the increment of the generator: Knuth's for MMIX.
+// The multiplier of the generator, modulo 2^64: Knuth's for MMIX, published and tried.
 const MULTIPLIER: u64 = 6_364_136_223_846_793_005;
 
+// The increment, which goes with it.
 const INCREMENT: u64 = 1_442_695_040_888_963_407;
 
-// How many keys there are.
+// How many keys there are: those that `k` and five digits spell.
 const KEYS: u32 = 100_000;
 
-// The most records of a range.
+// The most records of a range: few, so that it reads a few segments only, however many records there are.
 const RANGE_LIMIT: u32 = 10;
 
 /// Steps the generator from the number `x` that it holds, and gives command number `i` of what it then holds.

@@ -17,7 +17,7 @@ use Rattle.range_scan.proofs.Walks.{walk_none}
 use Rattle.range_scan.proofs.Standing.{cut_size, read_is, page_fine, count_kept}
 use Rattle.range_scan.proofs.Checks.{above_next, above_more, walk_from}
 use Rattle.range_scan.proofs.Lookings.{lies_from, none_before, none_more, none_in_all, all, ahead_of, second_found, second_from, second_four, found_in}
-use Rattle.range_scan.specs.Seeking.{PlacedPast, NoneAhead}
+use Rattle.range_scan.specs.Seeking.{IsIndexPast, NoneAhead}
 use Rattle.key_slot.specs.Record.{Bytes, Record}
 use Rattle.std.specs.Prelude.{slice_get, Option}
 use Rattle.std.proofs.lemmas.Bool.{cases_lt}
@@ -84,8 +84,8 @@ returns-in_err-next_counted-clause-damaged g c =
 pub returns-in_err-next_counted-clause-steps : goal.returns-in_err-next_counted-clause-steps
 returns-in_err-next_counted-clause-steps g c = same_on c.loop-page.invariant.steps c.next_counted.ensures.steps
 
-pub returns-then-place-len-clause-steps : goal.returns-then-place-len-clause-steps
-returns-then-place-len-clause-steps g c = same_on c.loop-page.invariant.steps c.next_counted.ensures.steps
+pub returns-then-index-len-clause-steps : goal.returns-then-index-len-clause-steps
+returns-then-index-len-clause-steps g c = same_on c.loop-page.invariant.steps c.next_counted.ensures.steps
 
 pub returns-clause-steps : goal.returns-clause-steps
 returns-clause-steps g c = same_on c.loop-page.invariant.steps c.next_counted.ensures.steps
@@ -113,8 +113,8 @@ returns-in_err-next_counted-clause-reads g c =
 lt : (g : _) (c : After-next_counted g) → c.next_counted.new.reader ≡ behind c.next_counted.new.page.rows c.loop-page.reader → c.loop-page.reader.next < c.loop-page.reader.end
 lt g c after = omega (arith, c.next_counted.ensures.is_reader.within, ap (λ (r : ReaderView). r.next) after, ap (λ (r : ReaderView). r.end) after)
 
-pub returns-then-place-len-clause-reads : goal.returns-then-place-len-clause-reads
-returns-then-place-len-clause-reads g c =
+pub returns-then-index-len-clause-reads : goal.returns-then-index-len-clause-reads
+returns-then-index-len-clause-reads g c =
     let a = c.args in
     let inv = c.loop-page.invariant in
     let after = rw c.if-branch.true at c.in_ok-next_counted.ensures.after in
@@ -177,9 +177,9 @@ loop-page-preserved g c =
       none = λ told.
           let segments = cut a.region.now.tally.now.counts (entries (map_of (g.S.Station.view a.station.now).held)) in
           let same = c.rows-rows.ensures ∙ own_rows g here below told (c.in_ok-next_counted.ensures.segment c.if-branch.true) in
-          let more = none_more a.look.now.start.now a.look.now.past.now a.look.now.high.now segments c.loop-page.reader.next c.place_past-place.result (inside g here below told) (inv.none told)
-          (subst (λ (rs : List Record). PlacedPast a.look.now.start.now a.look.now.past.now rs c.place_past-place.result) same c.place_past-place.ensures.place)
-          (omega (arith, c.if-place-len.false, c.len.ensures.len, ap length same)) in
+          let more = none_more a.look.now.start.now a.look.now.past.now a.look.now.high.now segments c.loop-page.reader.next c.index_past-index.result (inside g here below told) (inv.none told)
+          (subst (λ (rs : List Record). IsIndexPast a.look.now.start.now a.look.now.past.now rs c.index_past-index.result) same c.index_past-index.ensures.index)
+          (omega (arith, c.if-index-len.false, c.len.ensures.len, ap length same)) in
           subst (λ (n : ℕ). NoneAhead a.look.now.start.now a.look.now.past.now a.look.now.high.now (rows (take n segments))) (sym next) more;
       early = λ told. elim (cases_lt a.first c.loop-page.reader.next) [
         | inr first ↦ omega (arith, next, first)
@@ -188,11 +188,11 @@ loop-page-preserved g c =
             let segments = cut a.region.now.tally.now.counts (entries (map_of held)) in
             let same = c.rows-rows.ensures ∙ own_rows g here below told (c.in_ok-next_counted.ensures.segment c.if-branch.true) in
             let one : c.loop-page.reader.next ≡ a.first + 1 = omega (arith, inv.early told, second) in
-            absurd (second_found a.look.now.start.now a.look.now.past.now (get_or segments c.loop-page.reader.next []) c.place_past-place.result
-            (subst (λ (rs : List Record). PlacedPast a.look.now.start.now a.look.now.past.now rs c.place_past-place.result) same c.place_past-place.ensures.place)
+            absurd (second_found a.look.now.start.now a.look.now.past.now (get_or segments c.loop-page.reader.next []) c.index_past-index.result
+            (subst (λ (rs : List Record). IsIndexPast a.look.now.start.now a.look.now.past.now rs c.index_past-index.result) same c.index_past-index.ensures.index)
             (second_from a.region.now.layout.now a.region.now.number a.region.now.tally.now.height a.region.now.tally.now.counts held (c.requires.stands told).stands a.look.now.start.now a.first c.loop-page.reader.next one (inside g here below told) (c.requires.begins told))
             (second_four a.region.now.layout.now a.region.now.number a.region.now.tally.now.height a.region.now.tally.now.counts held (c.requires.stands told) a.first c.loop-page.reader.next one (omega (arith, below, inv.near.within)))
-            (omega (arith, c.if-place-len.false, c.len.ensures.len, ap length same)))
+            (omega (arith, c.if-index-len.false, c.len.ensures.len, ap length same)))
       ];
       steps = same_on inv.steps c.next_counted.ensures.steps;
       reads = walk_from a.region.now.layout.now c.loop-page.reader.layout a.region.now.number c.loop-page.reader.region a.first c.loop-page.reader.next c.next_counted.new.reader.next _ _ _ inv.near.layout_is inv.near.region_is inv.reads c.next_counted.ensures.reads inv.near.onward (omega (arith, next));
@@ -230,9 +230,9 @@ returns-clause-row g c told low is =
     let none = none_in_all a.look.now.start.now a.look.now.past.now a.look.now.high.now segments c.loop-page.reader.next size (inv.none told) low is in
     sym (ap (λ (rs : List Record). slice_get rs 0) (ap (ahead_of low a.look.now.past.now a.look.now.high.now) (sym (all a.region.now.layout.now a.region.now.number a.region.now.tally.now.height a.region.now.tally.now.counts held stands)) ∙ none))
 
-pub returns-then-place-len-clause-row : goal.returns-then-place-len-clause-row
-returns-then-place-len-clause-row g c told low is =
-    let here = (goal.at.returns-then-place-len-clause-row g c).After-next_counted in
+pub returns-then-index-len-clause-row : goal.returns-then-index-len-clause-row
+returns-then-index-len-clause-row g c told low is =
+    let here = (goal.at.returns-then-index-len-clause-row g c).After-next_counted in
     let a = c.args in
     let inv = c.loop-page.invariant in
     let held = (g.S.Station.view a.station.now).held in
@@ -242,7 +242,7 @@ returns-then-place-len-clause-row g c told low is =
     let rs = c.rows-rows.ensures in
     let same = rs ∙ own_rows g here below told (c.in_ok-next_counted.ensures.segment c.if-branch.true) in
     c.row_below.ensures
-    ∙ sym (found_in low a.look.now.past.now a.look.now.high.now segments c.loop-page.reader.next c.place_past-place.result c.rows-rows.result (inside g here below told) same (inv.none told low is)
-    (subst (λ (b : Option Bytes). PlacedPast b a.look.now.past.now c.rows-rows.result c.place_past-place.result) is c.place_past-place.ensures.place)
-    (omega (arith, c.if-place-len.true, c.len.ensures.len)) (inv.above told).ascending)
+    ∙ sym (found_in low a.look.now.past.now a.look.now.high.now segments c.loop-page.reader.next c.index_past-index.result c.rows-rows.result (inside g here below told) same (inv.none told low is)
+    (subst (λ (b : Option Bytes). IsIndexPast b a.look.now.past.now c.rows-rows.result c.index_past-index.result) is c.index_past-index.ensures.index)
+    (omega (arith, c.if-index-len.true, c.len.ensures.len)) (inv.above told).ascending)
     ∙ ap (λ (l : List Record). slice_get (ahead_of low a.look.now.past.now a.look.now.high.now l) 0) (all a.region.now.layout.now a.region.now.number a.region.now.tally.now.height a.region.now.tally.now.counts held (c.requires.stands told).stands)

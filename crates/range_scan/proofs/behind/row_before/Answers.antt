@@ -9,13 +9,13 @@ use Rattle.range_scan.proofs.behind.row_before.Goals as goal
 use Rattle.range_scan.proofs.behind.row_before.Goals.{in-Some+else-lt, in_default}
 
 pub returns-then-lt : goal.returns-then-lt
-returns-then-lt c = none_from c.args.low.now c.in-Some.low c.key.result c.args.rows.now c.args.place (omega (arith, c.if-place-eq0.false)) c.in-Some.is c.key.ensures (sym c.lt.ensures ∙ c.if-lt.true)
+returns-then-lt c = none_from c.args.low.now c.in-Some.low c.key.result c.args.rows.now c.args.index (omega (arith, c.if-index-eq0.false)) c.in-Some.is c.key.ensures (sym c.lt.ensures ∙ c.if-lt.true)
 
 pub returns : goal.returns
-returns c = one_from c.args.low.now (record_of c.row.result) c.args.rows.now c.args.place (omega (arith, c.if-place-eq0.false)) c.row.ensures (elim c.match-low.branch [
+returns c = one_from c.args.low.now (record_of c.row.result) c.args.rows.now c.args.index (omega (arith, c.if-index-eq0.false)) c.row.ensures (elim c.match-low.branch [
   | in-Some+else-lt w ↦
       ap (λ (o : Option Bytes). is_from o (record_of c.row.result).0) w.in-Some.is
-      ∙ ap not (ap (λ (k : Bytes). is_lt (key_cmp k w.in-Some.low)) (key_of_row c.args.rows.now (c.args.place - 1) (record_of c.row.result) w.key.result c.row.ensures w.key.ensures)
+      ∙ ap not (ap (λ (k : Bytes). is_lt (key_cmp k w.in-Some.low)) (key_of_row c.args.rows.now (c.args.index - 1) (record_of c.row.result) w.key.result c.row.ensures w.key.ensures)
       ∙ sym w.lt.ensures ∙ w.if-lt.false)
   | in_default w ↦ ap (λ (o : Option Bytes). is_from o (record_of c.row.result).0) w.in_default.is
 ])

@@ -22,7 +22,7 @@ more : (g : _) (c : In_ok-read_on g) → c.read_on.new.rows.reader.next ≡ c.lo
 more g c =
     let inv = c.loop-have.invariant in
     let rows = c.loop-have.rows in
-    let used : rows.place ≡ length rows.page.rows = omega (arith, c.if-rows-len.true, c.len.ensures.len, ap length c.rows.ensures) in
+    let used : rows.index ≡ length rows.page.rows = omega (arith, c.if-rows-len.true, c.len.ensures.len, ap length c.rows.ensures) in
     let left : 0 < sum (drop rows.reader.next c.args.tally.now.counts) = omega (arith, inv.left, c.loop-have-test.true, c.requires.enough, used) in
     let below = one_left c.args.tally.now.counts rows.reader.next left in
     c.in_ok-read_on.ensures.next (c.in_ok-read_on.ensures.more.1 (omega (arith, below, inv.among.counts)))
@@ -73,8 +73,8 @@ loop-have-preserved g c =
     let held = c.loop-have.rows in
     let r = record_of c.row-row.result in
     let share = share_in wide c.args.wanted.f c.loop-have.frames in
-    let there : slice_get held.page.rows held.place ≡ Some r = ap (λ (l : List Record). slice_get l held.place) (sym c.rows-else-rows-len.ensures) ∙ c.row-row.ensures in
-    let few : held.place < length held.page.rows = omega (arith, inv.among.taken, c.if-rows-len.false, c.len.ensures.len, ap length c.rows.ensures) in
+    let there : slice_get held.page.rows held.index ≡ Some r = ap (λ (l : List Record). slice_get l held.index) (sym c.rows-else-rows-len.ensures) ∙ c.row-row.ensures in
+    let few : held.index < length held.page.rows = omega (arith, inv.among.taken, c.if-rows-len.false, c.len.ensures.len, ap length c.rows.ensures) in
     let all : places wide c.loop-have.frames ≡ places wide c.args.frames.now = ap (λ (b : Batch). places wide b) inv.rest in
     record {
       within = omega (arith, c.loop-have-test.true);
@@ -96,7 +96,7 @@ loop-have-preserved g c =
       order = inv.order;
       same = λ told.
           let behind = rows (drop held.reader.next (array_of (g.S.Station.view c.args.station.now).held)) in
-          ap (λ (l : List Record). l ++ (drop (held.place + 1) held.page.rows ++ behind)) c.put_row.ensures.share ∙ ahead_taken share held.page.rows behind held.place r there ∙ inv.same told;
+          ap (λ (l : List Record). l ++ (drop (held.index + 1) held.page.rows ++ behind)) c.put_row.ensures.share ∙ ahead_taken share held.page.rows behind held.index r there ∙ inv.same told;
       steps = inv.steps;
       reads = inv.reads;
       calls = inv.calls;

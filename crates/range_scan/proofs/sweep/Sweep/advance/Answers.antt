@@ -19,8 +19,8 @@ use Rattle.range_scan.proofs.sweep.Sweep.advance.Goals as goal
 use Rattle.range_scan.proofs.sweep.Sweep.advance.Goals.{After-start_in-self-inside}
 
 -- A sweep that keeps no record, and goes on to the first of the segments that it read along.
-module _ (s : SweepView) (is : IsSweep s) (none : s.kept ≡ []) (some : 0 < length s.along) (rows : List Record) (place : ℕ) (along : List Bytes) (reader : ReaderView) (after : reader ≡ record s.reader { last = last_behind s.reader.last rows })
-    (here : IsSegment s.reader.layout.format rows (first_of s.along [])) (rest : along ≡ drop 1 s.along) (from : T (are_from s.low (drop place rows))) (before : T (are_before s.low (take place rows))) where
+module _ (s : SweepView) (is : IsSweep s) (none : s.kept ≡ []) (some : 0 < length s.along) (rows : List Record) (index : ℕ) (along : List Bytes) (reader : ReaderView) (after : reader ≡ record s.reader { last = last_behind s.reader.last rows })
+    (here : IsSegment s.reader.layout.format rows (first_of s.along [])) (rest : along ≡ drop 1 s.along) (from : T (are_from s.low (drop index rows))) (before : T (are_before s.low (take index rows))) where
   fewer : length along + 1 ≡ length s.along
   fewer = ap (λ (a : List Bytes). length a + 1) rest ∙ one_less s.along some
     where
@@ -39,20 +39,20 @@ module _ (s : SweepView) (is : IsSweep s) (none : s.kept ≡ []) (some : 0 < len
   reads : IsReader reader
   reads = subst IsReader (sym after) (record { layout = is.reader.layout; region = is.reader.region; within = is.reader.within; end_is = is.reader.end_is })
 
-  fit : T (list_all (is_record s.reader.layout.format) (drop place rows))
-  fit = all_dropped (is_record s.reader.layout.format) rows place here.fits.records
+  fit : T (list_all (is_record s.reader.layout.format) (drop index rows))
+  fit = all_dropped (is_record s.reader.layout.format) rows index here.fits.records
 
-  advanced_is : IsSweep (record s { reader = reader; kept = drop place rows; along = along; faulted = s.faulted })
-  advanced_is = sweep_over s reader (drop place rows) along s.faulted is reads step.layout_is step.end_is (omega (arith, is.first_is, fewer, ap (λ (r : ReaderView). r.next) after)) from fit (λ sound. ap (λ (r : ReaderView). r.faulted) after ∙ is.unfaulted sound)
+  advanced_is : IsSweep (record s { reader = reader; kept = drop index rows; along = along; faulted = s.faulted })
+  advanced_is = sweep_over s reader (drop index rows) along s.faulted is reads step.layout_is step.end_is (omega (arith, is.first_is, fewer, ap (λ (r : ReaderView). r.next) after)) from fit (λ sound. ap (λ (r : ReaderView). r.faulted) after ∙ is.unfaulted sound)
 
-  advanced : Advances s (record s { reader = reader; kept = drop place rows; along = along })
+  advanced : Advances s (record s { reader = reader; kept = drop index rows; along = along })
   advanced = record {
     same = record { layout_is = step.layout_is; region_is = step.region_is; end_is = step.end_is; tally_is = refl; first_is = refl; low_is = refl; high_is = refl; limit_is = refl; onward = omega (arith, ap (λ (r : ReaderView). r.next) after); met = omega (arith, ap (λ (r : ReaderView). r.next) after, fewer) };
     given = refl;
     read = ap (λ (r : ReaderView). r.next) after;
     faulted = refl;
     sweeping = λ image sweeping.
-        sweeping_read s image is sweeping 0 reader along (λ empty. absurd (omega (arith, some, ap length empty))) (omega (arith, some, is.first_is, is.reader.within)) step (omega (arith, fewer, read_none s.along 0 some)) (λ empty. absurd (omega (arith, some, ap length empty))) rows place none
+        sweeping_read s image is sweeping 0 reader along (λ empty. absurd (omega (arith, some, ap length empty))) (omega (arith, some, is.first_is, is.reader.within)) step (omega (arith, fewer, read_none s.along 0 some)) (λ empty. absurd (omega (arith, some, ap length empty))) rows index none
         (ap (λ (r : ReaderView). r.last) after)
         (subst (IsSegment s.reader.layout.format rows) (first_any s.along [] (page_in s.reader.layout s.reader.region image s.reader.next) some) here)
         (rest ∙ rest_any s.along (pages_in s.reader.layout s.reader.region image (s.reader.next + 1) (0 - 1)) some) before;
@@ -60,7 +60,7 @@ module _ (s : SweepView) (is : IsSweep s) (none : s.kept ≡ []) (some : 0 < len
 
 -- the sweep before it, by its fields
 abbrev before : After-start_in-self-inside → SweepView
-before c = record { reader = c.self.inside.reader; tally = c.self.inside.tally.now; first = c.self.inside.first; low = c.self.inside.low; high = c.self.inside.high; limit = c.self.inside.limit; given = c.self.inside.given; kept = drop c.self.inside.place c.self.inside.page.now.rows; along = c.self.inside.page.now.along; faulted = c.self.inside.faulted }
+before c = record { reader = c.self.inside.reader; tally = c.self.inside.tally.now; first = c.self.inside.first; low = c.self.inside.low; high = c.self.inside.high; limit = c.self.inside.limit; given = c.self.inside.given; kept = drop c.self.inside.index c.self.inside.page.now.rows; along = c.self.inside.page.now.along; faulted = c.self.inside.faulted }
 
 none : (c : After-start_in-self-inside) → (before c).kept ≡ []
 none c = ap (λ (s : SweepView). s.kept) c.self.view_is ∙ c.keeps_one.ensures.none c.if-keeps_one.false
@@ -105,7 +105,7 @@ returns-clause-is_sweep c = is_sweep (goal.at.returns-clause-is_sweep c).After-s
 pub returns-then-not-advance-clause-goes : goal.returns-then-not-advance-clause-goes
 returns-then-not-advance-clause-goes c image sweeping wanting nothing some =
     let i = c.self.inside in
-    let s : SweepView = record { reader = i.reader; tally = i.tally.now; first = i.first; low = i.low; high = i.high; limit = i.limit; given = i.given; kept = drop i.place i.page.now.rows; along = i.page.now.along; faulted = i.faulted } in
+    let s : SweepView = record { reader = i.reader; tally = i.tally.now; first = i.first; low = i.low; high = i.high; limit = i.limit; given = i.given; kept = drop i.index i.page.now.rows; along = i.page.now.along; faulted = i.faulted } in
     let is = c.self.invariant.2 in
     let amid : IsSweeping s image = subst (λ (t : SweepView). IsSweeping t image) (sym c.self.view_is) sweeping in
     let more : 0 < length s.along = omega (arith, c.if-along-eq0.false, c.along.ensures) in

@@ -15,27 +15,27 @@ use Rattle.range_scan.proofs.sweep.Sweep.is_at_hand.Goals.{Else-self-len}
 wanting : (c : Else-self-len) → c.args.self.now.given < c.args.self.now.limit
 wanting c = omega (arith, c.self.invariant.2.given_is, c.if-self.false, ap (λ (s : SweepView). s.given) c.self.view_is, ap (λ (s : SweepView). s.limit) c.self.view_is)
 
--- there is a record at the place
-within : (c : Else-self-len) → c.self.inside.place < length c.self.inside.page.now.rows
+-- there is a record at the index
+within : (c : Else-self-len) → c.self.inside.index < length c.self.inside.page.now.rows
 within c = omega (arith, c.self.invariant.0, c.if-self-len.false, c.len.ensures.len, ap length c.rows-rows.ensures)
 
 pub returns-in-Some-clause-at_hand : goal.returns-in-Some-clause-at_hand
 returns-in-Some-clause-at_hand c =
     let i = c.self.inside in
     let here = (goal.at.returns-in-Some-clause-at_hand c).Else-self-len in
-    let r = some_record i.page.now.rows i.place (within here) in
-    let keyed : key_at i.page.now.rows i.place ≡ Some r.0.0 = ap (option_map (λ (q : Record). q.0)) r.1 in
+    let r = some_record i.page.now.rows i.index (within here) in
+    let keyed : key_at i.page.now.rows i.index ≡ Some r.0.0 = ap (option_map (λ (q : Record). q.0)) r.1 in
     hand_by c.args.self.now c.is_lt.result (wanting here)
     (c.is_lt.ensures
-    ∙ ap is_lt (c.compare.ensures r.0.0 (ap (λ (rows : List Record). key_at rows i.place) c.rows-rows.ensures ∙ keyed))
+    ∙ ap is_lt (c.compare.ensures r.0.0 (ap (λ (rows : List Record). key_at rows i.index) c.rows-rows.ensures ∙ keyed))
     ∙ ap (λ (high : Option Bytes). is_below high r.0.0) (sym c.in-Some.is)
-    ∙ sym (begins_at i.high i.page.now.rows i.place r.0.0 keyed)
+    ∙ sym (begins_at i.high i.page.now.rows i.index r.0.0 keyed)
     ∙ ap (λ (s : SweepView). begins_below s.high s.kept) c.self.view_is)
 
 pub returns-in-None-clause-at_hand : goal.returns-in-None-clause-at_hand
 returns-in-None-clause-at_hand c =
     let i = c.self.inside in
     hand_by c.args.self.now true (wanting (goal.at.returns-in-None-clause-at_hand c).Else-self-len)
-    (sym (begins_anyway i.page.now.rows i.place (within (goal.at.returns-in-None-clause-at_hand c).Else-self-len))
-    ∙ ap (λ (high : Option Bytes). begins_below high (drop i.place i.page.now.rows)) (sym c.in-None.is)
+    (sym (begins_anyway i.page.now.rows i.index (within (goal.at.returns-in-None-clause-at_hand c).Else-self-len))
+    ∙ ap (λ (high : Option Bytes). begins_below high (drop i.index i.page.now.rows)) (sym c.in-None.is)
     ∙ ap (λ (s : SweepView). begins_below s.high s.kept) c.self.view_is)

@@ -13,6 +13,6 @@ returns-clause-row c =
     let s = c.args.self.now in
     let rows = c.self.inside.page.now.rows in
     let own = record_of c.row-row.result in
-    let there = ap (λ (rs : List Record). slice_get rs c.self.inside.place) (sym c.rows.ensures) ∙ c.row-row.ensures in
-    let kept = kept_at s rows c.self.inside.place (sym (ap (λ (x : SweepView). x.kept) c.self.view_is)) c.requires own there in
-    subst (λ (t : SweepView). Takes (own ∷ []) s t) (sym c.pass.ensures.passed) (takes_first s own (drop (c.self.inside.place + 1) rows) (subst IsSweep c.self.view_is c.self.invariant.2) c.requires kept)
+    let there = ap (λ (rs : List Record). slice_get rs c.self.inside.index) (sym c.rows.ensures) ∙ c.row-row.ensures in
+    let kept = kept_at s rows c.self.inside.index (sym (ap (λ (x : SweepView). x.kept) c.self.view_is)) c.requires own there in
+    subst (λ (t : SweepView). Takes (own ∷ []) s t) (sym c.pass.ensures.passed) (takes_first s own (drop (c.self.inside.index + 1) rows) (subst IsSweep c.self.view_is c.self.invariant.2) c.requires kept)
