@@ -44,7 +44,7 @@ def build():
 
 
 def known(program, folder):
-    """Which of the words that came later this program knows: cursors, prev, quick and create-paired."""
+    """Which of the words that came later this program knows: cursors, prev, merge, quick and create-paired."""
     file, found = str(folder / "probe"), set()
     subprocess.run([program, "create", file, "0"], check=True)
     done = subprocess.run([program, "run", file], input=b"open c * *\nprev c\n", stdout=subprocess.PIPE, check=True)
@@ -52,8 +52,10 @@ def known(program, folder):
         found.add("cursors")
     if done.stdout == b"opened\nend\n":
         found.add("prev")
-    os.unlink(file)
     nothing = subprocess.DEVNULL
+    if subprocess.run([program, "merge", file], input=b"end 0\n", stdout=nothing).returncode == 0:
+        found.add("merge")
+    os.unlink(file)
     if subprocess.run([program, "create-indexed", file, "0"], stdout=nothing).returncode == 0:
         if subprocess.run([program, "quick", file], stdin=nothing, stdout=nothing).returncode == 0:
             found.add("quick")
@@ -78,11 +80,11 @@ class Contestant:
         return [self.words[0], file, *self.words[1:]]
 
     def bulk(self, word, file=None):
-        """The command that loads a text into the store or dumps it; none where its tool isn't there."""
+        """The command that loads a text into the store, merges it or dumps the store; none where its tool isn't there."""
         file = str(file or self.file)
         if self.height is not None:
             return self.command(file, word)
-        if self.name == "lmdb":
+        if self.name == "lmdb" and word != "merge":
             tool = shutil.which(f"mdb_{word}")
             return tool and [tool, "-n", file]
         return [self.words[0], file, *(self.words[1:] or [""]), word]
@@ -202,8 +204,8 @@ class Bench:
             raise Missing(f"{' '.join(command)} ended with {done.returncode}")
         return [float(n) for n in self.report.read_text().split()]
 
-    def traced(self, command, file):
-        """(Bytes written, syncs) of a command, by strace, from the first reply to the last."""
+    def traced(self, command, file, whole=False):
+        """(Bytes written, syncs) of a command, by strace, from the first reply to the last, or of the whole program."""
         log = self.report.with_name("trace")
         calls = "openat,write,pwrite64,writev,pwritev,fsync,fdatasync,msync"
         with open(self.script, "rb") as script:
@@ -221,6 +223,8 @@ class Bench:
                 syncs += descriptor in synced  # such a write is a sync too
             elif descriptor == "1":
                 at_replies.append((written, syncs))
+        if whole:
+            return [written, syncs]
         return [(last - first) / (len(at_replies) - 1) for first, last in zip(at_replies[0], at_replies[-1])]
 
 

@@ -6,7 +6,8 @@ BATCH = "batch of 16"
 UPDATES = ["fillrandom", "fillseq", "overwrite", "deleterandom", BATCH, "batch of 16, by puts"]
 OPEN, QUICK = "open, one get", "open, one get by quick"
 MEMORY, QUICK_MEMORY = "memory of open, one get", "memory of open, one get by quick"
-BULK = ["bulk, load", "bulk, dump"]
+MERGES = ["merge 0.1 %", "merge 10 %", "merge 100 %"]
+BULK = ["bulk, load", *MERGES, "bulk, dump"]
 WORKLOADS = [*UPDATES, *READS, "half and half", "mostly scans", *BULK, OPEN, QUICK]
 CONTESTANTS = [
     "pma", "pma-1024", "pma-paired", "sqlite-delete", "sqlite-wal", "sqlite-wal-cache", "lmdb", "leveldb", "leveldb-cache",

@@ -46,6 +46,7 @@ class Run:
         self.stores = [c for c in self.all if c.name != "nothing"]
         self.loaders = [c for c in self.all if c.bulk("load") and c.bulk("dump")]
         self.words = words
+        self.mergers = self.loaders if "merge" in words else []
         self.indexed = [c for c in self.all if c.height is not None] if "quick" in words else []
 
     def filled(self):
@@ -101,6 +102,15 @@ class Run:
                 self.same("load", scan, {one.name: one.command(), f"{one.name}-new": one.command(new)})
                 one.clear(new)
 
+    def merge(self):
+        """Merges the texts of a round into a new store each; the lines that are said and the records then must be the same."""
+        files = {one: self.loaded(one) for one in self.mergers if one in self.stores}
+        for name, lines in self.work.merges(0) if files else ():
+            self.same(name, lines, {one.name: one.bulk("merge", file) for one, file in files.items()})
+            self.same(f"behind {name}", [b"range * *\n"], {one.name: one.command(file) for one, file in files.items()})
+        for one, file in files.items():
+            one.clear(file)
+
     def loaded(self, one, took=None):
         """A new store of the load text; what the load took is added."""
         new = self.folder / f"new-{one.name}"
@@ -125,6 +135,7 @@ class Run:
         for name, lines in self.work.turn(0, self.words):
             self.same(name or "restored", lines)
         self.bulk()
+        self.merge()
         self.with_index()
 
     def opened(self, turn, took):
@@ -138,9 +149,14 @@ class Run:
             took.setdefault((f"memory of {name}", one.name, "MiB"), []).append(runs[0][2] / 1024)
 
     def moved(self, turn, took):
-        """Adds what a load and a dump take, each a program of its own."""
+        """Adds what a load takes, the merges into what it made, and a dump, each a program of its own."""
+        texts = list(self.work.merges(turn)) if self.mergers else []
         for one in turned(self.loaders, turn):
-            one.clear(self.loaded(one, took.setdefault(("bulk, load", one.name, "ms"), [])))
+            new = self.loaded(one, took.setdefault(("bulk, load", one.name, "ms"), []))
+            for name, lines in texts:
+                self.bench.write(lines)
+                took.setdefault((name, one.name, "ms"), []).append(self.bench.run(one.bulk("merge", new))[0] * 1e3)
+            one.clear(new)
             seconds = self.bench.run(one.bulk("dump"), of=os.devnull)[0]
             took.setdefault(("bulk, dump", one.name, "ms"), []).append(seconds * 1e3)
 
@@ -168,7 +184,7 @@ class Run:
         return sorted(rows, key=lambda row: (works.index(row[1]), order.index(row[2])))
 
     def traced(self):
-        """(Contestant, workload) -> bytes written and syncs of an update, the median of three runs."""
+        """(Contestant, workload) -> bytes written and syncs of an update, the median of three runs, of a merge one run's."""
         found, turn = {}, self.rounds + 1
         for one in self.stores:
             for again in range(3):
@@ -185,11 +201,18 @@ class Run:
                 if not self.work.small:
                     self.bench.write(self.work.deleterandom(turn, TRACED))
                     self.bench.run(one.command())
+            if one in self.mergers:
+                new = self.loaded(one)
+                for name, lines in self.work.merges(turn):
+                    self.bench.write(lines)
+                    numbers = self.bench.traced(one.bulk("merge", new), new, whole=True)
+                    found[one.name, name] = [[n / (len(lines) - 1) for n in numbers]]
+                one.clear(new)
         return {what: [f"{statistics.median(column):.4g}" for column in zip(*runs)] for what, runs in found.items()}
 
     def on_disk(self, disk, commands, traced):
         """Rows of durable updates a second by the clock, with bytes and syncs; that many updates over all rounds, each command sent
-        when the reply before it is there, the first one when the program has opened."""
+        when the reply before it is there, the first one when the program has opened; a merge is a program with its start."""
         each, took, rows = max(2, commands // self.rounds), {}, []
         files = {one.name: one.copied(disk) for one in self.stores}
         for turn in range(self.rounds + 2, 2 * self.rounds + 2):
@@ -201,10 +224,15 @@ class Run:
                 for one in turned(self.stores, turn):
                     microseconds = self.bench.run(one.command(files[one.name]), tool="pauses")[4]
                     took.setdefault((name, one.name), []).append(self.work.counted(name, lines) / microseconds * 1e6)
+            for name, lines in self.work.merges(turn) if self.mergers else ():
+                self.bench.write(lines)
+                for one in turned([one for one in self.mergers if one in self.stores], turn):
+                    seconds = self.bench.run(one.bulk("merge", files[one.name]))[1]
+                    took.setdefault((name, one.name), []).append((len(lines) - 1) / seconds)
         for one in self.stores:
             one.clear(files[one.name])
         for name in dict.fromkeys(name for name, _ in took):
-            for one in self.stores:
+            for one in [one for one in self.stores if (name, one.name) in took]:
                 rates, cost = spread(took[name, one.name]), traced.get((one.name, name), ["", ""])
                 rows.append([self.records, name, one.name, *rates, *cost])
         return rows
@@ -307,13 +335,13 @@ def measured(arguments, there, folder, disk):
     if not can_trace:
         print("left out: bytes and syncs, since strace isn't there (Debian: strace)")
     words = known(arguments.program, folder)
-    for word, what in (("cursors", "cursor"), ("prev", "cursor back"), ("quick", "open, one get by quick"),
+    for word, what in (("cursors", "cursor"), ("prev", "cursor back"), ("merge", "merge"), ("quick", "open, one get by quick"),
                        ("create-paired", "the store with two journals")):
         if word not in words:
             print(f"left out: {what}, since this program doesn't know {word}")
     for tool in ("mdb_load", "mdb_dump"):
         if "lmdb" in there and not shutil.which(tool):
-            print(f"left out: bulk of lmdb, since {tool} isn't there (Debian: lmdb-utils)")
+            print(f"left out: bulk and merge of lmdb, since {tool} isn't there (Debian: lmdb-utils)")
     for records in sizes:
         run = Run(folder, there, arguments.program, words, records, arguments.rounds)
         pauses, taken = run.filled()

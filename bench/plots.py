@@ -9,7 +9,7 @@ import shutil
 import sys
 import textwrap
 
-from numbers_of_runs import BATCH, CONTESTANTS, MEMORY, OPEN, QUICK, QUICK_MEMORY, READS, UPDATES, WORKLOADS
+from numbers_of_runs import BATCH, CONTESTANTS, MEMORY, MERGES, OPEN, QUICK, QUICK_MEMORY, READS, UPDATES, WORKLOADS
 from numbers_of_runs import Numbers, by_contestant, number, unit, where
 from pictures import draw_all
 
@@ -51,6 +51,7 @@ def lost_on_disk(numbers):
     rows = []
     causes = dict.fromkeys(("overwrite", "fillrandom", "deleterandom"), "four syncs, one after the other")
     causes[BATCH] = "four syncs a batch, and each segment of an item is written whole, twice"
+    causes |= dict.fromkeys(MERGES, "a merge reads and writes the whole store, however few the updates are")
     for work, cause in causes.items():
         rates = by_contestant(where(numbers.puts, workload=work), "a_second")
         rows += lost(f"durable updates on a disk, {work}", "a second", rates, cause, more=True)
@@ -96,6 +97,7 @@ def lost_time(numbers):
         "cursor back": "each `prev` does",
     }
     causes |= {"bulk, load": "records are packed and then spread, so each segment is written twice", "bulk, dump": reads}
+    causes |= dict.fromkeys(MERGES, "the whole store is read and written, however few the updates are")
     causes["fillseq"] = "ascending keys all come into one segment, whose window is spread again and again"
     for work, cause in causes.items():
         rows += lost(f"processor time, {work}", unit(work), numbers.time(numbers.greatest, work), cause)
@@ -109,8 +111,8 @@ def losses(numbers):
         f"At {numbers.greatest} records, beside the best of the peers in each row:",
         table(["what", "unit", "`pma`", "with a JOURNAL of 1024", "take instead", "the cause"], rows),
         "A batch of `pma` is one command in a crash, of 16 items at most, and four syncs if its segments fit into the journal "
-        "and no item needs a rebalance. If more updates are to happen together, take one of the peers, whose transactions have "
-        "no such limit and are synced once or twice.",
+        "and no item needs a rebalance. `merge` makes any number of updates together, and reads and writes the whole store for them: "
+        "if they are few for the store, take one of the peers, whose transactions have no limit and are synced once or twice.",
     ]
 
 
@@ -139,8 +141,8 @@ def processor_time(numbers, records):
             texts = ["{} ({} to {})".format(*cell) if cell else "" for cell in cells]
             rows.append([f"{work}, {unit(work)}", *texts])
     text = ("A command's, the median of the rounds with the least and the greatest, the opening subtracted; of a batch an "
-            "item's, of a cursor and the range beside it a record's; an opening's, a load's and a dump's by itself. `nothing` "
-            "keeps no record and answers alike: this is what the script language costs.")
+            "item's, of a cursor and the range beside it a record's; an opening's, a load's, a merge's and a dump's by itself. "
+            "`nothing` keeps no record and answers alike: this is what the script language costs.")
     if int(records) < 1000:
         text += (" Each put of a new key is followed by its removal, and the two are two commands. LevelDB keeps what was "
                  "removed until it compacts, and its ranges pass over that.")

@@ -1,7 +1,8 @@
 /* Reads a script and says its replies, in the same pieces as the program: the script is read in pieces of 4096 bytes, each
    reply is one write, and the records of a range are written in pieces of at most 4096 bytes, with `end` for itself.
    Usage of a driver: DRIVER FILE [SETTING] <SCRIPT, or without words for the store's version;
-   DRIVER FILE SETTING load <TEXT and DRIVER FILE SETTING dump read and say a load text.
+   DRIVER FILE SETTING load <TEXT and DRIVER FILE SETTING dump read and say a load text, and DRIVER FILE SETTING merge <TEXT
+   makes the updates of a merge text, in one transaction.
 
    The commands are put, remove, batch, get, range, open, next, prev and close, with the program's escapes, limits and
    refusals. */
@@ -494,21 +495,33 @@ static void serve(struct bytes *words, int count)
         say("bad command");
 }
 
-/* ---- load texts ---- */
+/* ---- load texts and merge texts ---- */
 
 static unsigned long loaded;
 static int is_ended;
+
+/* 1 where a line tells the number of those before it. */
+static int is_end(struct bytes *words, int count)
+{
+    unsigned long told;
+    return !is_ended && count == 2 && is(words[0], "end") && number(words[1], &told) && told == loaded;
+}
+
+/* 1 where a line may stand before the end, and has this word, a key, and at most that many words. */
+static int is_text(struct bytes *words, int count, const char *word, int most)
+{
+    return !is_ended && count >= 2 && count <= most && is(words[0], word);
+}
 
 /* Takes a line of a load text, which has a record or tells their number. */
 static void load(struct bytes *words, int count)
 {
     static char key_place[LINE], value_place[LINE];
-    unsigned long told;
-    if (!is_ended && count == 2 && is(words[0], "end") && number(words[1], &told) && told == loaded) {
+    if (is_end(words, count)) {
         is_ended = 1;
         return;
     }
-    if (is_ended || count < 2 || count > 3 || !is(words[0], "record"))
+    if (!is_text(words, count, "record", 3))
         fail("no load text");
     if (loaded++ % store_bulk == 0) {
         if (loaded > 1)
@@ -519,12 +532,40 @@ static void load(struct bytes *words, int count)
     store_append(decoded(words[1], key_place), value);
 }
 
-static void end_load(void)
+static unsigned long stored, replaced, removed, absent;
+
+/* Takes a line of a merge text, which has an update or tells their number. */
+static void merge(struct bytes *words, int count)
+{
+    static char key_place[LINE], value_place[LINE];
+    if (is_end(words, count)) {
+        is_ended = 1;
+        return;
+    }
+    int removes = is_text(words, count, "remove", 2);
+    if (!removes && !is_text(words, count, "record", 3))
+        fail("no merge text");
+    if (!loaded++)
+        store_begin();
+    struct bytes key = decoded(words[1], key_place);
+    struct bytes value = count == 3 ? decoded(words[2], value_place) : (struct bytes){value_place, 0};
+    (*(removes ? store_remove(key) ? &removed : &absent : store_put(key, value) ? &replaced : &stored))++;
+}
+
+/* Ends a load or a merge. */
+static void end_text(void)
 {
     if (!is_ended)
-        fail("no load text");
+        fail("no end of the text");
     if (loaded)
         store_commit();
+}
+
+static void say_merged(void)
+{
+    char reply[128];
+    snprintf(reply, sizeof reply, "merged stored=%lu replaced=%lu removed=%lu absent=%lu", stored, replaced, removed, absent);
+    say(reply);
 }
 
 static void dump(void)
@@ -558,7 +599,7 @@ static void take_words(const char *line, size_t length)
 static void take_line(const char *line, size_t length)
 {
     if (length > LINE)
-        return take == load ? fail("no load text") : say("bad line");
+        return take == serve ? say("bad line") : fail("no line of a text");
     take_words(line, length && line[length - 1] == '\r' ? length - 1 : length);
 }
 
@@ -592,18 +633,21 @@ int main(int words, char **word)
 {
     if (words == 1)
         return say(store_version()), 0;
-    int loads = words == 4 && !strcmp(word[3], "load"), dumps = words == 4 && !strcmp(word[3], "dump");
-    if (words > 3 && !loads && !dumps)
+    const char *bulk = words == 4 ? word[3] : "";
+    int loads = !strcmp(bulk, "load"), merges = !strcmp(bulk, "merge"), dumps = !strcmp(bulk, "dump");
+    if (words > 3 && !loads && !merges && !dumps)
         return 2;
     store_open(word[1], words > 2 ? word[2] : "");
-    if (loads)
-        take = load;
+    if (loads || merges)
+        take = loads ? load : merge;
     if (dumps)
         dump();
     else if (!take_all())
         return 5;
-    if (loads)
-        end_load();
+    if (loads || merges)
+        end_text();
+    if (merges)
+        say_merged();
     unset_all();
     store_close();
     return 0;

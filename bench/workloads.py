@@ -7,6 +7,7 @@ ITEMS = 16  # of a batch
 WALKED = 100000  # records that a cursor goes over, where there are that many
 BATCH, BY_PUTS = "batch of 16", "batch of 16, by puts"
 CURSOR, BACK, BY_RANGE = "cursor", "cursor back", "cursor, by range"
+MERGES = {"merge 0.1 %": 1000, "merge 10 %": 10, "merge 100 %": 1}  # one update of a text for that many records
 
 
 def key(number):
@@ -34,11 +35,13 @@ class Workloads:
         self.walked = min(WALKED, records)
         self.walks = max(1, self.gets // self.walked)
         fresh = 2 if self.small else self.updates + self.scans // 20 + 1
-        numbers = random.Random(SEED).sample(range(KEYS), records + fresh * (2 * rounds + 3) + 1000)
+        count, added = records + fresh * (2 * rounds + 3) + 1000, sum(n // 10 for n in self.merged().values())
+        numbers = random.Random(SEED).sample(range(KEYS), count + added)
         self.keys = [key(n) for n in numbers[:records]]
         starts = [records + fresh * turn for turn in range(2 * rounds + 3)]
         self.fresh = [[key(n) for n in numbers[start:start + fresh]] for start in starts]
-        self.missing = [key(n) for n in numbers[-1000:]]
+        self.missing = [key(n) for n in numbers[count - 1000:count]]
+        self.added = [key(n) for n in numbers[count:]]
         total, self.skew = 0.0, []
         for rank in range(records):
             total += 1 / (rank + 1) ** 0.99
@@ -117,6 +120,23 @@ class Workloads:
         if name in (CURSOR, BACK, BY_RANGE):
             return self.walks * self.walked
         return len(lines) * (ITEMS if name == BATCH else 1)
+
+    def merged(self):
+        """How many updates each merge text has, by its name; none where it would have none."""
+        return {name: self.records // each for name, each in MERGES.items() if self.records >= each}
+
+    def merges(self, turn):
+        """(Name, lines) of the merge texts of a round, one after the other: of ten updates eight bind a present key, one binds a
+        new one, and one removes a present one, so that there are never more records than before."""
+        order = random.Random(SEED + 500 + turn).sample(self.keys, self.records)
+        start = 0
+        for name, count in self.merged().items():
+            some, end = count // 10, start + count // 10
+            lines = [b"remove %s\n" % k for k in order[start:end]]
+            bound = self.added[start:end] + order[self.records - count + 2 * some:]
+            lines += [b"record %s %s\n" % (k, value(turn * 1000039 + n)) for n, k in enumerate(bound)]
+            yield name, sorted(lines, key=lambda line: line.split()[1]) + [b"end %d\n" % count]
+            start = end
 
     def restored(self, turn):
         """Takes away what `fillseq` and `mostly scans` added."""

@@ -36,9 +36,10 @@ for seed in 3 14 15 92 65 35 89 79; do
         }
     }' >"$folder/feed"
     awk '{ last[$1] = $0 } END { for (n in last) print last[n] }' "$folder/feed" | sort -k1,1 |
-        awk '{ print NF > 1 ? "record " $1 " " $2 : "remove " $1 } END { print "end", NR }' >"$folder/text"
-    awk 'NR == FNR { price[$1] = $2; next } NF > 1 { price[$1] = $2; next } { delete price[$1] }
+        awk '{ print (NF > 1 ? "record " $1 " " $2 : "remove " $1) } END { print "end", NR }' >"$folder/text"
+    awk 'FILENAME == ARGV[1] || NF > 1 { price[$1] = $2; next } { delete price[$1] }
         END { for (n in price) print n, price[n] }' "$folder/before" "$folder/feed" | sort >"$folder/after"
+    : >"$folder/said" # a kill may come before the merge has made it empty
     "$program" merge "$store" <"$folder/text" >"$folder/said" &
     sleep "0.00$((seed % 7))"
     kill -9 $! 2>/dev/null || :

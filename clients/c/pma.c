@@ -1,9 +1,10 @@
-#define _POSIX_C_SOURCE 200809L
+#define _XOPEN_SOURCE 700
 #include "pma.h"
 
 #include <ctype.h>
 #include <errno.h>
 #include <fcntl.h>
+#include <poll.h>
 #include <signal.h>
 #include <spawn.h>
 #include <stdio.h>
@@ -11,16 +12,26 @@
 #include <string.h>
 #include <sys/file.h>
 #include <sys/socket.h>
+#include <sys/time.h>
 #include <sys/wait.h>
+#include <time.h>
 #include <unistd.h>
 
 extern char **environ;
+
+enum {
+    GRACE = 8000,     /* waits of 0.2 ms for the end of a program that has closed its output, or was killed */
+    LONGEST = 1000000 /* seconds of a limit */
+};
 
 struct pma {
     int socket;              /* requests go in, replies come out */
     pid_t run, maker;        /* run is 0 once it was waited for */
     pma_code cause;          /* why the run has ended */
     int busy;                /* amid a call */
+    int unread;              /* it ended with input that it hadn't read */
+    int seconds;             /* for which it may say nothing; 0 is no limit */
+    char *program, *file;
     unsigned long names;     /* given to cursors */
     size_t from, until;      /* what of `taken` wasn't read */
     char taken[4096];
@@ -132,6 +143,12 @@ static int read_record(const char *line, pma_record *record)
     return at && read_value(at, record);
 }
 
+static int read_changes(const char *line, const char *word, pma_changes *made)
+{
+    return begins(line, word) && sscanf(line + strlen(word), " stored=%lu replaced=%lu removed=%lu absent=%lu", &made->stored,
+                                        &made->replaced, &made->removed, &made->absent) == 4;
+}
+
 /* The run */
 
 static pma_code code_of(int status)
@@ -144,11 +161,18 @@ static pma_code code_of(int status)
     return codes[WEXITSTATUS(status)] ? codes[WEXITSTATUS(status)] : PMA_STOPPED;
 }
 
-/* Waits for the end of this child alone. Where another part of the process took its status, status stays. */
-static void wait_for(pid_t run, int *status)
+/* Waits for the end of this child alone, and kills it where it goes on behind so many waits. Where another part of the process
+   took its status, or it hangs even then, status stays. */
+static void wait_for(pid_t run, int *status, int waits)
 {
-    while (waitpid(run, status, 0) < 0 && errno == EINTR)
-        ;
+    for (; waits > -GRACE; waits--) {
+        pid_t found = waitpid(run, status, WNOHANG);
+        if (found > 0 || (found < 0 && errno != EINTR))
+            return;
+        if (waits == 0)
+            kill(run, SIGKILL);
+        nanosleep(&(struct timespec){0, 200000}, NULL);
+    }
 }
 
 static ssize_t take(int from, char *bytes, size_t size)
@@ -193,13 +217,22 @@ static pma_code start(char *const words[], int *ours, pid_t *run)
     return PMA_SYSTEM;
 }
 
-/* Ends the run, whatever it does, and keeps why it ended: `cause`, or where that is PMA_OK what its status says. */
+/* Sets how long a call of the socket waits. */
+static void limit(pma *store)
+{
+    struct timeval most = {store->seconds, 0};
+    setsockopt(store->socket, SOL_SOCKET, SO_RCVTIMEO, &most, sizeof most);
+    setsockopt(store->socket, SOL_SOCKET, SO_SNDTIMEO, &most, sizeof most);
+}
+
+/* Ends the run, whatever it does, and keeps why it ended: `cause`, by which the conversation is broken off, or where that is PMA_OK
+   what its status says. */
 static pma_code run_ended(pma *store, pma_code cause)
 {
     int status = 0;
     shutdown(store->socket, SHUT_RDWR);
     if (store->run)
-        wait_for(store->run, &status);
+        wait_for(store->run, &status, cause ? 0 : GRACE);
     store->run = 0;
     store->cause = cause ? cause : code_of(status);
     return store->cause;
@@ -208,11 +241,12 @@ static pma_code run_ended(pma *store, pma_code cause)
 /* Takes the next line of reply; whether it came. A line that is too long breaks the conversation off. */
 static int next_line(pma *store)
 {
-    for (size_t size = 0;;) {
+    for (size_t size = 0, refusals = 0;;) {
         if (store->from == store->until) {
             ssize_t count = take(store->socket, store->taken, sizeof store->taken);
+            store->unread = count < 0 && errno == ECONNRESET;
             if (count <= 0)
-                return run_ended(store, PMA_OK), 0;
+                return run_ended(store, count < 0 && errno == EAGAIN ? PMA_TIMED_OUT : PMA_OK), 0;
             store->from = 0, store->until = (size_t)count;
         }
         char c = store->taken[store->from++];
@@ -221,6 +255,8 @@ static int next_line(pma *store)
             return store->line[size] = 0, run_ended(store, PMA_UNEXPECTED), 0;
         if (c == '\n' && !begins(store->line, "refused "))
             return 1;
+        if (c == '\n' && refusals++)
+            return run_ended(store, PMA_UNEXPECTED), 0;
         if (c == '\n')
             memcpy(store->refusal, store->line, sizeof store->line), size = 0;
     }
@@ -248,27 +284,32 @@ static pma_code send_line(pma *store, const command *line)
         if (count >= 0)
             at += (size_t)count;
         else if (errno != EINTR)
-            return errno == EPIPE || errno == ECONNRESET ? PMA_STOPPED : PMA_SYSTEM;
+            return errno == EPIPE || errno == ECONNRESET ? PMA_STOPPED : errno == EAGAIN ? PMA_TIMED_OUT : PMA_SYSTEM;
     }
     return PMA_OK;
+}
+
+/* Why the store takes no call; PMA_OK where it does. */
+static pma_code in_the_way(const pma *store)
+{
+    return getpid() != store->maker ? PMA_FORKED : store->busy ? PMA_BUSY : store->cause;
 }
 
 /* Begins a call: sends its line, and takes the first line of the reply. After PMA_OK the call is still to be ended. */
 static pma_code ask(pma *store, command *line, int changes)
 {
-    if (getpid() != store->maker)
-        return PMA_FORKED;
-    if (store->busy)
-        return PMA_BUSY;
-    if (store->cause)
-        return store->cause;
+    pma_code code = in_the_way(store);
+    if (code)
+        return code;
     if (line->oversized)
         return PMA_OVERSIZED;
     store->busy = 1;
     line->text[line->size++] = '\n';
-    pma_code code = send_line(store, line);
+    code = send_line(store, line);
     if (code == PMA_SYSTEM)
         return done(store, code);
+    if (code == PMA_TIMED_OUT) /* there was no room for it all the time */
+        return run_ended(store, code), broken(store, 0);
     if (code) { /* the run has ended, and may have said why before it took the line */
         while (next_line(store))
             ;
@@ -368,8 +409,7 @@ pma_code pma_batch(pma *store, const pma_item *items, size_t count, pma_changes 
     pma_code code = ask(store, &line, 1);
     if (code)
         return code;
-    if (sscanf(store->line, "batch stored=%lu replaced=%lu removed=%lu absent=%lu", &made.stored, &made.replaced, &made.removed,
-               &made.absent) != 4)
+    if (!read_changes(store->line, "batch", &made))
         return refused(store, 1);
     if (changes)
         *changes = made;
@@ -444,18 +484,18 @@ pma_code pma_cursor_close(pma_cursor *cursor)
 pma_code pma_create(const char *program, const char *file, unsigned height, unsigned journal)
 {
     char high[12], pages[12], said[64];
-    int ours, status = -1;
+    int ours, status = -1, most = PMA_LINE;
     pid_t run;
     snprintf(high, sizeof high, "%u", height), snprintf(pages, sizeof pages, "%u", journal);
     char *words[] = {(char *)program, "create-paired", (char *)file, high, journal ? pages : NULL, NULL};
     pma_code code = start(words, &ours, &run);
     if (code)
         return code;
-    while (take(ours, said, sizeof said) > 0)
-        ;
-    wait_for(run, &status);
+    for (ssize_t count; most >= 0 && (count = take(ours, said, sizeof said)) > 0;)
+        most -= (int)count;
+    wait_for(run, &status, most < 0 ? 0 : GRACE);
     close(ours);
-    return status == 0 ? PMA_OK : code_of(status);
+    return most < 0 ? PMA_UNEXPECTED : status == 0 ? PMA_OK : code_of(status);
 }
 
 /* PMA_IN_USE where a process has the file locked, PMA_SYSTEM where it can't be opened. */
@@ -469,55 +509,214 @@ static pma_code lock_of(const char *file)
     return code;
 }
 
+/* Starts the program on the store's file, by the word `run` or `merge`. */
+static pma_code start_on(pma *store, const char *word)
+{
+    char *words[] = {store->program, (char *)word, store->file, NULL};
+    store->from = store->until = 0;
+    store->cause = start(words, &store->socket, &store->run);
+    if (!store->cause)
+        limit(store);
+    return store->cause;
+}
+
+static void shut(pma *store)
+{
+    if (store->socket >= 0)
+        close(store->socket);
+    store->socket = -1;
+}
+
 /* Starts a run, and takes the reply to a line that is refused in every store: then the file is open. */
-static pma_code open_once(pma *store, char *const words[])
+static pma_code open_once(pma *store)
 {
     command line = begun("get ");
-    store->cause = start(words, &store->socket, &store->run);
-    if (store->cause)
-        return store->cause;
+    pma_code code = start_on(store, "run");
+    if (code)
+        return code;
     memset(line.text + line.size, 'k', PMA_LINE - line.size);
     line.size = PMA_LINE;
-    pma_code code = ask(store, &line, 0);
+    code = ask(store, &line, 0);
     if (code)
         return code;
     return begins(store->line, "oversized key ") ? done(store, PMA_OK) : refused(store, 0);
 }
 
+static pma_code open_run(pma *store)
+{
+    for (int tries = 3;; tries--) { /* who had the file may have closed it before its lock is looked for */
+        pma_code code = open_once(store);
+        if (code != PMA_DISK)
+            return code;
+        shut(store);
+        code = lock_of(store->file);
+        if (code || tries == 1)
+            return store->cause = code ? code : PMA_DISK;
+    }
+}
+
+/* A name for later, when the process may be in another folder. */
+static char *kept(const char *name, int is_path)
+{
+    char *whole = is_path ? realpath(name, NULL) : NULL;
+    return whole ? whole : strdup(name);
+}
+
 pma_code pma_open(pma **store, const char *program, const char *file)
 {
-    char *words[] = {(char *)program, "run", (char *)file, NULL};
     pma *opened = *store = calloc(1, sizeof **store);
     if (!opened)
         return PMA_MEMORY;
     opened->socket = -1, opened->maker = getpid();
-    for (int tries = 3;; tries--) { /* who had the file may have closed it before its lock is looked for */
-        pma_code code = open_once(opened, words);
-        if (code != PMA_DISK)
-            return code;
-        close(opened->socket), opened->socket = -1;
-        code = lock_of(file);
-        if (code || tries == 1)
-            return opened->cause = code ? code : PMA_DISK;
-    }
+    opened->program = kept(program, strchr(program, '/') != NULL), opened->file = kept(file, 1);
+    if (!opened->program || !opened->file)
+        return opened->cause = PMA_MEMORY;
+    return open_run(opened);
+}
+
+void pma_timeout(pma *store, unsigned seconds)
+{
+    store->seconds = seconds < LONGEST ? (int)seconds : LONGEST;
+    if (store->socket >= 0 && getpid() == store->maker)
+        limit(store);
+}
+
+/* Ends the run, once it has left its file well; how it ended. */
+static pma_code end_run(pma *store)
+{
+    int status = 0, most = PMA_LINE;
+    if (!store->run)
+        return PMA_OK;
+    shutdown(store->socket, store->busy ? SHUT_RDWR : SHUT_WR); /* its script ends, whoever else has the socket */
+    for (ssize_t count; most >= 0 && (count = take(store->socket, store->taken, sizeof store->taken)) > 0;)
+        most -= (int)count; /* it has nothing to say, but why it ends */
+    wait_for(store->run, &status, most < 0 ? 0 : GRACE);
+    store->run = 0;
+    return status == 0 ? PMA_OK : code_of(status);
 }
 
 pma_code pma_close(pma *store)
 {
     pma_code code = PMA_OK;
-    int status = 0;
     if (!store)
         return PMA_OK;
-    if (getpid() == store->maker && store->run) {
-        shutdown(store->socket, store->busy ? SHUT_RDWR : SHUT_WR); /* its script ends, whoever else has the socket */
-        while (take(store->socket, store->taken, sizeof store->taken) > 0)
-            ;
-        wait_for(store->run, &status);
-        code = status == 0 ? PMA_OK : code_of(status);
-    }
-    if (store->socket >= 0)
-        close(store->socket);
+    if (getpid() == store->maker)
+        code = end_run(store);
+    shut(store);
+    free(store->program), free(store->file);
     free(store);
+    return code;
+}
+
+/* Merges */
+
+/* A text on its way. */
+typedef struct {
+    pma *store;
+    int whole; /* all of it was sent */
+    size_t size;
+    char bytes[4096];
+} merge_text;
+
+/* Sends what is gathered; whether it was taken. A program that ends, or speaks, before it has the whole text takes no more. */
+static int send_text(merge_text *out)
+{
+    struct pollfd ends = {out->store->socket, POLLIN | POLLOUT, 0};
+    for (size_t at = 0; at < out->size;) {
+        int found = poll(&ends, 1, out->store->seconds ? 1000 * out->store->seconds : -1);
+        if (found == 0 || (found > 0 && ends.revents & ~POLLOUT))
+            return 0;
+        ssize_t count = found < 0 ? -1 : send(ends.fd, out->bytes + at, out->size - at, MSG_NOSIGNAL | MSG_DONTWAIT);
+        if (count > 0)
+            at += (size_t)count;
+        else if (errno != EINTR && errno != EAGAIN)
+            return 0;
+    }
+    out->size = 0;
+    return 1;
+}
+
+static int add_line(merge_text *out, command *line)
+{
+    line->text[line->size++] = '\n';
+    if (out->size + line->size > sizeof out->bytes && !send_text(out))
+        return 0;
+    memcpy(out->bytes + out->size, line->text, line->size);
+    out->size += line->size;
+    return 1;
+}
+
+/* Sends the lines of a merge; PMA_OK too where the program takes no more of them, which its end tells. */
+static pma_code send_updates(merge_text *out, int (*next)(void *context, pma_item *update), void *context)
+{
+    pma_item update;
+    unsigned long count = 0;
+    int given;
+    for (; (given = next(context, &update)) > 0; count++) {
+        command line = begun(update.kind == PMA_PUT ? "record" : "remove");
+        add_key(&line, update.key, update.key_size);
+        if (update.kind == PMA_PUT && update.value_size)
+            add_word(&line, update.value, update.value_size);
+        if (line.oversized)
+            return PMA_OVERSIZED;
+        if (!add_line(out, &line))
+            return PMA_OK;
+    }
+    if (given < 0)
+        return PMA_GIVEN_UP;
+    command end = begun("end");
+    add_number(&end, count);
+    out->whole = add_line(out, &end) && send_text(out);
+    return PMA_OK;
+}
+
+/* Ends the text, and takes what is answered, to the program's end. */
+static pma_code merged(pma *store, int whole, pma_changes *changes)
+{
+    pma_changes made;
+    int is_made = 0;
+    shutdown(store->socket, SHUT_WR);
+    if (next_line(store)) {
+        is_made = read_changes(store->line, "merged", &made);
+        if (next_line(store))
+            run_ended(store, PMA_UNEXPECTED), is_made = 0;
+    }
+    if (is_made && changes)
+        *changes = made;
+    if (is_made)
+        return PMA_OK;
+    if (store->cause == PMA_REFUSED)
+        return begins(store->refusal, "refused full ") ? PMA_FULL : PMA_REFUSED;
+    if (store->cause == PMA_MEMORY || store->cause == PMA_USAGE)
+        return store->cause;
+    if (whole && !store->unread)
+        return PMA_UNKNOWN;
+    if (store->cause == PMA_DISK && lock_of(store->file) == PMA_IN_USE)
+        store->cause = PMA_IN_USE;
+    return store->cause; /* it makes nothing before it has read to the end */
+}
+
+pma_code pma_merge(pma *store, int (*next)(void *context, pma_item *update), void *context, pma_changes *changes)
+{
+    merge_text out = {store, 0, 0, ""};
+    pma_code code = in_the_way(store);
+    if (code)
+        return code;
+    store->cause = end_run(store);
+    shut(store);
+    *store->refusal = 0;
+    if (store->cause || start_on(store, "merge"))
+        return store->cause;
+    store->busy = 1;
+    code = send_updates(&out, next, context);
+    if (code)
+        run_ended(store, PMA_STOPPED); /* before it has the text's end */
+    else
+        code = merged(store, out.whole, changes);
+    shut(store);
+    done(store, code);
+    if (code < PMA_UNKNOWN || code == PMA_REFUSED)
+        open_run(store);
     return code;
 }
 
@@ -533,7 +732,7 @@ long pma_pid(const pma *store)
 
 const char *pma_line(const pma *store)
 {
-    return store->cause == PMA_REFUSED ? store->refusal : store->cause == PMA_UNEXPECTED ? store->line : "";
+    return store->cause == PMA_UNEXPECTED ? store->line : store->refusal;
 }
 
 const char *pma_text(pma_code code)
@@ -549,13 +748,15 @@ const char *pma_text(pma_code code)
         [PMA_NO_CURSOR] = "16 cursors are open, or this one isn't",
         [PMA_BUSY] = "another call of the store is under way",
         [PMA_FORKED] = "the store belongs to the process from which this one was forked",
+        [PMA_GIVEN_UP] = "the merge was given up",
         [PMA_UNKNOWN] = "the change may be in the store, wholly, or not",
         [PMA_IN_USE] = "another process has the store open",
         [PMA_DISK] = "a call of the disk failed",
-        [PMA_REFUSED] = "the file is no store, or was damaged",
+        [PMA_REFUSED] = "the file is no store, or was damaged, or updates can't be merged",
         [PMA_MEMORY] = "there is no memory",
-        [PMA_USAGE] = "the program takes no such height, journal or name",
+        [PMA_USAGE] = "the program takes no such height, journal, name or word",
         [PMA_STOPPED] = "the program was stopped",
+        [PMA_TIMED_OUT] = "the program said nothing for too long",
         [PMA_UNEXPECTED] = "the program said what wasn't expected",
         [PMA_SYSTEM] = "the system refused a call",
     };

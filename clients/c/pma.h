@@ -25,18 +25,20 @@ typedef enum {
     PMA_END,        /* the cursor has no record there */
     PMA_OVERSIZED,  /* a key, a bound, a value, or the line of a batch has too many bytes, or a key or a bound none */
     PMA_BAD_BATCH,  /* no item, more than 16, or one key twice */
-    PMA_FULL,       /* the store has no room for another key */
+    PMA_FULL,       /* the store has no room for another key, or for what results of a merge */
     PMA_NO_BATCH,   /* the file is of version 1, which has no batches */
     PMA_NO_CURSOR,  /* 16 cursors are open, or the cursor isn't */
     PMA_BUSY,       /* asked amid a call of the same store, by a callback or a handler */
     PMA_FORKED,     /* the store belongs to the process from which this one was forked */
+    PMA_GIVEN_UP,   /* what gives the updates of a merge gave it up */
     PMA_UNKNOWN,    /* the run ended amid this change, by pma_cause: open the store again and look */
     PMA_IN_USE,     /* another process has the store open */
     PMA_DISK,       /* a call of the disk failed */
-    PMA_REFUSED,    /* the file is no store, or was damaged: pma_line says why */
+    PMA_REFUSED,    /* the file is no store, or was damaged, or updates can't be merged: pma_line says why */
     PMA_MEMORY,     /* there is no memory, here or for the opening */
-    PMA_USAGE,      /* the height, the journal or the name is none that the program takes */
+    PMA_USAGE,      /* the height, the journal or the name is none that the program takes, or it is older than a word */
     PMA_STOPPED,    /* the program ended otherwise, by a signal maybe */
+    PMA_TIMED_OUT,  /* the program said nothing for the seconds of pma_timeout, and was killed */
     PMA_UNEXPECTED, /* the reply is none that was due: the program is no `pma`, or one of another age */
     PMA_SYSTEM      /* the system refused a call, also the start of the program: errno says why */
 } pma_code;
@@ -98,10 +100,20 @@ pma_code pma_cursor_next(pma_cursor *cursor, pma_record *record);
 pma_code pma_cursor_prev(pma_cursor *cursor, pma_record *record);
 pma_code pma_cursor_close(pma_cursor *cursor);
 
+/* Makes any number of updates, all or none, by a process of their own between two runs: cursors end. next is called for one after
+   the other, in the ascending order of their keys: it fills the item and answers 1, or 0 behind the last one, or -1 to give all of
+   them up. It must not use the store. What it points at is read before the next call. After PMA_FULL, PMA_REFUSED, PMA_OVERSIZED
+   and PMA_GIVEN_UP nothing was changed, and the store goes on, as after PMA_OK; pma_cause says why, where it couldn't be opened
+   again. */
+pma_code pma_merge(pma *store, int (*next)(void *context, pma_item *update), void *context, pma_changes *changes);
+
+/* From now on the program may say nothing for so many seconds while it is waited for; 0 is no limit, as at first. */
+void pma_timeout(pma *store, unsigned seconds);
+
 const char *pma_text(pma_code code);      /* what a code means, in a few words */
 pma_code pma_cause(const pma *store);     /* why the run has ended; PMA_OK as long as it isn't known to have */
 long pma_pid(const pma *store);           /* the number of the program's process; 0 once it has ended */
-const char *pma_line(const pma *store);   /* the line of PMA_REFUSED or PMA_UNEXPECTED; "" where none was said */
+const char *pma_line(const pma *store);   /* what PMA_REFUSED, PMA_FULL of a merge or PMA_UNEXPECTED was said by; "" by nothing */
 
 #ifdef __cplusplus
 }

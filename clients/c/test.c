@@ -57,6 +57,18 @@ static pma_code pretend(pma **store, const char *script)
     return pma_open(store, path, named("pretended"));
 }
 
+/* Sends the program a signal in that many microseconds; the process that does so. */
+static pid_t signaler(long run, int number, long microseconds)
+{
+    fflush(stdout);
+    pid_t child = fork();
+    if (child == 0) {
+        nanosleep(&(struct timespec){0, microseconds * 1000}, NULL);
+        _exit(run > 0 && kill((pid_t)run, number));
+    }
+    return child;
+}
+
 static pma_code put(pma *store, const char *key, const char *value)
 {
     return pma_put(store, key, strlen(key), value, strlen(value));
@@ -181,6 +193,123 @@ static void cursors(void)
     DUE(pma_close(store) == PMA_OK);
 }
 
+/* What gives the updates of a merge: keys `from`, `from + by` .. up to `until`, one of `every` to be removed. */
+typedef struct {
+    pma *store;
+    int from, by, until, every;
+    int stop, kills; /* behind so many of them it gives up, or kills the program */
+    int asks, given;
+    char key[12];
+} feed;
+
+static int give(void *context, pma_item *update)
+{
+    feed *in = context;
+    int n = in->from + in->by * in->given;
+    if (in->asks)
+        DUE(pma_remove(in->store, "0001", 4) == PMA_BUSY);
+    if (in->given == in->stop && in->kills)
+        DUE(!kill((pid_t)pma_pid(in->store), SIGKILL));
+    else if (in->given == in->stop)
+        return -1;
+    if (in->by > 0 ? n >= in->until : n < in->until)
+        return 0;
+    snprintf(in->key, sizeof in->key, "%04d", n);
+    *update = (pma_item){in->given++ % in->every ? PMA_PUT : PMA_REMOVE, in->key, 4, in->key, 4};
+    return 1;
+}
+
+static feed feed_of(pma *store, int from, int by, int until)
+{
+    feed in = {store, from, by, until, 3, -1, 0, 0, 0, ""};
+    return in;
+}
+
+static int is_changed(const pma_changes *made, unsigned long stored, unsigned long replaced, unsigned long removed,
+                      unsigned long absent)
+{
+    return made->stored == stored && made->replaced == replaced && made->removed == removed && made->absent == absent;
+}
+
+static void merges(void)
+{
+    pma_changes made = {9, 9, 9, 9};
+    pma_cursor cursor;
+    pma_record record;
+    pma *store = opened("merges");
+    feed in = feed_of(store, 0, 1, 900);
+    in.asks = 1;
+    DUE(put(store, "0000", "x") == PMA_OK && put(store, "0001", "x") == PMA_OK && put(store, "0003", "x") == PMA_OK);
+    DUE(pma_cursor_open(store, NULL, 0, NULL, 0, &cursor) == PMA_OK);
+    DUE(pma_merge(store, give, &in, &made) == PMA_OK && is_changed(&made, 599, 1, 2, 298) && pma_pid(store) > 0);
+    DUE(holds(store, "0000", NULL) && holds(store, "0001", "0001") && holds(store, "0899", "0899"));
+    DUE(pma_cursor_next(&cursor, &record) == PMA_NO_CURSOR);
+    in = feed_of(store, 0, 1, 0);
+    DUE(pma_merge(store, give, &in, &made) == PMA_OK && is_changed(&made, 0, 0, 0, 0));
+    in = feed_of(store, 5, -1, 0); /* its keys fall */
+    DUE(pma_merge(store, give, &in, &made) == PMA_REFUSED && !strcmp(pma_line(store), "refused line 2"));
+    DUE(pma_cause(store) == PMA_OK && holds(store, "0005", "0005"));
+    in = feed_of(store, 1, 1, 5000), in.stop = 4500;
+    DUE(pma_merge(store, give, &in, NULL) == PMA_GIVEN_UP && pma_cause(store) == PMA_OK && holds(store, "0001", "0001"));
+    in = feed_of(store, 1000, 1, 9000);
+    DUE(pma_merge(store, give, &in, &made) == PMA_FULL && !strcmp(pma_line(store), "refused full 3712"));
+    DUE(holds(store, "1001", NULL) && is_changed(&made, 0, 0, 0, 0));
+    in = feed_of(store, 1, 1, 2000), in.stop = 1500, in.kills = 1; /* it is killed before it has the whole text */
+    DUE(pma_merge(store, give, &in, NULL) == PMA_STOPPED && pma_cause(store) == PMA_STOPPED && pma_pid(store) == 0);
+    DUE(holds(store, "0001", NULL) == 0 && pma_merge(store, give, &in, NULL) == PMA_STOPPED);
+    DUE(pma_close(store) == PMA_OK);
+    store = opened("merges");
+    DUE(holds(store, "0001", "0001") && holds(store, "1001", NULL));
+    DUE(pma_close(store) == PMA_OK);
+}
+
+static int give_long(void *context, pma_item *update)
+{
+    static char bytes[600];
+    *update = (pma_item){PMA_PUT, bytes, *(size_t *)context, NULL, 0};
+    return 1;
+}
+
+/* Programs in whose place a few shell lines stand for `merge`. */
+static void merges_that_end_otherwise(void)
+{
+    static const struct {
+        const char *script;
+        pma_code merge, cause;
+    } rows[] = {
+        {"exit 4", PMA_DISK, PMA_DISK}, {"exit 2", PMA_USAGE, PMA_USAGE}, {"cat >/dev/null; exit 7", PMA_MEMORY, PMA_MEMORY},
+        {"cat >/dev/null; exit 4", PMA_UNKNOWN, PMA_DISK}, {"cat >/dev/null; kill -9 $$", PMA_UNKNOWN, PMA_STOPPED},
+        {"cat >/dev/null; printf 'merged stored=1'; exit 4", PMA_UNKNOWN, PMA_DISK},
+        {"cat >/dev/null; echo hello; cat", PMA_UNKNOWN, PMA_STOPPED},
+        {"cat >/dev/null; yes 2>/dev/null", PMA_UNKNOWN, PMA_UNEXPECTED},
+        {"cat >/dev/null; sleep 60", PMA_UNKNOWN, PMA_TIMED_OUT}, {"kill -STOP $$", PMA_TIMED_OUT, PMA_TIMED_OUT},
+        {"cat >/dev/null; echo merged stored=1 replaced=2 removed=3 absent=4; exit 4", PMA_OK, PMA_OK},
+        {"cat >/dev/null; echo refused full 7; exit 3", PMA_FULL, PMA_OK}, {"exec <&- >&-; sleep 60", PMA_STOPPED, PMA_STOPPED},
+    };
+    for (size_t n = 0; n < sizeof rows / sizeof *rows; n++) {
+        pma *store;
+        pma_changes made;
+        char script[1024];
+        snprintf(script, sizeof script, "if [ \"$1\" = run ]; then printf 'oversized key 24\\n'; exec cat >/dev/null; fi; %s",
+                 rows[n].script);
+        DUE(pretend(&store, script) == PMA_OK);
+        feed in = feed_of(store, 0, 1, rows[n].merge == PMA_TIMED_OUT ? 9999 : 1);
+        pma_timeout(store, 1);
+        pma_code code = pma_merge(store, give, &in, &made);
+        if (code != rows[n].merge || pma_cause(store) != rows[n].cause)
+            wrong = 1, printf("test.c: %s: %s, by %s\n", rows[n].script, pma_text(code), pma_text(pma_cause(store)));
+        if (code == PMA_OK)
+            DUE(is_changed(&made, 1, 2, 3, 4));
+        pma_close(store);
+    }
+    pma *store = opened("long");
+    for (size_t size = 0; size <= 600; size += 600)
+        DUE(pma_merge(store, give_long, &size, NULL) == PMA_OVERSIZED && pma_cause(store) == PMA_OK);
+    size_t size = 25;
+    DUE(pma_merge(store, give_long, &size, NULL) == PMA_REFUSED && !strcmp(pma_line(store), "refused line 1"));
+    DUE(pma_close(store) == PMA_OK);
+}
+
 static void openings(void)
 {
     pma *store = opened("openings"), *other;
@@ -194,6 +323,7 @@ static void openings(void)
     DUE(pma_open(&other, program, folder) == PMA_SYSTEM && errno == EISDIR && pma_close(other) == PMA_OK);
     DUE(pma_open(&other, "no such program", named("openings")) == PMA_SYSTEM && errno == ENOENT && pma_close(other) == PMA_OK);
     DUE(pma_create(program, named("tall"), 17, 0) == PMA_USAGE && pma_create("no such program", named("x"), 4, 0) == PMA_SYSTEM);
+    DUE(pma_create("yes", named("x"), 4, 0) == PMA_UNEXPECTED && pma_create("false", named("x"), 4, 0) == PMA_STOPPED);
     DUE(put(store, "a", "1") == PMA_OK && pma_close(store) == PMA_OK && pma_close(NULL) == PMA_OK);
     store = opened("openings");
     DUE(holds(store, "a", "1") && pma_close(store) == PMA_OK);
@@ -210,6 +340,8 @@ static void deaths(void)
         {"echo refused slot 3 4; exit 3", PMA_UNKNOWN, PMA_REFUSED}, {"echo hello; cat", PMA_UNKNOWN, PMA_UNEXPECTED},
         {"yes | tr -d '\\n'", PMA_UNKNOWN, PMA_UNEXPECTED}, {"echo stored; cat >/dev/null", PMA_OK, PMA_OK},
         {"echo full 64; cat >/dev/null", PMA_FULL, PMA_OK}, {"echo no batch; cat >/dev/null", PMA_NO_BATCH, PMA_OK},
+        {"echo hello; sleep 60", PMA_UNKNOWN, PMA_UNEXPECTED}, {"exec <&- >&-; sleep 60", PMA_UNKNOWN, PMA_STOPPED},
+        {"for piece in sto red '\\n'; do printf $piece; sleep 0.05; done; cat >/dev/null", PMA_OK, PMA_OK},
     };
     for (size_t n = 0; n < sizeof rows / sizeof *rows; n++) {
         pma *store;
@@ -222,12 +354,65 @@ static void deaths(void)
         pma_close(store);
     }
     pma *store;
+    DUE(pretend(&store, "printf 'oversized key 24\\n'; cat >/dev/null; yes 2>/dev/null") == PMA_OK);
+    DUE(pma_close(store) == PMA_STOPPED);
     DUE(pretend(&store, "exit 7") == PMA_MEMORY && pma_close(store) == PMA_OK);
     DUE(pretend(&store, "exit 4") == PMA_DISK && pma_close(store) == PMA_OK);
     DUE(pretend(&store, "cat") == PMA_UNEXPECTED && pma_close(store) == PMA_OK);
+    DUE(pretend(&store, "yes 2>/dev/null") == PMA_UNEXPECTED && pma_close(store) == PMA_OK);
+    DUE(pretend(&store, "yes refused x 2>/dev/null") == PMA_UNEXPECTED && pma_close(store) == PMA_OK);
     DUE(pretend(&store, "printf 'oversized key 24\\n'; head -n 1 >/dev/null") == PMA_OK);
     nanosleep(&(struct timespec){0, 200000000}, NULL);
     DUE(put(store, "a", "1") == PMA_STOPPED && pma_close(store) == PMA_OK); /* nothing of it was sent */
+}
+
+/* The program is stopped amid a call, and killed or let go on; or the call has a limit. */
+static void stops(void)
+{
+    pma_record record;
+    pma *store = opened("stops"), *other;
+    DUE(put(store, "a", "1") == PMA_OK && !kill((pid_t)pma_pid(store), SIGSTOP));
+    pid_t child = signaler(pma_pid(store), SIGCONT, 100000);
+    DUE(put(store, "a", "2") == PMA_OK && waitpid(child, NULL, 0) == child);
+    DUE(!kill((pid_t)pma_pid(store), SIGSTOP));
+    child = signaler(pma_pid(store), SIGKILL, 100000);
+    DUE(put(store, "a", "3") == PMA_UNKNOWN && pma_cause(store) == PMA_STOPPED && waitpid(child, NULL, 0) == child);
+    DUE(pma_close(store) == PMA_OK);
+    for (int way = 0; way < 3; way++) {
+        store = opened("stops");
+        pma_timeout(store, 1);
+        DUE((holds(store, "a", "2") || holds(store, "a", "3")) && !kill((pid_t)pma_pid(store), SIGSTOP));
+        if (way < 2) {
+            DUE((way ? put(store, "a", "3") : pma_get(store, "a", 1, &record)) == (way ? PMA_UNKNOWN : PMA_TIMED_OUT));
+            DUE(pma_cause(store) == PMA_TIMED_OUT && pma_pid(store) == 0);
+            DUE(pma_open(&other, program, named("stops")) == PMA_OK && pma_close(other) == PMA_OK); /* the program is gone */
+        }
+        DUE(pma_close(store) == (way < 2 ? PMA_OK : PMA_STOPPED));
+    }
+}
+
+/* The caller dies by a signal of the terminal, amid a call. */
+static void interrupted_callers(void)
+{
+    int status;
+    pma *store = opened("interrupted");
+    DUE(put(store, "a", "1") == PMA_OK && pma_close(store) == PMA_OK);
+    pid_t child = fork();
+    if (child == 0) {
+        store = opened("interrupted");
+        signaler(getpid(), SIGINT, 50000);
+        while (put(store, "a", "2") == PMA_OK)
+            ;
+        _exit(1);
+    }
+    DUE(waitpid(child, &status, 0) == child && WIFSIGNALED(status) && WTERMSIG(status) == SIGINT);
+    pma_code code = PMA_IN_USE;
+    for (int tries = 0; tries < 100 && code == PMA_IN_USE; tries++) { /* it ends by itself then */
+        code = pma_open(&store, program, named("interrupted"));
+        if (code)
+            pma_close(store), nanosleep(&(struct timespec){0, 50000000}, NULL);
+    }
+    DUE(code == PMA_OK && holds(store, "a", "2") && pma_close(store) == PMA_OK);
 }
 
 static volatile sig_atomic_t alarms;
@@ -273,7 +458,10 @@ static void forks(void)
     fflush(stdout);
     pid_t child = fork();
     if (child == 0) {
-        int right = put(store, "a", "2") == PMA_FORKED && pma_close(store) == PMA_OK;
+        feed in = feed_of(store, 0, 1, 9);
+        pma_record record;
+        int right = put(store, "a", "2") == PMA_FORKED && pma_get(store, "a", 1, &record) == PMA_FORKED &&
+                    pma_merge(store, give, &in, NULL) == PMA_FORKED && in.given == 0 && pma_close(store) == PMA_OK;
         _exit(!right);
     }
     DUE(waitpid(child, &status, 0) == child && status == 0 && holds(store, "a", "1"));
@@ -323,18 +511,6 @@ static void children_that_others_wait_for(void)
     DUE(waitpid(child, &status, 0) == child && WEXITSTATUS(status) == 7);
 }
 
-/* Kills the program in that many microseconds; the process that does so. */
-static pid_t killer(long run, long microseconds)
-{
-    fflush(stdout);
-    pid_t child = fork();
-    if (child == 0) {
-        nanosleep(&(struct timespec){0, microseconds * 1000}, NULL);
-        _exit(run > 0 && kill((pid_t)run, SIGKILL));
-    }
-    return child;
-}
-
 /* Kills the program at random moments: what was answered is there, and of the change under way the old value or the new one. */
 static void kills(void)
 {
@@ -344,7 +520,7 @@ static void kills(void)
     srand(7);
     for (int count = 0; count < KILLS; count++) {
         pma *store = opened("killed");
-        pid_t child = killer(pma_pid(store), 1000 + rand() % 30000);
+        pid_t child = signaler(pma_pid(store), SIGKILL, 1000 + rand() % 30000);
         pma_code code;
         int last;
         do {
@@ -367,6 +543,59 @@ static void kills(void)
     }
 }
 
+/* A feed whose program is killed so many microseconds after the first update was asked for. */
+typedef struct {
+    feed in;
+    long microseconds;
+    pid_t killer;
+} dying;
+
+static int give_and_die(void *context, pma_item *update)
+{
+    dying *in = context;
+    if (!in->killer)
+        in->killer = signaler(pma_pid(in->in.store), SIGKILL, in->microseconds);
+    return give(&in->in, update);
+}
+
+static int count_up(void *context, const pma_record *record)
+{
+    (void)record;
+    ++*(int *)context;
+    return 0;
+}
+
+static int count_of(pma *store)
+{
+    int count = 0;
+    DUE(pma_range(store, NULL, 0, NULL, 0, PMA_ALL, count_up, &count) == PMA_OK);
+    return count;
+}
+
+/* Kills merges at random moments, which by turns bind 2000 keys and remove them all: all updates are there, or none. */
+static void kills_of_merges(void)
+{
+    enum { ROWS = 3000, KILLS = 16 };
+    DUE(pma_create(program, named("merged"), 8, 0) == PMA_OK);
+    for (int turn = 0; turn < KILLS; turn++) {
+        pma *store = opened("merged");
+        int before = turn % 2 ? 2000 : 0, after = 2000 - before, found;
+        dying dies = {feed_of(store, 0, 1, ROWS), rand() % 15000, 0};
+        dies.in.every = turn % 2 ? 1 : 3;
+        pma_code code = pma_merge(store, give_and_die, &dies, NULL);
+        DUE(code == PMA_OK || ((code == PMA_UNKNOWN || code == PMA_STOPPED) && pma_cause(store) == PMA_STOPPED));
+        waitpid(dies.killer, NULL, 0);
+        pma_close(store);
+        store = opened("merged");
+        found = count_of(store);
+        DUE(code == PMA_OK ? found == after : code == PMA_STOPPED ? found == before : found == before || found == after);
+        feed again = feed_of(store, 0, 1, ROWS);
+        again.every = dies.in.every;
+        DUE(pma_merge(store, give, &again, NULL) == PMA_OK && count_of(store) == after);
+        DUE(pma_close(store) == PMA_OK);
+    }
+}
+
 int main(int words, char **word)
 {
     if (words != 4)
@@ -377,14 +606,19 @@ int main(int words, char **word)
     batches();
     ranges();
     cursors();
+    merges();
     openings();
     deaths();
+    merges_that_end_otherwise();
+    stops();
     nothing_is_left();
     signals_amid_calls();
+    interrupted_callers();
     forks();
     closed_streams();
     children_that_others_wait_for();
     kills();
+    kills_of_merges();
     nothing_is_left();
     DUE(!strcmp(pma_text(PMA_FULL), "the store has no room for another key"));
     return wrong;

@@ -8,13 +8,13 @@
 from .batch import Batch
 from .cursor import Cursor
 from .errors import (BadBatch, Closed, DiskFault, Ended, Error, Full, InUse, NoBatch, NoProgram, OutcomeUnknown, OutOfMemory,
-                     Oversized, ReadOnly, Refused, TooManyCursors, UnexpectedReply)
+                     Oversized, ReadOnly, Refused, TimedOut, TooManyCursors, UnexpectedReply)
 from .pipeline import Pipeline
 from .requests import Changes, Check
 from .store import Store, open
 
 __all__ = [
     "BadBatch", "Batch", "Changes", "Check", "Closed", "Cursor", "DiskFault", "Ended", "Error", "Full", "InUse", "NoBatch",
-    "NoProgram", "OutOfMemory", "OutcomeUnknown", "Oversized", "Pipeline", "ReadOnly", "Refused", "Store", "TooManyCursors",
-    "UnexpectedReply", "open",
+    "NoProgram", "OutOfMemory", "OutcomeUnknown", "Oversized", "Pipeline", "ReadOnly", "Refused", "Store", "TimedOut",
+    "TooManyCursors", "UnexpectedReply", "open",
 ]

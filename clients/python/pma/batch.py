@@ -22,6 +22,7 @@ class Batch:
         self.changes: Optional[Changes] = None  # what was changed, once it is
 
     def put(self, key: Text, value: Text) -> None:
+        """Binds a key to a value."""
         self._add(b"put", self._store._key(key), self._store._value(value))
 
     def remove(self, key: Text) -> None:

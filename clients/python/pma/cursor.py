@@ -38,6 +38,7 @@ class Cursor(Iterator[Record]):
         return record
 
     def close(self) -> None:
+        """Lets go of the cursor; so does its end."""
         if self._open:
             self._open = False
             self._store._ask(CloseCursor(self._name))

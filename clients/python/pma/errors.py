@@ -48,7 +48,7 @@ class Full(Error):
         self.records = records
 
     def __str__(self) -> str:
-        return f"the store holds {self.records} records, and has no room for another one"
+        return f"the store has room for {self.records} records, and for no other one"
 
 
 class TooManyCursors(Error):
@@ -85,11 +85,19 @@ class OutOfMemory(Ended):
 
 
 class Refused(Ended):
-    """The file is no store, or was damaged; or a load text can't be loaded. `line` says why."""
+    """The file is no store, or was damaged; or a text can't be loaded or merged. `line` says why."""
 
     def __init__(self, line: bytes) -> None:
         super().__init__(line.decode("ascii", "replace"), 3)
         self.line = line
+
+
+class TimedOut(Ended):
+    """The program said nothing for the seconds that the store's `timeout` has. The conversation was broken off."""
+
+    def __init__(self, seconds: float) -> None:
+        super().__init__(f"the program said nothing for {seconds:g} seconds")
+        self.seconds = seconds
 
 
 class UnexpectedReply(Ended):
@@ -106,7 +114,7 @@ def ended(status: Optional[int], refusal: bytes = b"") -> Ended:
     if status == 3 and refusal:
         return Refused(refusal)
     if status == 2:
-        return Ended("the program takes no such words: the file's name is no text in UTF-8", status)
+        return Ended("the program takes no such words: it is older than they are, or the file's name is no text in UTF-8", status)
     if status == 4:
         return DiskFault("a call of the disk failed, or another process has the file", status)
     if status == 7:

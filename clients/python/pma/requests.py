@@ -42,13 +42,18 @@ class Check(NamedTuple):
 
 
 class Changes(NamedTuple):
-    """What a batch changed: how many new keys it bound, present ones it bound anew, records it removed, and how many keys that
-    were to be removed weren't there."""
+    """What a batch or a merge changed: how many new keys it bound, present ones it bound anew, records it removed, and how many
+    keys that were to be removed weren't there."""
 
     stored: int
     replaced: int
     removed: int
     absent: int
+
+
+def changes_of(words: List[bytes]) -> Changes:
+    """The numbers of a line `batch stored=A replaced=B removed=C absent=D`, or `merged ..`."""
+    return Changes(*(int(number.split(b"=")[1]) for number in words[1:]))
 
 
 class Request(Generic[T]):
@@ -169,7 +174,7 @@ class BatchOf(Request[Changes]):
     def read(self, words: List[bytes]) -> bool:
         if words[0] != b"batch" or len(words) != 5:
             return False
-        self._answer = Changes(*(int(number.split(b"=")[1]) for number in words[1:]))
+        self._answer = changes_of(words)
         self.added = self._answer.stored - self._answer.removed
         return True
 

@@ -5,32 +5,39 @@ import contextlib
 import fcntl
 import os
 import select
+import signal
 import socket
+import struct
 import subprocess
 import threading
+import time
 import weakref
 from collections import deque
-from typing import Any, Deque, Iterator, List, Optional, Sequence, Tuple
+from typing import Any, Deque, Iterator, List, Optional, Sequence, Tuple, Union
 
-from .errors import Closed, Ended, Error, NoProgram, OutcomeUnknown, UnexpectedReply, ended
-from .requests import Request
+from .errors import Closed, Ended, Error, NoProgram, OutcomeUnknown, TimedOut, UnexpectedReply, ended
+from .requests import LINE, Request
 
 PIECE = 4096  # bytes that the system takes whole or not at all
 TAKEN = 65536  # bytes that are taken by one call
+GRACE = 2  # seconds that a program has to end in, once it has closed its output, and once it is killed
 
 _runs: "weakref.WeakSet[Run]" = weakref.WeakSet()
 
 
-def two_ends() -> Tuple[socket.socket, socket.socket]:
+def two_ends(timeout: Optional[float] = None) -> Tuple[socket.socket, socket.socket]:
     """Ours and the program's end of a socket. Where a standard stream is closed the system gives its number to the socket, and what
     other parts of this process print would be taken for requests: ours has a number above them. Both wait, whatever time limit
-    this process gives its sockets."""
+    this process gives its sockets; ours so many seconds for what it takes, behind which it raises `BlockingIOError`."""
     ours, other = socket.socketpair()
     if ours.fileno() <= 2:
         with ours as low:
             ours = socket.socket(fileno=fcntl.fcntl(low, fcntl.F_DUPFD_CLOEXEC, 3))
     ours.setblocking(True)
     other.setblocking(True)
+    if timeout is not None:
+        limit = struct.pack("ll", int(timeout), max(1, int(timeout % 1 * 1e6)))
+        ours.setsockopt(socket.SOL_SOCKET, socket.SO_RCVTIMEO, limit)
     return ours, other
 
 
@@ -43,15 +50,23 @@ def started(program: str, words: List[bytes], stream: socket.socket) -> "subproc
 
 
 def status_of(process: "subprocess.Popen[bytes]") -> Optional[int]:
-    """Waits for the end; the status, a signal's number negative. None where another part of this process took it, which
-    `Popen` would call 0."""
-    if process.returncode is None:
+    """Waits for the end of a program that has closed its output; the status, a signal's number negative. None where another part
+    of this process took it, which `Popen` would call 0, or it hangs. A program that doesn't end is killed."""
+    late = time.monotonic() + GRACE
+    while process.returncode is None:
         try:
-            _, status = os.waitpid(process.pid, 0)
+            found, status = os.waitpid(process.pid, os.WNOHANG)
         except ChildProcessError:
             process.returncode = 0
             return None
-        process.returncode = -os.WTERMSIG(status) if os.WIFSIGNALED(status) else os.WEXITSTATUS(status)
+        if found:
+            process.returncode = -os.WTERMSIG(status) if os.WIFSIGNALED(status) else os.WEXITSTATUS(status)
+        else:
+            if time.monotonic() > late + GRACE:
+                return None
+            if time.monotonic() > late:
+                os.kill(process.pid, signal.SIGKILL)
+            time.sleep(0.0002)
     return process.returncode
 
 
@@ -70,9 +85,9 @@ def pieces(requests: Sequence[Request[Any]]) -> Iterator[bytes]:
 class Run:
     """`PROGRAM WORD FILE` for as long as it lives. One thread at a time has its requests under way, the others wait."""
 
-    def __init__(self, program: str, word: bytes, file: bytes) -> None:
+    def __init__(self, program: str, word: bytes, file: bytes, timeout: Optional[float] = None) -> None:
         self.records: Optional[int] = None  # once a check has counted them
-        self.end: Optional[Error] = None  # why no request is taken any more
+        self.end: Union[Error, OSError, None] = None  # why no request is taken any more
         self._lines: Deque[bytes] = deque()  # of replies, taken and not given to a request yet
         self._rest = b""  # the front of a line
         self._refusal = b""
@@ -80,7 +95,8 @@ class Run:
         self._busy = False
         self._lock = threading.RLock()
         self._maker = os.getpid()
-        self._socket, other = two_ends()
+        self._timeout = timeout
+        self._socket, other = two_ends(timeout)
         try:
             with other:
                 self._process = started(program, [word, file], other)
@@ -92,9 +108,13 @@ class Run:
         self._poll.register(self._socket, select.POLLIN | select.POLLOUT)
         _runs.add(self)
 
+    def is_own(self) -> bool:
+        """Whether this process began it, and none from which this one was forked."""
+        return os.getpid() == self._maker
+
     def require(self) -> None:
         """Raises why no request is taken, where none is."""
-        if os.getpid() != self._maker:
+        if not self.is_own():
             raise Closed("the store belongs to the process from which this one was forked")
         if self.end is not None:
             raise self.end.with_traceback(None)
@@ -109,7 +129,7 @@ class Run:
             try:
                 self._busy, self._sent = True, 0
                 self._talk(requests)
-            except UnexpectedReply as error:
+            except (UnexpectedReply, TimedOut) as error:
                 self._break_off(requests, error)
             except BaseException as error:
                 self._break_off(requests, Ended(f"the conversation was broken off by {error!r}"))
@@ -139,8 +159,12 @@ class Run:
                 return None
             *lines, self._rest = (self._rest + taken).split(b"\n")
             self._lines.extend(lines)
+            if len(self._rest) > LINE:
+                raise UnexpectedReply(self._rest[:LINE])
         line = self._lines.popleft()
         if line.startswith(b"refused "):
+            if self._refusal:
+                raise UnexpectedReply(line)
             self._refusal = line
             return self._line(unsent)
         return line
@@ -156,7 +180,10 @@ class Run:
                 else:
                     unsent[0] = unsent[0][count:]
         except BlockingIOError:
-            return any(events & ~select.POLLOUT for _, events in self._poll.poll())
+            found = self._poll.poll(None if self._timeout is None else self._timeout * 1000)
+            if not found:
+                raise TimedOut(self._timeout or 0) from None
+            return any(events & ~select.POLLOUT for _, events in found)
         except ConnectionError:  # the program has ended; what it answered is still there
             unsent.clear()
         return True
@@ -166,6 +193,8 @@ class Run:
             return self._socket.recv(TAKEN)
         except ConnectionError:  # it ended with requests that it hadn't read
             return b""
+        except BlockingIOError:
+            raise TimedOut(self._timeout or 0) from None
 
     def _fail(self, requests: Sequence[Request[Any]], cause: Error, all_sent: bool) -> None:
         """Gives each request without an answer its error. A change may have been under way, or done: the first one, or all that
@@ -179,31 +208,48 @@ class Run:
                 request.fail(unknown)
 
     def _break_off(self, requests: Sequence[Request[Any]], cause: Ended) -> None:
-        """Takes no more replies, so nobody knows which requests are answered of those that were sent."""
+        """Takes no more replies, so nobody knows which requests are answered of those that were sent. The program is killed: it may
+        be stuck, and would keep the file."""
         self.end = cause
+        self._fail(requests, cause, all_sent=True)
+        self._kill()
+
+    def _kill(self) -> None:
         with contextlib.suppress(OSError):
             self._socket.shutdown(socket.SHUT_RDWR)
-        self._fail(requests, cause, all_sent=True)
+        with contextlib.suppress(OSError):
+            self._process.kill()
+        status_of(self._process)
 
     def close(self) -> None:
         """Ends the run, once it has left its file well. Raises how it ended, if not well and not told before."""
-        if os.getpid() != self._maker:
+        if not self.is_own():
             self._socket.close()
             return
         with self._lock:
             if self._busy:
                 raise Error("a request of this thread is under way")
-            if isinstance(self.end, Closed):
+            if self._socket.fileno() < 0:  # closed before
                 return
             with contextlib.suppress(OSError):  # it may have ended before
                 self._socket.shutdown(socket.SHUT_WR)  # its script ends, whoever else has the socket
-            while self._receive():
-                pass
-            status, told = status_of(self._process), self.end is not None
+            late, said = None, b""
+            try:
+                while len(said) <= TAKEN:  # it has nothing to say, but why it ends
+                    taken = self._receive()
+                    if not taken:
+                        break
+                    said += taken
+                else:
+                    self._kill()
+            except TimedOut as error:
+                late = error
+                self._kill()
+            status = status_of(self._process)
             self._socket.close()
-            self.end = Closed("the store is closed")
-            if status and not told:
-                raise ended(status, self._refusal)
+            told, self.end = self.end is not None, Closed("the store is closed")
+            if not told and (late or status):
+                raise late or ended(status, self._refusal)
 
 
 def _leave_runs() -> None:

@@ -5,15 +5,16 @@ import contextlib
 import errno
 import itertools
 import os
-from typing import (Any, BinaryIO, ItemsView, Iterable, Iterator, MutableMapping, Optional, Sequence, Tuple, TypeVar, Union,
-                    ValuesView)
+import threading
+from typing import (Any, BinaryIO, Callable, ContextManager, ItemsView, Iterable, Iterator, MutableMapping, Optional, Sequence,
+                    Tuple, TypeVar, Union, ValuesView)
 
-from . import making
+from . import bulk, making
 from .batch import Batch
 from .cursor import Cursor
-from .errors import DiskFault, Error, Oversized, ReadOnly
+from .errors import Closed, DiskFault, Error, Oversized, ReadOnly
 from .pipeline import Pipeline
-from .requests import (Check, CheckAll, CloseCursor, Dump, Get, Limit, OpenCursor, Put, Range, Record, Remove, Request,
+from .requests import (Changes, Check, CheckAll, CloseCursor, Dump, Get, Limit, OpenCursor, Put, Range, Record, Remove, Request,
                        StepCursor, Text)
 from .run import Run
 
@@ -33,11 +34,11 @@ def bytes_of(text: Text) -> bytes:
     raise TypeError(f"keys and values are bytes or str, not {type(text).__name__}")
 
 
-def opened(program: str, file: bytes) -> Tuple[Run, int, int]:
+def opened(program: str, file: bytes, timeout: Optional[float]) -> Tuple[Run, int, int]:
     """A run on this store, with the most bytes of a key and of a value. `InUse` where another process has it."""
     tries = 3  # whoever had it may have closed it before its lock was looked for
     while True:
-        run = Run(program, b"run", file)
+        run = Run(program, b"run", file, timeout)
         key, value = Limit(b"key"), Limit(b"value")
         run.exchange([key, value])
         try:
@@ -56,10 +57,11 @@ def opened(program: str, file: bytes) -> Tuple[Run, int, int]:
 class Store(MutableMapping[bytes, bytes]):
     """A store that `open` opened. Its keys come in the order of their bytes. It may be used by several threads."""
 
-    def __init__(self, program: str, file: bytes, reading: bool) -> None:
-        self._program, self._file, self._reading = program, file, reading
-        self._run, self.key_limit, self.value_limit = opened(program, file)
+    def __init__(self, program: str, file: bytes, reading: bool, timeout: Optional[float] = None) -> None:
+        self._program, self._file, self._reading, self._timeout = program, file, reading, timeout
+        self._run, self.key_limit, self.value_limit = opened(program, file, timeout)
         self._names = itertools.count(1)
+        self._lock = threading.RLock()
 
     def __repr__(self) -> str:
         return f"<pma.Store {os.fsdecode(self._file)!r}>"
@@ -78,14 +80,20 @@ class Store(MutableMapping[bytes, bytes]):
     def close(self) -> None:
         """Ends the run of the program. It raises `Ended` where the run had ended otherwise and nobody was told of it; what was
         answered is in the file all the same. A second time it does nothing."""
-        self._run.close()
+        with self._turn():
+            self._run.close()
 
     # Requests
+
+    def _turn(self) -> ContextManager[Any]:
+        """One thread after the other uses the run; a forked process has no other threads, but maybe a lock of theirs."""
+        return self._lock if self._run.is_own() else contextlib.nullcontext()
 
     def _exchange(self, requests: Sequence[Request[Any]]) -> None:
         if self._reading and any(request.changes for request in requests):
             raise ReadOnly("the store was opened for reading")
-        self._run.exchange(requests)
+        with self._turn():
+            self._run.exchange(requests)
 
     def _ask(self, request: Request[T]) -> T:
         self._exchange([request])
@@ -134,15 +142,18 @@ class Store(MutableMapping[bytes, bytes]):
 
     def __len__(self) -> int:
         """The number of records. The first time the whole store is read; from then on the replies tell what was added."""
-        if self._run.records is None:
-            return self.check().records
-        self._run.require()
-        return self._run.records
+        with self._turn():
+            if self._run.records is None:
+                return self.check().records
+            self._run.require()
+            return self._run.records
 
     def items(self) -> ItemsView[bytes, bytes]:
+        """The records, in the order of their keys."""
         return _Items(self)
 
     def values(self) -> ValuesView[bytes]:
+        """The values, in the order of their keys."""
         return _Values(self)
 
     def popitem(self) -> Record:
@@ -242,20 +253,45 @@ class Store(MutableMapping[bytes, bytes]):
         """Writes all records to a binary file, as the load text that `pma dump` says; how many they are."""
         return self._ask(Dump(out))
 
-    def load(self, text: Iterable[bytes]) -> None:
-        """Reads a load text, as a binary file or as lines, into the store, which has no records: all of it or nothing.
+    def load(self, text: bulk.Source) -> None:
+        """Reads a load text into the store, which has no records: all of it or nothing. It comes from the file with this path,
+        a binary file, bytes, or lines of them.
 
-        The program is started anew for it, so cursors end, and another process may take the store in between: then it is closed,
-        with `InUse`. `Refused` has the line that says why a text isn't loaded.
+        The program is started anew for it, so cursors end, and another process may take the store in between: `InUse` where that
+        was before, else of the next request. `Refused` has the line that says why a text isn't loaded; `Full` comes of one with
+        too many records.
         """
+        with bulk.pieces_of(text) as pieces:
+            self._take(bulk.load, pieces)
+
+    def merge(self, updates: bulk.Updates) -> Changes:
+        """Makes any number of updates, all of them or none; what they changed.
+
+        They are a mapping, or pairs of a key and a value in the ascending order of the keys, where the value None takes the
+        record away; or a merge text, from where `load` takes one. The whole store is read and written, however few they are.
+
+        The program is started anew for it, as for `load`. `Refused` has the line that says why a text isn't merged; `Full` comes
+        where too many records would result. Behind `OutcomeUnknown` the store has all updates or none, and they may be made again.
+        """
+        with bulk.updates_of(updates, self._key, self._value) as pieces:
+            return self._take(bulk.merge, pieces)
+
+    def _take(self, word: Callable[[str, bytes, Iterable[bytes], Optional[float]], T], pieces: Iterable[bytes]) -> T:
+        """Has a text taken by a process of its own, between two runs."""
         if self._reading:
             raise ReadOnly("the store was opened for reading")
-        self._run.require()
-        self._run.close()
-        try:
-            making.load(self._program, self._file, text)
-        finally:
-            self._run, self.key_limit, self.value_limit = opened(self._program, self._file)
+        with self._turn():
+            self._run.require()
+            self._run.close()
+            self._run.end = Error("a load or a merge is under way")  # for what the text is made by
+            try:
+                return word(self._program, self._file, pieces, self._timeout)
+            finally:
+                self._run.end = Closed("the store is closed")
+                try:
+                    self._run, self.key_limit, self.value_limit = opened(self._program, self._file, self._timeout)
+                except (Error, OSError) as error:  # the text was taken, or not, all the same
+                    self._run.end = error
 
 
 class _Items(ItemsView[bytes, bytes]):
@@ -269,21 +305,25 @@ class _Values(ValuesView[bytes]):
 
 
 def open(path: Union[str, bytes, "os.PathLike[Any]"], flag: str = "r", *, height: int = 12, journal: Optional[int] = None,
-         paired: bool = True, program: str = "pma") -> Store:
+         paired: bool = True, program: str = "pma", timeout: Optional[float] = None) -> Store:
     """Opens the store in the file `path`, by a process of the program, which keeps the file locked until `close`.
 
     flag: 'r' a store that is there, for reading; 'w' for reading and writing; 'c' makes it where it is missing; 'n' makes a new,
     empty one in any case. height, from 0 to 16: a store that is made has room for 2^height * (64 - height) records, 212992 where
     it isn't given. journal: the pages of a journal, from 4 to max(4, 2^height); where it isn't given as many, or 1024 if that is
     less. paired: a store that is made has two journals and room for an index, so that an update takes two syncs; else it has one
-    journal, and an update takes four. program: its name on the path, or where it is.
+    journal, and an update takes four. program: its name on the path, or where it is. timeout: the seconds for which the program
+    may say nothing while it is waited for, behind which it is killed and `TimedOut` comes; a stopped program, or a disk, is
+    waited for without end where it isn't given. To read or to write a large store may take a minute.
     """
     if flag not in FLAGS:
         raise ValueError("flag must be one of 'r', 'w', 'c', or 'n'")
+    if timeout is not None and timeout <= 0:
+        raise ValueError("timeout is not above 0")
     file = os.fsencode(os.path.realpath(path))
     with contextlib.ExitStack() as held:
         if flag == "n" or flag == "c" and not making.filled(file):
-            making.put_in_place(program, file, height, journal, paired, flag == "c", held)
+            making.put_in_place(program, file, height, journal, paired, timeout, flag == "c", held)
         elif not os.path.exists(file):
             raise FileNotFoundError(errno.ENOENT, "no store is there", os.fsdecode(file))
-        return Store(program, file, flag == "r")
+        return Store(program, file, flag == "r", timeout)

@@ -1,4 +1,5 @@
 """The program's death, each status, replies cut off, signals, forks, threads: nothing hangs, and what is said is so."""
+import contextlib
 import io
 import os
 import signal
@@ -8,10 +9,17 @@ import sys
 import threading
 import time
 import unittest
+from unittest import mock
 
 from common import PROGRAM, PYTHON, StoreCase, close_anyhow, pma
 
 OPENED = "printf 'oversized key 24\\noversized value 32\\n'\n"  # what an opening is answered
+
+
+def sent_ahead(store, count):
+    with store.pipeline() as ahead:
+        for n in range(count):
+            ahead.put(b"%d" % n, b"x")
 
 
 class FaultTest(StoreCase):
@@ -63,6 +71,141 @@ class FaultTest(StoreCase):
         self.assertRaises(pma.OutcomeUnknown, answers[2].result)
         for answer in answers[3:]:
             self.assertRaises(pma.DiskFault, answer.result)
+
+    def test_stopped_and_killed_amid_a_request(self):
+        for request, error in ((lambda store: store.update(a=b"2"), pma.OutcomeUnknown), (lambda store: store[b"a"], pma.Ended),
+                               (list, pma.Ended), (lambda store: store.cursor(), pma.Ended), (len, pma.Ended)):
+            store = self.open()
+            store[b"a"] = b"1"
+            os.kill(store.pid, signal.SIGSTOP)
+            killer = threading.Timer(0.1, os.kill, (store.pid, signal.SIGKILL))
+            killer.start()
+            with self.assertRaises(error) as caught:
+                request(store)
+            killer.join()
+            self.assertEqual((caught.exception.__cause__ or caught.exception).status, -signal.SIGKILL)
+            self.assertRaises(pma.Ended, store.get, b"a")
+            store.close()
+            with self.open("r") as store:
+                self.assertIn(dict(store), ({b"a": b"1"}, {b"a": b"2"}))
+
+    def test_stopped_for_a_while(self):
+        with self.open() as store:
+            os.kill(store.pid, signal.SIGSTOP)
+            going = threading.Timer(0.2, os.kill, (store.pid, signal.SIGCONT))
+            going.start()
+            store[b"a"] = b"1"
+            going.join()
+            self.assertEqual(dict(store), {b"a": b"1"})
+
+    def test_a_limit_on_what_a_stopped_program_takes(self):
+        for request, error in ((lambda store: store.update(a=b"2"), pma.OutcomeUnknown), (lambda store: store[b"a"], pma.TimedOut),
+                               (len, pma.TimedOut), (lambda store: store.close(), pma.TimedOut),
+                               (lambda store: sent_ahead(store, 100000), pma.OutcomeUnknown)):
+            with self.open(height=12) as store:
+                store[b"a"] = b"1"
+            store = self.open(height=12, timeout=0.3)
+            os.kill(store.pid, signal.SIGSTOP)
+            begun = time.monotonic()
+            with self.assertRaises(error) as caught:
+                request(store)
+            self.assertLess(time.monotonic() - begun, 10)
+            self.assertIsInstance(caught.exception.__cause__ or caught.exception, pma.TimedOut)
+            with self.open() as other:  # the program is gone
+                self.assertIn(other[b"a"], (b"1", b"2"))
+            store.close()
+        self.assertRaises(ValueError, self.open, timeout=0)
+        with self.open(timeout=60) as store, store.pipeline() as ahead:
+            for n in range(1000):
+                ahead.put(b"%d" % n, b"")
+
+    def test_reply_in_pieces(self):
+        pieces = "for piece in sto red '\\n'; do printf $piece; sleep 0.05; done"
+        with self.pretend(f"head -n 3 >/dev/null; {pieces}; cat >/dev/null") as store:
+            store[b"a"] = b"1"
+
+    def test_a_full_pipe(self):
+        """100,000 requests are sent ahead to a program that reads none of them, and dies."""
+        with self.open() as store:
+            store[b"a"] = b"1"
+        store = self.open("w")
+        os.kill(store.pid, signal.SIGSTOP)
+        pipeline = store.pipeline()
+        answers = [pipeline.put(b"%d" % n, b"x") for n in range(100000)]
+        killer = threading.Timer(0.5, os.kill, (store.pid, signal.SIGKILL))
+        killer.start()
+        self.assertRaises(pma.OutcomeUnknown, pipeline.__exit__, None, None, None)
+        killer.join()
+        self.assertRaises(pma.OutcomeUnknown, answers[0].result)
+        for answer in answers[1:]:
+            self.assertIsInstance(answer._error, pma.Ended)
+        store.close()
+        self.assertIn(dict(self.open("r")), ({b"a": b"1"}, {b"a": b"1", b"0": b"x"}))
+
+    def test_a_full_pipe_that_is_given_up(self):
+        """The same, where the caller is interrupted: all that may have come to the program is unknown."""
+        def interrupt(*_):
+            raise KeyboardInterrupt
+        store = self.open()
+        os.kill(store.pid, signal.SIGSTOP)
+        pipeline = store.pipeline()
+        answers = [pipeline.put(b"%d" % n, b"x") for n in range(100000)]
+        before = signal.signal(signal.SIGALRM, interrupt)
+        try:
+            signal.setitimer(signal.ITIMER_REAL, 0.3)
+            self.assertRaises(KeyboardInterrupt, pipeline.__exit__, None, None, None)
+        finally:
+            signal.signal(signal.SIGALRM, before)
+        kinds = [type(answer._error) for answer in answers]
+        sent = kinds.count(pma.OutcomeUnknown)
+        self.assertEqual(kinds, [pma.OutcomeUnknown] * sent + [pma.Ended] * (100000 - sent))
+        self.assertTrue(100 < sent < 100000, sent)
+        begun = time.monotonic()
+        store.close()  # though the program is stopped
+        self.assertLess(time.monotonic() - begun, 10)
+        self.assertEqual(len(self.open("r")), 0)
+
+    def test_interrupted_by_the_terminal(self):
+        script = ("import os, signal, sys; sys.path[:0] = sys.argv[1:2]; import pma\n"
+                  "try:\n"
+                  "    with pma.open(sys.argv[2], 'c', height=4, program=sys.argv[3]) as store:\n"
+                  "        store[b'a'] = b'1'\n"
+                  "        os.kill(store.pid, signal.SIGSTOP)\n"
+                  "        print('here', flush=True)\n"
+                  "        store[b'a'] = b'2'\n"
+                  "except KeyboardInterrupt: pass\n"
+                  "with pma.open(sys.argv[2], 'w', program=sys.argv[3]) as store: print(store[b'a'].decode())\n")
+        words = [sys.executable, "-c", script, PYTHON, self.file, PROGRAM]
+        with subprocess.Popen(words, stdout=subprocess.PIPE, start_new_session=True) as caller:
+            self.assertEqual(caller.stdout.readline(), b"here\n")
+            time.sleep(0.2)
+            os.killpg(caller.pid, signal.SIGINT)  # as the terminal does
+            said, _ = caller.communicate(timeout=20)
+        self.assertEqual((said, caller.returncode), (b"1\n", 0))
+
+    def test_output_that_is_closed(self):
+        for word in ("", "head -n 3 >/dev/null; "):
+            with mock.patch.object(pma.run, "GRACE", 0.2):
+                store = self.pretend(word + "exec <&- >&-; sleep 60")
+                begun = time.monotonic()
+                with self.assertRaises(pma.Error):
+                    store[b"a"] = b"1"
+                self.assertLess(time.monotonic() - begun, 10)
+                self.assertRaises(pma.Ended, store.get, b"a")
+                store.close()
+
+    def test_programs_that_are_none(self):
+        open(self.file, "w").close()
+        for script in ("yes", "yes refused x", "echo hello; sleep 60", "yes | tr -d '\\n'"):
+            script = f"exec 2>/dev/null; {script}"
+            begun = time.monotonic()
+            self.assertRaises(pma.UnexpectedReply, pma.Store, self.pretender(script), os.fsencode(self.file), False)
+            self.assertLess(time.monotonic() - begun, 10)
+        self.assertRaises(pma.UnexpectedReply, self.open, "n", program=self.pretender("yes 2>/dev/null"))
+        self.assertRaises(pma.Ended, self.pretend("cat >/dev/null; yes 2>/dev/null").close)
+        self.assertRaises(pma.NoProgram, self.open, "n", program=os.path.join(self.folder, "none"))
+        self.assertRaises(pma.NoProgram, self.open, "n", program=self.folder)
+        self.assertRaises(pma.NoProgram, self.open, "n", program=self.file)  # no program
 
     def test_damage_amid_a_run(self):
         store = self.pretend("head -n 3 >/dev/null; printf 'record a\\nrefused slot 3 4\\n'; exit 3")
@@ -170,15 +313,21 @@ class FaultTest(StoreCase):
     def test_fork(self):
         store = self.open()
         store[b"a"] = b"1"
-        child = os.fork()
-        if child == 0:
-            try:
-                store[b"a"] = b"2"
-            except pma.Closed:
-                store.close()
-                os._exit(0)
-            os._exit(1)
-        self.assertEqual(os.waitpid(child, 0)[1], 0)
+        cursor = store.cursor()
+        for request in (lambda: store.__setitem__(b"a", b"2"), lambda: store.get(b"a"), lambda: len(store), lambda: list(store),
+                        lambda: store.merge({b"a": b"2"}), cursor.next, cursor.close, lambda: sent_ahead(store, 9)):
+            child = os.fork()
+            if child == 0:
+                with contextlib.suppress(OSError):
+                    os.write(store._run._socket.fileno(), b"remove a\n")  # it has no way to the program
+                try:
+                    request()
+                except pma.Closed:
+                    store.close()
+                    os._exit(0)
+                os._exit(1)
+            self.assertEqual(os.waitpid(child, 0)[1], 0)
+        self.assertEqual(cursor.next(), (b"a", b"1"))
         self.assertEqual(store[b"a"], b"1")
         lasting = os.fork()
         if lasting == 0:

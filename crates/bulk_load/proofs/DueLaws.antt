@@ -70,7 +70,7 @@ records_rise format (suc k) (suc j) [] le = omega arith
 records_rise format (suc k) (suc j) (raw ∷ lines) le =
     more_records (record_of_line (load_line_raw format raw)) (records_in format (take k lines)) (records_in format (take j lines)) (records_rise format k j lines (omega (arith, le)))
 
-front_of : (n k : ℕ) (lines : List (List ℕ)) → n ≤ k → take k lines ≡ take n lines ++ drop n (take k lines)
+pub front_of : (n k : ℕ) (lines : List (List ℕ)) → n ≤ k → take k lines ≡ take n lines ++ drop n (take k lines)
 front_of zero k lines le = refl
 front_of (suc n) zero lines le = absurd (omega (arith, le))
 front_of (suc n) (suc k) [] le = refl

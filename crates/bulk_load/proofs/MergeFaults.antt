@@ -10,7 +10,7 @@ use Rattle.map_model.specs.Store.{Map, Update, bind, unbind}
 use Rattle.command_text.specs.Merge.{merge_line_raw}
 use Rattle.command_text.specs.declared.merge.MergeLine.{MergeLine}
 use Rattle.command_text.specs.declared.merge.MergeLine.TheVariants.{Nothing, Bind, Remove, End, Bad}
-use Rattle.bulk_load.specs.MergeText.{edit_of_line, IsEdit, AreAscending, IsMergeText, BeginsMerge, IsFirstUnmerged, IsMergeUnfinished, IsMergedFull, front_rows, rest_rows, map_after_edits}
+use Rattle.bulk_load.specs.MergeText.{edit_of_line, edits_in, IsEdit, AreAscending, IsMergeText, BeginsMerge, IsFirstUnmerged, IsMergeUnfinished, IsMergedFull, front_rows, rest_rows, map_after_edits}
 use Rattle.bulk_load.specs.Merging.{Merging, reads, wrong, full, may_follow, after_merge_line, merge_step, merge_from, merging, IsOverfull}
 use Rattle.bulk_load.proofs.MergeLaws.{merged_are}
 use Rattle.bulk_load.proofs.MergeLines.{end_read}
@@ -271,6 +271,8 @@ merged_full format most m lines e =
       n = length s.done + 1;
       there = omega (arith, ap length s.lines_are, length-append s.done (s.raw ∷ s.rest));
       begins = subst (BeginsMerge format) (sym whole) (begins format (s.done ++ s.raw ∷ []) (s.now ++ b.u ∷ []) false next);
+      many = subst (λ (l : List (List ℕ)). most < length (front_rows (edits_in format l) (entries m))) (sym whole)
+          (subst (λ (l : List Update). most < length (front_rows l (entries m))) (sym next.edits_are) b.count);
       full = λ behind edits text. size s behind edits (subst (λ (l : List (List ℕ)). IsMergeText format (l ++ behind) edits) whole text);
     }
   where

@@ -3,7 +3,7 @@
 use Rattle.std.specs.Prelude.{◌≡◌, ℕ, ◌-◌, ◌^◌, ◌<◌, ◌≤◌, true, List, [], ◌∷◌, ◌++◌, length, map, take, All, Option, Some, None, ◌+◌}
 use Rattle.std.specs.List.{filter_map}
 use Rattle.std.specs.Ordering.{is_lt}
-use Rattle.std.specs.FinMap.{insert, remove, contains_key, len}
+use Rattle.std.specs.FinMap.{entries, insert, remove, contains_key, len}
 use Rattle.std.specs.FinMap.Entries.{where_key}
 use Rattle.key_slot.specs.Record.{Bytes, Record, key_cmp, IsAscending}
 use Rattle.map_model.specs.Items.{ItemCounts, effect_count, no_items}
@@ -118,11 +118,13 @@ rest_rows (u ∷ edits) rows = rest_rows edits (above (key_of u) rows)
 abbrev pub merged_rows : List Update → List Record → List Record
 merged_rows edits rows = front_rows edits rows ++ rest_rows edits rows
 
--- some merge text begins with the first n lines, and after each that does the map has more records than that many
+-- some merge text begins with the first n lines, up to the key of whose last update more records result than that many: so after
+-- each text that begins with them the map has more
 pub record IsMergedFull (format most : ℕ) (m : Map) (lines : List (List ℕ)) : Type 0 where
   pub n : ℕ
   pub there : n ≤ length lines
   pub begins : BeginsMerge format (take n lines)
+  pub many : most < length (front_rows (edits_in format (take n lines)) (entries m))
   pub full : (behind : List (List ℕ)) (edits : List Update) → IsMergeText format (take n lines ++ behind) edits → most < len (map_after_edits m edits)
 
 -- how many updates bind a key

@@ -44,8 +44,8 @@ pub fn merge_texts_are_read_by_lines()
     // If the lines end before the one with the number of updates, some merge text begins with them, and they are none.
     ensures unfinished { (format most : ℕ) (rows : List Record) (lines : List (List ℕ)) (edits : List Update) →
         merging format most rows lines ≡ reads edits false → IsMergeUnfinished format lines }
-    // If too many records result up to the key of a line, some merge text begins with the lines up to it, and after each that
-    // does the map has more records than the store may hold.
+    // If too many records result up to the key of a line, some merge text begins with the lines up to it, up to the key of whose
+    // last update more records result than the store may hold, and so after each text that begins with them.
     ensures full { (format most : ℕ) (m : Map) (lines : List (List ℕ)) → merging format most (entries m) lines ≡ full →
         IsMergedFull format most m lines }
     // If too many records result up to the key of a line, they do whatever lines follow: no line behind it is refused.

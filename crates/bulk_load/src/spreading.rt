@@ -29,6 +29,23 @@ use segment::StoreFault;
 use spread_plan::share;
 use station::Station;
 
+// Of the segments over which records are spread those that are filled together: `count` of them from `low` on.
+#[derive(Clone, Copy)]
+struct Part {
+    // How many records are spread, and over how many segments.
+    records: u32,
+    segments: u32,
+    low: u32,
+    count: u32,
+}
+
+// The place of a share, and how many records it is to have.
+#[derive(Clone, Copy)]
+struct Target {
+    place: u32,
+    size: u32,
+}
+
 /// Spreads packed records evenly over the first segments of the region that isn't live.
 ///
 /// Half of the frames that are used are read into, and the others are filled and written, a run of segments by one call of the
@@ -69,16 +86,13 @@ pub(crate) fn spread_spare<S: Station>(
     let mut end = segments;
     while end > 0 {
         let count = room.min(end);
-        fill_places(
-            station,
-            place,
-            frames,
-            &mut packed,
+        let part = Part {
             records,
             segments,
-            end - count,
+            low: end - count,
             count,
-        )?;
+        };
+        fill_places(station, place, frames, &mut packed, part)?;
         write_spare(station, place, frames, packed.room, end - count, count)?;
         clear_places(frames, place.layout.format, packed.room, room);
         end -= count;
@@ -92,39 +106,32 @@ fn fill_places<S: Station>(
     place: &Place,
     frames: &mut Frames,
     packed: &mut Packed,
-    records: u32,
-    segments: u32,
-    low: u32,
-    count: u32,
+    part: Part,
 ) -> Result<(), StoreFault>
     requires can { CanFill place.now frames.old (S.view station.old) }
-    requires fits { records ≤ SEGMENT_RECORDS * 2 ^ height_limit place.now.layout }
-    requires packed { IsPacked place.now.layout.format records frames.old packed.old }
-    requires room { records ≤ SEGMENT_RECORDS * segments }
-    requires inside { low + count ≤ segments }
-    requires rest { packed.old.rest ≡ (low + count) * records / segments }
-    requires frames { packed.old.room + count ≤ places place.now.layout.format frames.old }
-    requires empty { (i : ℕ) → i < count → share_in place.now.layout.format (packed.old.room + i) frames.old ≡ [] }
-    ensures reads { ReadsPacked place.now records result packed.old packed.new frames.old frames.new (S.view station.old) (S.view station.new) }
-    ensures calls { OnOk result (GoesInParts packed.old.room (used_by records) (used_by records - packed.old.unread) (used_by records - packed.new.unread) (S.view station.old).calls (S.view station.new).calls) }
-    ensures tried { TriesParts packed.old.room (used_by records) (used_by records - packed.old.unread) (S.view station.old).calls (S.view station.new).calls }
-    ensures rest { OnOk result (packed.new.rest ≡ low * records / segments) }
-    ensures filled { OnOk result (Told (S.view station.old) → (rows : List Record) → ArePacked place.now records rows packed.old frames.old (S.view station.old).held →
-        (i : ℕ) → i < count → share_in place.now.layout.format (packed.old.room + i) frames.new ≡ segment_at (spread_over segments rows) (low + i)) }
+    requires fits { part.records ≤ SEGMENT_RECORDS * 2 ^ height_limit place.now.layout }
+    requires packed { IsPacked place.now.layout.format part.records frames.old packed.old }
+    requires room { part.records ≤ SEGMENT_RECORDS * part.segments }
+    requires inside { part.low + part.count ≤ part.segments }
+    requires rest { packed.old.rest ≡ (part.low + part.count) * part.records / part.segments }
+    requires frames { packed.old.room + part.count ≤ places place.now.layout.format frames.old }
+    requires empty { (i : ℕ) → i < part.count → share_in place.now.layout.format (packed.old.room + i) frames.old ≡ [] }
+    ensures reads { ReadsPacked place.now part.records result packed.old packed.new frames.old frames.new (S.view station.old) (S.view station.new) }
+    ensures calls { OnOk result (GoesInParts packed.old.room (used_by part.records) (used_by part.records - packed.old.unread) (used_by part.records - packed.new.unread) (S.view station.old).calls (S.view station.new).calls) }
+    ensures tried { TriesParts packed.old.room (used_by part.records) (used_by part.records - packed.old.unread) (S.view station.old).calls (S.view station.new).calls }
+    ensures rest { OnOk result (packed.new.rest ≡ part.low * part.records / part.segments) }
+    ensures filled { OnOk result (Told (S.view station.old) → (rows : List Record) → ArePacked place.now part.records rows packed.old frames.old (S.view station.old).held →
+        (i : ℕ) → i < part.count → share_in place.now.layout.format (packed.old.room + i) frames.new ≡ segment_at (spread_over part.segments rows) (part.low + i)) }
 {
-    let mut f = count;
+    let mut f = part.count;
     while f > 0 {
         f -= 1;
-        let size = share(records, segments, low + f);
-        fill_share(
-            station,
-            place,
-            frames,
-            packed,
-            records,
-            packed.room + f,
+        let size = share(part.records, part.segments, part.low + f);
+        let to = Target {
+            place: packed.room + f,
             size,
-        )?;
+        };
+        fill_share(station, place, frames, packed, part.records, to)?;
     }
     Ok(())
 }
@@ -136,32 +143,31 @@ fn fill_share<S: Station>(
     frames: &mut Frames,
     packed: &mut Packed,
     records: u32,
-    f: u32,
-    share: u32,
+    to: Target,
 ) -> Result<(), StoreFault>
     requires can { CanFill place.now frames.old (S.view station.old) }
     requires fits { records ≤ SEGMENT_RECORDS * 2 ^ height_limit place.now.layout }
     requires packed { IsPacked place.now.layout.format records frames.old packed.old }
-    requires behind { packed.old.room ≤ f }
-    requires frame { f < places place.now.layout.format frames.old }
-    requires none { share_in place.now.layout.format f frames.old ≡ [] }
-    requires few { share ≤ SEGMENT_RECORDS }
-    requires enough { share ≤ packed.old.rest }
+    requires behind { packed.old.room ≤ to.place }
+    requires frame { to.place < places place.now.layout.format frames.old }
+    requires none { share_in place.now.layout.format to.place frames.old ≡ [] }
+    requires few { to.size ≤ SEGMENT_RECORDS }
+    requires enough { to.size ≤ packed.old.rest }
     ensures reads { ReadsPacked place.now records result packed.old packed.new frames.old frames.new (S.view station.old) (S.view station.new) }
     ensures calls { OnOk result (GoesInParts packed.old.room (used_by records) (used_by records - packed.old.unread) (used_by records - packed.new.unread) (S.view station.old).calls (S.view station.new).calls) }
     ensures tried { TriesParts packed.old.room (used_by records) (used_by records - packed.old.unread) (S.view station.old).calls (S.view station.new).calls }
-    ensures rest { OnOk result (packed.new.rest + share ≡ packed.old.rest) }
+    ensures rest { OnOk result (packed.new.rest + to.size ≡ packed.old.rest) }
     ensures filled { OnOk result (Told (S.view station.old) → (rows : List Record) → ArePacked place.now records rows packed.old frames.old (S.view station.old).held →
-        share_in place.now.layout.format f frames.new ≡ slice_range rows packed.new.rest packed.old.rest) }
-    ensures others { OnOk result ((i : ℕ) → packed.old.room ≤ i → i < places place.now.layout.format frames.old → i ≢ f →
+        share_in place.now.layout.format to.place frames.new ≡ slice_range rows packed.new.rest packed.old.rest) }
+    ensures others { OnOk result ((i : ℕ) → packed.old.room ≤ i → i < places place.now.layout.format frames.old → i ≢ to.place →
         share_in place.now.layout.format i frames.new ≡ share_in place.now.layout.format i frames.old) }
 {
     let mut have = 0;
-    while have < share {
+    while have < to.size {
         if packed.rest <= SEGMENT_RECORDS * packed.unread {
             read_packed(station, place, frames, packed, records)?;
         } else {
-            have += take_last(frames, place.layout.format, packed, f, have, share - have);
+            have += take_last(frames, place.layout.format, packed, to.place, have, to.size - have);
         }
     }
     Ok(())

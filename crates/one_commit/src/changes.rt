@@ -5,7 +5,7 @@ ghost use Rattle.key_slot.specs.Record.{IsAscending};
 ghost use Rattle.map_model.specs.Store.{Update, key_of};
 ghost use Rattle.map_model.specs.Array.{Array, segment_at, segment_for};
 ghost use Rattle.segment.specs.Rows.{key_at};
-ghost use Rattle.one_commit.specs.Fitting.{is_put, change_before, with_change};
+ghost use Rattle.one_commit.specs.Fitting.{is_put, change_before, kind_in, kind_of, with_change};
 ghost use Rattle.one_commit.specs.declared.changes.ItemChange.{ItemChange as OneChange};
 
 use window_tally::Change;
@@ -25,6 +25,9 @@ pub struct ItemChange {
 pub fn change_of(puts: bool, segment: u32, found: Result<u32, u32>) -> Option<ItemChange>
     // A change is one of that segment.
     ensures segment { IfSome result (λ change. change.segment ≡ segment) }
+    // A put of a key that wasn't found adds a record, and the removal of one that was takes one; a put of a key that was found
+    // and the removal of one that wasn't are no change.
+    ensures kind { kind_in result ≡ kind_of puts (is_ok found) }
     // It is the item's, if its key belongs to the segment, whose keys ascend, and stands at the place found, where that is Ok:
     // none for a put of a key that was found or the removal of one that was not, else a record more, or one less and whether that
     // is the first.

@@ -1,16 +1,19 @@
--- What is due where merge lines are read so far: their updates, and how many records result.
-use Rattle.std.proofs.Common.{◌≡◌, inl, inr, ℕ, zero, suc, ◌+◌, ◌-◌, ◌<◌, ◌≤◌, nat_lt, ◌==◌, not, Bool, true, false, cond, List, [], ◌∷◌, ◌++◌, length, take, Option, Some, None, refl, sym, ap, subst, ◌∙◌, arith, append_assoc}
+-- What is due where merge lines are read so far: their updates, and how many records result. And that one refusal is.
+use Rattle.std.proofs.Common.{◌≡◌, inl, inr, ℕ, zero, suc, ◌+◌, ◌-◌, ◌<◌, ◌≤◌, nat_lt, ◌==◌, not, Bool, true, false, cond, List, [], ◌∷◌, ◌++◌, length, take, drop, Option, Some, None, refl, sym, ap, subst, ◌∙◌, arith, append_assoc}
 use Rattle.std.specs.List.{cons_option}
 use Rattle.std.specs.FinMap.{entries}
 use Rattle.std.proofs.lemmas.Bool.{lt-ltb, cases_lt}
-use Rattle.std.proofs.lemmas.List.{append-nil, take_at}
+use Rattle.std.proofs.lemmas.List.{append-nil, take_at, take-append-drop}
+use Rattle.std.proofs.lemmas.List.Elements.{filter_map-append}
 use Rattle.key_slot.specs.Record.{Record}
 use Rattle.map_model.specs.Store.{Map, Update, bind, unbind}
 use Rattle.command_text.specs.Merge.{merge_line_raw}
 use Rattle.command_text.specs.declared.merge.MergeLine.{MergeLine}
 use Rattle.command_text.specs.declared.merge.MergeLine.TheVariants.{Nothing, Bind, Remove, End, Bad}
-use Rattle.bulk_load.specs.MergeText.{IsMergeText, edit_of_line, edits_in, front_rows}
+use Rattle.bulk_load.specs.MergeText.{BeginsMerge, IsMergeText, edit_of_line, edits_in, front_rows}
 use Rattle.bulk_load.specs.Merging.{Merging, reads, wrong, full, may_follow, after_merge_line, merge_step, merge_from, merging, IsOverfull, IsUnmergedLine}
+use Rattle.bulk_load.proofs.DueLaws.{front_of}
+use Rattle.bulk_load.proofs.MergeLaws.{front_longer}
 use Rattle.bulk_load.proofs.MergeFaults.{first_unmerged, merged_full, own_number, unfinished}
 use Rattle.bulk_load.proofs.MergeReading.{no_wrong, no_full, full_no_wrong, number_of, same_edits, stays_full, stays_wrong, text_of}
 use Rattle.pma_engine.specs.Merging.{IsUpdateRefusedAt, MayMergeOn, ResultsInMore}
@@ -138,3 +141,33 @@ module _ (format most : ℕ) (m : Map) (lines : List (List ℕ)) where
     few = few_results format most rows lines edits true is;
   }
   may_go_on edits false is = record { begins = (unfinished format most rows lines edits is).begins; few = few_results format most rows lines edits false is }
+
+  -- No text has both refusals.
+
+  abbrev front : ℕ → List Update
+  front k = edits_in format (take k lines)
+
+  front_rises : (k j : ℕ) → k ≤ j → length (front_rows (front k) rows) ≤ length (front_rows (front j) rows)
+  front_rises k j le =
+      let more = drop k (take j lines) in
+      let same : front j ≡ front k ++ edits_in format more = ap (edits_in format) (front_of k j lines le) ∙ filter_map-append (λ raw. edit_of_line (merge_line_raw format raw)) (take k lines) more in
+      omega (arith, front_longer (front k) (edits_in format more) rows, ap (λ (l : List Update). length (front_rows l rows)) same)
+
+  begins_front : (some more : List (List ℕ)) → BeginsMerge format (some ++ more) → BeginsMerge format some
+  begins_front some more b = record { behind = more ++ b.behind; edits = b.edits; text = subst (λ (l : List (List ℕ)). IsMergeText format l b.edits) (append_assoc some more b.behind) b.text }
+
+  pub exclude : (n : ℕ) → IsUpdateRefusedAt format most m lines n → ResultsInMore format most m lines → ⊥
+  exclude n refused (inl over) = elim refused.why [
+    | inl first ↦ elim (cases_lt over.n n) [
+      | inl before ↦ more_before (omega (arith, before))
+      | inr behind ↦ first.wrong (begins_front (take n lines) (drop n (take over.n lines)) (subst (BeginsMerge format) (front_of n over.n lines behind) over.begins))
+    ]
+    | inr end ↦ more_before (omega (arith, over.there, end.1))
+  ]
+    where
+      more_before : over.n ≤ n - 1 → ⊥
+      more_before le = omega (arith, refused.few, over.many, front_rises over.n (n - 1) le)
+  exclude n refused (inr is) = elim refused.why [
+    | inl first ↦ first.wrong (record { behind = drop n lines; edits = is.0; text = subst (λ (l : List (List ℕ)). IsMergeText format l is.0) (sym (take-append-drop n lines)) is.1 })
+    | inr end ↦ end.0.no_text is.0 is.1
+  ]

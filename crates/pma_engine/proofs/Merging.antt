@@ -1,5 +1,5 @@
 -- What comes of a merge, from the map that its file means at the entry.
-use Rattle.std.proofs.Common.{◌≡◌, ◌⊎◌, inl, inr, ℕ, ◌+◌, ◌-◌, ◌*◌, ◌^◌, ◌<◌, ◌≤◌, Bool, List, [], ◌++◌, false, length, take, Some, None, Result, Ok, Err, refl, sym, ◌∙◌, ap, subst, arith}
+use Rattle.std.proofs.Common.{◌≡◌, ◌⊎◌, inl, inr, ℕ, ◌+◌, ◌-◌, ◌*◌, ◌^◌, ◌<◌, ◌≤◌, Bool, List, [], ◌++◌, false, length, take, Some, None, Result, Ok, Err, refl, sym, ◌∙◌, ap, subst, arith, sum}
 use Rattle.std.specs.Prelude.{OnOk, IfOk, IfErr, IsErrOf}
 use Rattle.std.specs.FinMap.{entries, from_sorted, len, len-entries}
 use Rattle.std.proofs.lemmas.List.{append-nil}
@@ -9,7 +9,7 @@ use Rattle.station.specs.declared.travel.Travel.{Travel}
 use Rattle.station.proofs.Composition.{each_on, only_held, told_of}
 use Rattle.station.proofs.Sayings.{each_says, run_in, run_of_steps, run_of_says, run_on}
 use Rattle.line_source.specs.Lines.{raw_lines}
-use Rattle.line_source.specs.ReaderView.{ReaderView}
+use Rattle.line_source.specs.ReaderView.{ReaderView, rest}
 use Rattle.line_source.specs.SourceView.{SourceView, SourceTold, SourceRose}
 use Rattle.header_gate.specs.Header.{layout_in}
 use Rattle.header_gate.specs.InPlace.{IsBare}
@@ -40,10 +40,10 @@ use Rattle.segment_frames.specs.Standing.{StandsFor}
 use Rattle.bulk_load.specs.Faults.{IsNoDisk, IsOutsideFault}
 use Rattle.bulk_load.specs.Loading.{TakesAtMost}
 use Rattle.bulk_load.specs.Loads.{IsLeastHeight, IsLoaded, Loads, most_records}
-use Rattle.bulk_load.specs.MergeCauses.{IsMergeCut, IsMergeFault, IsUpdatingFault}
+use Rattle.bulk_load.specs.MergeCauses.{IsMergeCut, IsMergeFault, IsTextFault, IsUpdatingFault}
 use Rattle.bulk_load.specs.MergeText.{count_edits, map_after_edits}
 use Rattle.bulk_load.specs.Spreading.{load_calls, used_by}
-use Rattle.bulk_load.specs.Updates.{MergeFor, MergeTo, ReadsBeside, counts_by}
+use Rattle.bulk_load.specs.Updates.{CountsText, MergeFor, MergeTo, ReadsBeside, counts_by}
 use Rattle.bulk_load.specs.declared.fault.LoadFault.{LoadFault}
 use Rattle.bulk_load.specs.declared.fault.LoadFault.TheVariants as load
 use Rattle.bulk_load.specs.declared.merged.Merged.{Merged}
@@ -60,7 +60,7 @@ use Rattle.pma_store.specs.Readying.{clear_cost}
 use Rattle.pma_store.specs.Store.{StoreView, IsOpenOn}
 use Rattle.pma_engine.specs.Closing.{IsButClosed, StaysShut}
 use Rattle.pma_engine.specs.Loading.{IsCutText, line_of_load, load_cost, text_cost}
-use Rattle.pma_engine.specs.Merging.{AnswersMerge, BeginsLine, EndsMerge, HasEdits, IsFileMerged, IsMergeAnswer, IsMergeCutEarly, IsMergeDone, IsMergeRefused, IsMerged, MayMerge, MayMergeOn, MeansMerged, MergesFile, MergesOpened, SaysMerged, line_of_merge, merge_calls, merge_reads, merged_line}
+use Rattle.pma_engine.specs.Merging.{AnswersMerge, BeginsLine, EndsMerge, HasEdits, IsFileMerged, IsMergeAnswer, IsMergeCutEarly, IsMergeDone, IsMergeRefused, IsMergeWhole, IsMerged, MayMerge, MayMergeOn, MeansMerged, MergesFile, MergesOpened, SaysMerged, line_of_merge, merge_calls, merge_reads, merged_line}
 use Rattle.pma_engine.specs.Opening.{IsOpened, IsUnopened, Reopens, reopening_calls, reopening_cost}
 use Rattle.pma_engine.specs.Outcome.{IsRunStatus}
 use Rattle.pma_engine.specs.Jobs.{TakesNothing}
@@ -109,6 +109,7 @@ may_since s IsSaid {old} {mid} {new} keeps same moved m here = elim (moved m (re
 -- what `merge_rows` says of a store, where it answered r
 pub record FactsBy (reader : ReaderView) (r : Result Merged LoadFault) (s : StoreView) (s0 s1 : SourceView) (a b : View) : Type 0 where
   pub merged : IfOk r (λ merged. (rows : List Record) × IsLoaded s.place rows merged.records merged.height (MergeFor s.place.layout reader s0 a (counts_by merged)) b)
+  pub counted : IfOk r (λ merged. SourceTold s0 → CountsText s.place.layout.format (raw_lines (rest reader s0)) (counts_by merged))
   pub whole : OnOk r (SourceTold s0 → (s1.left ≡ []) × (length s0.left < reader.room))
   pub takes : SourceTold s0 → TakesAtMost reader.room s0 s1
   pub settled : OnOk r (NothingPending b)
@@ -118,6 +119,7 @@ pub record FactsBy (reader : ReaderView) (r : Result Merged LoadFault) (s : Stor
   pub most_calls : b.calls ≤ a.calls + (2 ^ s.tally.height + load_calls s.place.layout (most_records s.place.layout) (2 ^ height_limit s.place.layout))
   pub reads : (n : ℕ) × (n ≤ 2 ^ s.tally.height) × ReadsBeside s.place n (segment_size s.place.layout * used_by (most_records s.place.layout)) a.travel b.travel
   pub fault : IfErr r (IsMergeFault s.place.layout.format (most_records s.place.layout) a reader s0 s1)
+  pub text : IfErr r (IsTextFault s.place.layout.format (most_records s.place.layout) (sum s.tally.counts) reader s0 s1)
   pub kept : IfErr r (λ fault. IsNoDisk fault → EachHeld (StandsFor s.place s.tally) b)
   pub failed : IsErrOf r load.Disk → Rose a.disk_faults b.disk_faults
 
@@ -250,6 +252,7 @@ module _ (most : ℕ) (s : StoreView) (s0 s1 : SourceView) (a : View) (law : Law
           (each_says (KeepsMeaning a.held) says (each_kept no_disk) d.held (inl (ap (λ f. f.tells_held) says.fixed ∙ told_on (Err fault) b facts told, refl)));
       merged = λ e. absurd (elim e [ inl x ↦ omega (arith, x) | inr x ↦ omega (arith, x) ]);
       whole = λ e. absurd (elim e [ inl x ↦ omega (arith, x) | inr x ↦ omega (arith, x) ]);
+      counted = λ e. absurd (elim e [ inl x ↦ omega (arith, x) | inr x ↦ omega (arith, x) ]);
       settled = λ e. absurd (elim e [ inl x ↦ omega (arith, x) | inr x ↦ omega (arith, x) ]);
       kept = λ not_done not_disk. each_says (KeepsMeaning a.held) says (each_kept no_disk);
       silent = λ not_done other. absurd (other refl);
@@ -273,20 +276,21 @@ module _ (most : ℕ) (s : StoreView) (s0 s1 : SourceView) (a : View) (law : Law
 
     -- a fault of which nothing is said
     stopped_by : (status : ℕ) → (status ≡ DISK_FAULT) ⊎ IsCutText status → ((status ≡ DISK_FAULT → ⊥) → IsNoDisk fault) → (status ≡ DISK_FAULT → fault ≡ load.Disk) → (status ≡ SCRIPT_FAULT → SourceRose s0 s1)
-        → (status ≡ TOO_LONG → SourceTold s0 → Told a → length s0.left ≡ length s1.left + most) → (IsCutText status → SourceTold s0 → Told a → IsMergeCutEarly s.place.layout (map_of a.held) s0 s1) → NoText b → MergesOpened status most s.place.layout s.tally.height 0 0 s0 s1 a b
+        → (status ≡ TOO_LONG → SourceTold s0 → length s0.left ≡ length s1.left + most) → (IsCutText status → SourceTold s0 → Told a → IsMergeCutEarly s.place.layout (map_of a.held) s0 s1) → NoText b → MergesOpened status most s.place.layout s.tally.height 0 0 s0 s1 a b
     stopped_by status is no_disk disk_is script_is spent early no_text = record {
       status_is = elim is [ inl e ↦ inr (inr e) | inr (inl e) ↦ inl (inl (inr (inl e))) | inr (inr e) ↦ inl (inl (inr (inr e))) ];
       run = runs (Err fault) b facts;
       held = still (Err fault) b facts;
       merged = λ e. absurd (not_done e);
       whole = λ e. absurd (not_done e);
+      counted = λ e. absurd (not_done e);
       settled = λ e. absurd (not_done e);
       kept = λ never not_disk. each_kept (no_disk not_disk);
       silent = λ never other. facts.steps.frame.said;
       line = λ e. absurd (other REFUSED e ((λ x. omega (arith, x)), (λ x. omega (arith, x)), (λ x. omega (arith, x))));
       why = λ e. absurd (other REFUSED e ((λ x. omega (arith, x)), (λ x. omega (arith, x)), (λ x. omega (arith, x))));
       takes = facts.takes;
-      too_long = λ e. spent e;
+      too_long = spent;
       early = early;
       admitted = λ told_s told edits text short calm_disk calm_say calm_script. absurd (no_text told_s told edits text short calm_disk calm_script);
       written = λ e. absurd (not_done e);
@@ -358,7 +362,13 @@ module _ (most : ℕ) (s : StoreView) (s0 s1 : SourceView) (a : View) (law : Law
         subst (IsFileMerged s.place.layout (map_of a.held) s0 (counts_by done)) (sym says.held) (is_merged told),
         (λ said_told. subst (λ (x : List ℕ). SaysMerged status x d.said line) facts.steps.frame.said (made (said_on (Ok done) b facts said_told))),
       );
-      whole = λ e. facts.whole;
+      whole = λ e told. let text = facts.counted told in record { format = s.place.layout.format; edits = text.edits; text = text.text; all = (facts.whole told).0; short = (facts.whole told).1 };
+      counted = λ e told said_told. record {
+        format = s.place.layout.format;
+        found = counts_by done;
+        text = facts.counted told;
+        line = subst (λ (x : List ℕ). SaysMerged status x d.said line) facts.steps.frame.said (made (said_on (Ok done) b facts said_told));
+      };
       settled = λ e honest image left.
           let honest_b = ap (λ f. f.honest) (sym says.fixed) ∙ honest in
           facts.settled honest_b image (says.images honest_b image left) ∙ sym says.held;
@@ -419,7 +429,7 @@ module _ (most : ℕ) (s : StoreView) (s0 s1 : SourceView) (a : View) (law : Law
         (λ told_s told edits text short calm_disk calm_script. calm_script facts.fault.0)))
     merged_of (Err load.Spent) status is facts says silent ends =
         subst (λ k. MergesOpened k most s.place.layout s.tally.height 0 0 s0 s1 a d) (sym is) (subst (MergesOpened TOO_LONG most s.place.layout s.tally.height 0 0 s0 s1 a) (sym (silent refl))
-        (stopped_by load.Spent b facts TOO_LONG (inr (inr refl)) (λ never. tt) (λ e. absurd (omega (arith, e))) (λ e. absurd (omega (arith, e))) (λ e told_s told. (facts.fault told_s told).all) (λ e told_s told. cut_early (facts.fault told_s told).read)
+        (stopped_by load.Spent b facts TOO_LONG (inr (inr refl)) (λ never. tt) (λ e. absurd (omega (arith, e))) (λ e. absurd (omega (arith, e))) (λ e told_s. (facts.text told_s).1) (λ e told_s told. cut_early (facts.fault told_s told).read)
         (λ told_s told edits text short calm_disk calm_script. outside load.Spent b facts told_s told edits text short)))
 
 -- The outcome of the whole job.
@@ -463,6 +473,7 @@ module _ (most : ℕ) (s : SourceView) (a b : View) (law : Lawful a) (ab : Steps
       done = λ e. absurd (other DONE e ((λ x. omega (arith, x)), (λ x. omega (arith, x))));
       cut = λ e. absurd (other REPLY_FAULT e ((λ x. omega (arith, x)), (λ x. omega (arith, x))));
       whole = λ e. absurd (not_done e);
+      counted = λ e. absurd (not_done e);
       settled = λ e. absurd (not_done e);
       shut = λ e. absurd (elim e [
         | inl (inl x) ↦ other DONE x ((λ y. omega (arith, y)), (λ y. omega (arith, y)))
@@ -515,6 +526,7 @@ module _ (most : ℕ) (s : SourceView) (a b : View) (law : Lawful a) (ab : Steps
       done = λ e. absurd (omega (arith, e));
       cut = λ e. absurd (omega (arith, e));
       whole = λ e. absurd (elim e [ inl x ↦ omega (arith, x) | inr x ↦ omega (arith, x) ]);
+      counted = λ e. absurd (elim e [ inl x ↦ omega (arith, x) | inr x ↦ omega (arith, x) ]);
       settled = λ e. absurd (elim e [ inl x ↦ omega (arith, x) | inr x ↦ omega (arith, x) ]);
       shut = λ e. absurd (elim e [ inl (inl x) ↦ omega (arith, x) | inl (inr (inl x)) ↦ omega (arith, x) | inl (inr (inr x)) ↦ omega (arith, x) | inr x ↦ omega (arith, x) ]);
       kept = λ not_done not_disk nothing. each_says (KeepsMeaning a.held) says (each_opened a ab nothing);
@@ -640,6 +652,9 @@ module _ (most : ℕ) (s0 s1 : SourceView) (a b : View) (law : Lawful a) (ab : S
         cut = λ e. was_merged (λ line. SaidTold a → IsPartSaid (reply_text line) a.said d.said) (inr e)
             (λ line made said. subst (λ (x : List ℕ). IsPartSaid (reply_text line) x d.said) ab.frame.said ((made (on_said_told said)).cut e));
         whole = merges.whole;
+        counted = λ e told said.
+            let is = merges.counted e told (on_said_told said) in
+            record { format = is.format; found = is.found; text = is.text; line = subst (λ (x : List ℕ). SaysMerged status x d.said (merged_line is.found)) ab.frame.said is.line };
         settled = merges.settled;
         shut = λ e told. stays.after opened.shut d.held (inl (ap (λ f. f.tells_held) merges.run.fixed ∙ on told, refl));
         kept = λ not_done not_disk nothing image left. keeps_on (keeps_opened (ab.held (told_back image left))) (merges.kept not_done not_disk image left);
@@ -647,7 +662,7 @@ module _ (most : ℕ) (s0 s1 : SourceView) (a b : View) (law : Lawful a) (ab : S
         refused = was_refused;
         memory = λ e. absurd (no_memory e);
         takes = merges.takes;
-        too_long = λ e told_s told. merges.too_long e told_s (on told);
+        too_long = merges.too_long;
         early = λ e told_s told. subst (λ (x : Layout × Map). IsMergeCutEarly x.0 x.1 s0 s1) (λ i. (opened.layout told i, same_map told i)) (merges.early e told_s (on told));
         complete = λ told m here calm calm_say. elim merges.status_is [
           | inl (inl (inl e)) ↦ inl e

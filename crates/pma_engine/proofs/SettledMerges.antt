@@ -38,6 +38,7 @@ module _ {T : Type 0} {r : Result T StoreFault} (s t : StoreView) (a b : View) (
     held = λ told. may_keep s0 (λ line. SaidTold a → BeginsLine a.said b.said line) reply.OneSegment tt (λ said. none_begun a.said b.said settles.meant.frame.said reply.OneSegment) (keeps_settled s t a b opened settles told);
     merged = λ e. absurd (elim e [ inl x ↦ omega (arith, x) | inr x ↦ omega (arith, x) ]);
     whole = λ e. absurd (elim e [ inl x ↦ omega (arith, x) | inr x ↦ omega (arith, x) ]);
+    counted = λ e. absurd (elim e [ inl x ↦ omega (arith, x) | inr x ↦ omega (arith, x) ]);
     settled = λ e. absurd (elim e [ inl x ↦ omega (arith, x) | inr x ↦ omega (arith, x) ]);
     kept = λ not_done not_disk. absurd (not_disk refl);
     silent = λ not_done other. settles.meant.frame.said;
@@ -93,13 +94,16 @@ module _ {T : Type 0} {r : Result T StoreFault} (s t : StoreView) (a b : View) (
         (λ said. subst (λ (x : List ℕ). SaysMerged status x d.said (merged_line is.0)) settles.meant.frame.said (is.2 (on_said said))),
       );
       whole = merges.whole;
+      counted = λ e told said.
+          let is = merges.counted e told (on_said said) in
+          record { format = is.format; found = is.found; text = is.text; line = subst (λ (x : List ℕ). SaysMerged status x d.said (merged_line is.found)) settles.meant.frame.said is.line };
       settled = merges.settled;
       kept = λ not_done not_disk image left. keeps_on (keeps_settled s t a b opened settles (told_back image left)) (merges.kept not_done not_disk image left);
       silent = λ not_done other. merges.silent not_done other ∙ settles.meant.frame.said;
       line = λ e told. let last = merges.line e (on_said told) in (last.0, last.1, since last.0 last.2);
       why = λ e told. let last = merges.why e (on told) in (last.0, subst (λ (m : Map). AnswersMerge s.place.layout m s0 last.0) (same_map told) last.1, (λ said. since last.0 (last.2 (on_said said))));
       takes = merges.takes;
-      too_long = λ e told_s told. merges.too_long e told_s (on told);
+      too_long = merges.too_long;
       early = λ e told_s told. subst (λ (m : Map). IsMergeCutEarly s.place.layout m s0 s1) (same_map told) (merges.early e told_s (on told));
       admitted = λ told_s told edits text short calm calm_say. merges.admitted told_s (on told) edits (subst (λ (m : Map). HasEdits s.place.layout m s0 edits) (sym (same_map told)) text) short
           (λ rose. calm (omega (arith, rose, settles.meant.frame.disk_faults))) (λ rose. calm_say (omega (arith, rose, settles.meant.frame.say_faults)));

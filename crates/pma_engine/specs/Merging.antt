@@ -22,7 +22,7 @@ use Rattle.bulk_load.specs.Loading.{TakesAtMost}
 use Rattle.bulk_load.specs.Loads.{IsLeastHeight, most_records}
 use Rattle.bulk_load.specs.MergeText.{BeginsMerge, IsFirstUnmerged, IsMergeText, IsMergeUnfinished, IsMergedFull, count_edits, edits_in, front_rows, map_after_edits}
 use Rattle.bulk_load.specs.Spreading.{load_calls, used_by}
-use Rattle.bulk_load.specs.Updates.{counts_by}
+use Rattle.bulk_load.specs.Updates.{CountsText, counts_by}
 use Rattle.bulk_load.specs.declared.fault.LoadFault.{LoadFault}
 use Rattle.bulk_load.specs.declared.merged.Merged.{Merged}
 use Rattle.command_text.specs.Reply.{reply_text}
@@ -101,6 +101,14 @@ abbrev pub IsMerged : SourceView → (Reply → Type 0) → List ℕ → List �
 IsMerged s IsSaid old new = (opening_reason old ≡ None) × ((found : ItemCounts)
     × IsFileMerged (layout_in old) (meant_map old) s found new × IsSaid (merged_line found))
 
+-- the source was read to its end, and gave a merge text of fewer bytes than may be taken
+pub record IsMergeWhole (most : ℕ) (s0 s1 : SourceView) : Type 0 where
+  pub format : ℕ
+  pub edits : List Update
+  pub text : IsMergeText format (raw_lines s0.left) edits
+  pub all : s1.left ≡ []
+  pub short : length s0.left < most
+
 -- Line n is refused by a store that may hold that many records, beside this map: it is the first that no merge text can have
 -- there, or one more than there are, where the lines end before the one with the number of updates; and up to the key of the
 -- last update before it no more records result than that.
@@ -108,8 +116,8 @@ pub record IsUpdateRefusedAt (format most : ℕ) (m : Map) (lines : List (List �
   pub why : IsFirstUnmerged format lines n ⊎ (IsMergeUnfinished format lines × (n ≡ length lines + 1))
   pub few : length (front_rows (edits_in format (take (n - 1) lines)) (entries m)) ≤ most
 
--- more records result than that many: some merge text begins with a front of the lines, and after each that does this map has
--- more; or they are a merge text, after which it has more
+-- more records result than that many: some merge text begins with a front of the lines, up to the key of whose last update more
+-- result, whatever lines follow; or they are a merge text, after which this map has more
 abbrev pub ResultsInMore : ℕ → ℕ → Map → List (List ℕ) → Type 0
 ResultsInMore format most m lines = IsMergedFull format most m lines
     ⊎ ((edits : List Update) × IsMergeText format lines edits × (most < len (map_after_edits m edits)))
@@ -166,6 +174,19 @@ merge_reads l height = segment_size l * 2 ^ height + segment_size l * used_by (m
 abbrev pub merge_calls : Layout → ℕ → ℕ
 merge_calls l height = 2 ^ height + load_calls l (most_records l) (2 ^ height_limit l) + 512
 
+-- of what was said the line is all, with 0, and a part, with 6
+pub record SaysMerged (status : ℕ) (said_before said : List ℕ) (line : Reply) : Type 0 where
+  pub done : status ≡ DONE → said ≡ said_before ++ reply_text line
+  pub cut : status ≡ REPLY_FAULT → IsPartSaid (reply_text line) said_before said
+
+-- the source gave a merge text, whose updates a line counts once each, and those that bind a key as stored or replaced; and this
+-- line was said
+pub record CountsMerged (status : ℕ) (s : SourceView) (said_before said : List ℕ) : Type 0 where
+  pub format : ℕ
+  pub found : ItemCounts
+  pub text : CountsText format (raw_lines s.left) found
+  pub line : SaysMerged status said_before said (merged_line found)
+
 -- `merge`, of whose text at most that many bytes are taken
 pub record MergesFile (status most : ℕ) (s0 s1 : SourceView) (a b : View) : Type 0 where
   -- Of a valid store: if nothing is pending at the entry, a crash at any moment leaves a file that has the layout of the one at
@@ -174,16 +195,18 @@ pub record MergesFile (status most : ℕ) (s0 s1 : SourceView) (a b : View) : Ty
   -- the status.
   pub steps : NothingPending a → Run (λ image said. MayMerge s0 (BeginsLine a.said said) a.held image) (attached_by false a) b
   pub held : Told a → MayMerge s0 (λ line. SaidTold a → BeginsLine a.said b.said line) a.held b.held
-  -- It ends with 0 and 6 only for a valid store, and for a text of fewer than `most` bytes that was read to its end. Then the
-  -- file has the layout of before and means its map after all updates of the text, which is a merge text, at the least height
-  -- that holds it; the records are spread over the segments of that height, every window is within its bounds, no intent is to be
+  -- It ends with 0 and 6 only for a valid store, and for a merge text of fewer than `most` bytes that was read to its end. Then
+  -- the file has the layout of before and means its map after all updates of the text, at the least height that holds it; the
+  -- records are spread over the segments of that height, every window is within its bounds, no intent is to be
   -- applied, and nothing is pending. With 0 the line with what the updates found was said, and with 6 one byte of it or more
   -- was not.
   pub done : status ≡ DONE → Told a → IsMerged s0 (λ line. SaidTold a → b.said ≡ a.said ++ reply_text line) a.held b.held
   pub cut : status ≡ REPLY_FAULT → Told a →
       IsMerged s0 (λ line. SaidTold a → IsPartSaid (reply_text line) a.said b.said) a.held b.held
-  pub whole : IsMergeDone status → SourceTold s0 → (s1.left ≡ []) × (length s0.left < most)
+  pub whole : IsMergeDone status → SourceTold s0 → IsMergeWhole most s0 s1
   pub settled : IsMergeDone status → NothingPending b
+  -- With 0 and 6 the line counts the updates of the text, as `CountsMerged` says, whatever the station tells of its file.
+  pub counted : IsMergeDone status → SourceTold s0 → SaidTold a → CountsMerged status s0 a.said b.said
   -- With 0, 5, 6 and 8 a file of version 3 or 4 has an even clean gate.
   pub shut : IsRest status ⊎ (status ≡ REPLY_FAULT) → Told a → IsShut b.held
   -- With 3, 5, 7 and 8, of a valid store with nothing pending at the entry: the held bytes, and each image that a crash leaves
@@ -195,10 +218,9 @@ pub record MergesFile (status most : ℕ) (s0 s1 : SourceView) (a b : View) : Ty
   pub refused : status ≡ REFUSED → IsMergeRefused s0 a b
   -- With 7 it is as `IsOutOfMemory` says.
   pub memory : status ≡ OUT_OF_MEMORY → IsOutOfMemory (attached_by false a) b
-  -- At every status what was taken is a front of what was left, of at most `most` bytes; with 8, if the station tells its
-  -- bytes, of exactly as many.
+  -- At every status what was taken is a front of what was left, of at most `most` bytes; with 8 of exactly as many.
   pub takes : SourceTold s0 → TakesAtMost most s0 s1
-  pub too_long : status ≡ TOO_LONG → SourceTold s0 → Told a → length s0.left ≡ length s1.left + most
+  pub too_long : status ≡ TOO_LONG → SourceTold s0 → length s0.left ≡ length s1.left + most
   -- With 5 and 8 the complete lines among the bytes that were taken make no refusal due: some merge text begins with them, and up
   -- to the key of their last update no more records result than the store may hold.
   pub early : IsCutText status → SourceTold s0 → Told a → IsMergeCutEarly (layout_in a.held) (meant_map a.held) s0 s1
@@ -228,11 +250,6 @@ pub record MergesFile (status most : ℕ) (s0 s1 : SourceView) (a b : View) : Ty
   pub calls : Told a → CallsOpening (reopening_calls a.held + (clear_calls (layout_in a.held)
       + merge_calls (layout_in a.held) (opened_height a.held))) (attached_by false a) b
 
--- of what was said the line is all, with 0, and a part, with 6
-pub record SaysMerged (status : ℕ) (said_before said : List ℕ) (line : Reply) : Type 0 where
-  pub done : status ≡ DONE → said ≡ said_before ++ reply_text line
-  pub cut : status ≡ REPLY_FAULT → IsPartSaid (reply_text line) said_before said
-
 -- the outcome of a merge into an open store of this layout and height, on whose station nothing is pending, where that many
 -- bytes may be written and that many calls be made before the text is read; its file has no intent that is to be applied
 pub record MergesOpened (status most : ℕ) (l : Layout) (height before asked : ℕ) (s0 s1 : SourceView) (a b : View) : Type 0 where
@@ -241,7 +258,8 @@ pub record MergesOpened (status most : ℕ) (l : Layout) (height before asked : 
   pub held : Told a → MayMerge s0 (λ line. SaidTold a → BeginsLine a.said b.said line) a.held b.held
   pub merged : IsMergeDone status → Told a → (found : ItemCounts) × IsFileMerged l (map_of a.held) s0 found b.held
       × (SaidTold a → SaysMerged status a.said b.said (merged_line found))
-  pub whole : IsMergeDone status → SourceTold s0 → (s1.left ≡ []) × (length s0.left < most)
+  pub whole : IsMergeDone status → SourceTold s0 → IsMergeWhole most s0 s1
+  pub counted : IsMergeDone status → SourceTold s0 → SaidTold a → CountsMerged status s0 a.said b.said
   pub settled : IsMergeDone status → NothingPending b
   pub kept : (IsMergeDone status → ⊥) → (status ≡ DISK_FAULT → ⊥) → EachHeld (KeepsMeaning a.held) b
   pub silent : (IsMergeDone status → ⊥) → (status ≡ REFUSED → ⊥) → b.said ≡ a.said
@@ -249,7 +267,7 @@ pub record MergesOpened (status most : ℕ) (l : Layout) (height before asked : 
   pub why : status ≡ REFUSED → Told a →
       (line : Reply) × AnswersMerge l (map_of a.held) s0 line × (SaidTold a → SaysLine line a.said a b)
   pub takes : SourceTold s0 → TakesAtMost most s0 s1
-  pub too_long : status ≡ TOO_LONG → SourceTold s0 → Told a → length s0.left ≡ length s1.left + most
+  pub too_long : status ≡ TOO_LONG → SourceTold s0 → length s0.left ≡ length s1.left + most
   pub early : IsCutText status → SourceTold s0 → Told a → IsMergeCutEarly l (map_of a.held) s0 s1
   pub admitted : SourceTold s0 → Told a → (edits : List Update) → HasEdits l (map_of a.held) s0 edits → length s0.left < most →
       (Rose a.disk_faults b.disk_faults → ⊥) → (Rose a.say_faults b.say_faults → ⊥) → (SourceRose s0 s1 → ⊥) → status ≡ DONE

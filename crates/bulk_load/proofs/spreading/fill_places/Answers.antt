@@ -35,15 +35,15 @@ loop-f-init g c = record {
 }
 
 -- the next share, and where it ends
-some : (g : _) (c : After-share-size g) → 0 < c.args.segments
+some : (g : _) (c : After-share-size g) → 0 < c.args.part.segments
 some g c = omega (arith, c.requires.inside, c.loop-f.invariant.within, c.loop-f-test.true)
 
-ends : (g : _) (c : After-share-size g) → c.share-size.result + (c.args.low + (c.loop-f.f - 1)) * c.args.records / c.args.segments ≡ c.loop-f.packed.rest
+ends : (g : _) (c : After-share-size g) → c.share-size.result + (c.args.part.low + (c.loop-f.f - 1)) * c.args.part.records / c.args.part.segments ≡ c.loop-f.packed.rest
 ends g c =
-    let t = c.args.low + (c.loop-f.f - 1) in
-    let next : t + 1 ≡ c.args.low + c.loop-f.f = omega (arith, c.loop-f-test.true) in
-    ap (λ (k : ℕ). k + t * c.args.records / c.args.segments) c.share-size.ensures ∙ share_ends c.args.records c.args.segments t (some g c)
-    ∙ ap (λ (k : ℕ). k * c.args.records / c.args.segments) next ∙ sym c.loop-f.invariant.rest
+    let t = c.args.part.low + (c.loop-f.f - 1) in
+    let next : t + 1 ≡ c.args.part.low + c.loop-f.f = omega (arith, c.loop-f-test.true) in
+    ap (λ (k : ℕ). k + t * c.args.part.records / c.args.part.segments) c.share-size.ensures ∙ share_ends c.args.part.records c.args.part.segments t (some g c)
+    ∙ ap (λ (k : ℕ). k * c.args.part.records / c.args.part.segments) next ∙ sym c.loop-f.invariant.rest
 
 wide : (g : _) (c : After-share-size g) → places c.args.place.now.layout.format c.loop-f.frames ≡ places c.args.place.now.layout.format c.args.frames.now
 wide g c = ap (λ (b : Batch). places c.args.place.now.layout.format b) c.loop-f.invariant.slots
@@ -58,7 +58,7 @@ fill_share-requires-clause-none g c =
 
 pub fill_share-requires-clause-few : goal.fill_share-requires-clause-few
 fill_share-requires-clause-few g c =
-    omega (arith, c.share-size.ensures, share-le c.args.records c.args.segments (c.args.low + (c.loop-f.f - 1)) (some g (goal.at.fill_share-requires-clause-few g c).After-share-size) c.requires.room)
+    omega (arith, c.share-size.ensures, share-le c.args.part.records c.args.part.segments (c.args.part.low + (c.loop-f.f - 1)) (some g (goal.at.fill_share-requires-clause-few g c).After-share-size) c.requires.room)
 
 pub fill_share-requires-clause-enough : goal.fill_share-requires-clause-enough
 fill_share-requires-clause-enough g c = omega (arith, ends g (goal.at.fill_share-requires-clause-enough g c).After-share-size)
@@ -67,7 +67,7 @@ pub returns-in_err-fill_share-clause-reads : goal.returns-in_err-fill_share-clau
 returns-in_err-fill_share-clause-reads g c =
     let p = err_from_is_err_and c.from_residual.result c.from_residual.ensures.1 in
     let inv = c.loop-f.invariant in
-    laws.packed_on_err c.args.place.now c.args.records c.args.packed.now c.loop-f.packed c.fill_share.new.packed c.args.frames.now c.loop-f.frames c.fill_share.new.frames
+    laws.packed_on_err c.args.place.now c.args.part.records c.args.packed.now c.loop-f.packed c.fill_share.new.packed c.args.frames.now c.loop-f.frames c.fill_share.new.frames
     (g.S.Station.view c.args.station.now) (g.S.Station.view c.loop-f.station) (g.S.Station.view c.fill_share.new.station) inv.are inv.room inv.unread inv.slots inv.steps inv.unwritten inv.read
     c.from_residual.result c.in_err-fill_share.field-0.0 (rw p.2 at p.1) c.in_err-fill_share.ensures.reads
 
@@ -78,8 +78,8 @@ loop-f-preserved g c =
     let done = c.in_ok-fill_share.ensures in
     let format = c.args.place.now.layout.format in
     let f = c.loop-f.f - 1 in
-    let rest : c.fill_share.new.packed.rest ≡ (c.args.low + f) * c.args.records / c.args.segments = omega (arith, done.rest, ends g at) in
-    let next : c.args.low + f + 1 ≡ c.args.low + c.loop-f.f = omega (arith, c.loop-f-test.true) in
+    let rest : c.fill_share.new.packed.rest ≡ (c.args.part.low + f) * c.args.part.records / c.args.part.segments = omega (arith, done.rest, ends g at) in
+    let next : c.args.part.low + f + 1 ≡ c.args.part.low + c.loop-f.f = omega (arith, c.loop-f-test.true) in
     record {
       within = omega (arith, inv.within);
       packed = done.reads.packed;
@@ -93,16 +93,16 @@ loop-f-preserved g c =
       steps = same_on inv.steps done.reads.steps;
       unwritten = done.reads.unwritten ∙ inv.unwritten;
       read = omega (arith, done.reads.read, inv.read);
-      calls = parts_on _ _ _ _ _ _ _ _ inv.calls (subst (λ (room : ℕ). GoesInParts room (used_by c.args.records) (used_by c.args.records - c.loop-f.packed.unread) (used_by c.args.records - c.fill_share.new.packed.unread) (g.S.Station.view c.loop-f.station).calls (g.S.Station.view c.fill_share.new.station).calls) inv.room done.calls);
+      calls = parts_on _ _ _ _ _ _ _ _ inv.calls (subst (λ (room : ℕ). GoesInParts room (used_by c.args.part.records) (used_by c.args.part.records - c.loop-f.packed.unread) (used_by c.args.part.records - c.fill_share.new.packed.unread) (g.S.Station.view c.loop-f.station).calls (g.S.Station.view c.fill_share.new.station).calls) inv.room done.calls);
       can = fill_same c.args.place.now c.loop-f.frames c.fill_share.new.frames inv.can (ap (λ (b : Batch). b.journal) done.reads.rest) done.reads.steps;
       are = λ told rows are. done.reads.are (told_on inv.steps.frame told) rows (inv.are told rows are);
       filled = λ told rows are i le lt. elim (cases_eq i f) [
         | inl e ↦
             ap (λ (k : ℕ). share_in format (c.args.packed.now.room + k) c.fill_share.new.frames) e ∙ ap (λ (r : ℕ). share_in format (r + f) c.fill_share.new.frames) (sym inv.room)
             ∙ done.filled (told_on inv.steps.frame told) rows (inv.are told rows are)
-            ∙ share_run c.args.records c.args.segments (c.args.low + f) c.fill_share.new.packed.rest c.loop-f.packed.rest rows (omega (arith, e, lt, c.requires.inside)) are.count rest
-            (inv.rest ∙ ap (λ (k : ℕ). k * c.args.records / c.args.segments) (sym next))
-            ∙ ap (λ (k : ℕ). segment_at (spread_over c.args.segments rows) (c.args.low + k)) (sym e)
+            ∙ share_run c.args.part.records c.args.part.segments (c.args.part.low + f) c.fill_share.new.packed.rest c.loop-f.packed.rest rows (omega (arith, e, lt, c.requires.inside)) are.count rest
+            (inv.rest ∙ ap (λ (k : ℕ). k * c.args.part.records / c.args.part.segments) (sym next))
+            ∙ ap (λ (k : ℕ). segment_at (spread_over c.args.part.segments rows) (c.args.part.low + k)) (sym e)
         | inr other ↦
             done.others (c.args.packed.now.room + i) (omega (arith, inv.room)) (omega (arith, wide g at, c.requires.frames, lt)) (λ e. other (omega (arith, e, inv.room)))
             ∙ inv.filled told rows are i (omega (arith, le, other)) lt
@@ -128,7 +128,7 @@ returns-clause-reads g c =
     }
 
 pub returns-clause-rest : goal.returns-clause-rest
-returns-clause-rest g c = let none : c.args.low + c.loop-f.f ≡ c.args.low = omega (arith, c.loop-f-test.false) in c.loop-f.invariant.rest ∙ ap (λ (k : ℕ). k * c.args.records / c.args.segments) none
+returns-clause-rest g c = let none : c.args.part.low + c.loop-f.f ≡ c.args.part.low = omega (arith, c.loop-f-test.false) in c.loop-f.invariant.rest ∙ ap (λ (k : ℕ). k * c.args.part.records / c.args.part.segments) none
 
 pub returns-clause-filled : goal.returns-clause-filled
 returns-clause-filled g c told rows are i lt = c.loop-f.invariant.filled told rows are i (omega (arith, c.loop-f-test.false)) lt
@@ -143,8 +143,8 @@ returns-in_err-fill_share-clause-tried g c =
     let inv = c.loop-f.invariant in
     let last = c.fill_share.ensures.tried in (
       last.0,
-      parts_on _ _ _ _ _ _ _ _ inv.calls (subst (λ (room : ℕ). GoesInParts room (used_by c.args.records) (used_by c.args.records - c.loop-f.packed.unread) last.0 (g.S.Station.view c.loop-f.station).calls (g.S.Station.view c.fill_share.new.station).calls) inv.room last.1),
+      parts_on _ _ _ _ _ _ _ _ inv.calls (subst (λ (room : ℕ). GoesInParts room (used_by c.args.part.records) (used_by c.args.part.records - c.loop-f.packed.unread) last.0 (g.S.Station.view c.loop-f.station).calls (g.S.Station.view c.fill_share.new.station).calls) inv.room last.1),
     )
 
 pub returns-clause-tried : goal.returns-clause-tried
-returns-clause-tried g c = (used_by c.args.records - c.loop-f.packed.unread, c.loop-f.invariant.calls)
+returns-clause-tried g c = (used_by c.args.part.records - c.loop-f.packed.unread, c.loop-f.invariant.calls)

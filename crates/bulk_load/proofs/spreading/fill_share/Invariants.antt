@@ -12,13 +12,13 @@ use Rattle.bulk_load.proofs.spreading.fill_share.Given as goal
 
 abbrev pub invariant-loop-have : goal.invariant-loop-have
 invariant-loop-have g l = record {
-  within : l.have ≤ l.share;
+  within : l.have ≤ l.to.size;
   packed : IsPacked l.place.layout.format l.records l.frames l.packed;
   room : l.packed.room ≡ l.fn.packed.room;
   unread : l.packed.unread ≤ l.fn.packed.unread;
   rest : l.packed.rest + l.have ≡ l.fn.packed.rest;
-  filled : length (share_in l.place.layout.format l.f l.frames) ≡ l.have;
-  others : (i : ℕ) → l.fn.packed.room ≤ i → i < places l.place.layout.format l.fn.frames → i ≢ l.f → share_in l.place.layout.format i l.frames ≡ share_in l.place.layout.format i l.fn.frames;
+  filled : length (share_in l.place.layout.format l.to.place l.frames) ≡ l.have;
+  others : (i : ℕ) → l.fn.packed.room ≤ i → i < places l.place.layout.format l.fn.frames → i ≢ l.to.place → share_in l.place.layout.format i l.frames ≡ share_in l.place.layout.format i l.fn.frames;
   slots : l.frames ≡ record l.fn.frames { slots = l.frames.slots };
   steps : Steps Same (g.S.Station.view l.fn.station) (g.S.Station.view l.station);
   unwritten : (g.S.Station.view l.station).travel.written ≡ (g.S.Station.view l.fn.station).travel.written;
@@ -27,9 +27,9 @@ invariant-loop-have g l = record {
   can : CanFill l.place l.frames (g.S.Station.view l.station);
   are : Told (g.S.Station.view l.fn.station) → (rows : List Record) → ArePacked l.place l.records rows l.fn.packed l.fn.frames (g.S.Station.view l.fn.station).held → ArePacked l.place l.records rows l.packed l.frames (g.S.Station.view l.station).held;
   share : Told (g.S.Station.view l.fn.station) → (rows : List Record) → ArePacked l.place l.records rows l.fn.packed l.fn.frames (g.S.Station.view l.fn.station).held →
-      share_in l.place.layout.format l.f l.frames ≡ slice_range rows l.packed.rest l.fn.packed.rest;
+      share_in l.place.layout.format l.to.place l.frames ≡ slice_range rows l.packed.rest l.fn.packed.rest;
 }
 
 -- each segment is read once, and each record moved once
 abbrev pub decreases-loop-have : goal.decreases-loop-have
-decreases-loop-have g l = l.packed.unread + (l.share - l.have)
+decreases-loop-have g l = l.packed.unread + (l.to.size - l.have)

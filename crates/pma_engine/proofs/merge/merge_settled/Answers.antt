@@ -42,6 +42,7 @@ returns g c =
     let same : s ≡ c.args.store = (λ t. record { place = is.place t; tally = is.tally t; index = is.index t; journal = is.journal t; turn = is.turn t; closed = c.args.store.closed }) in
     let facts : Facts c.args.most c.merge_rows-merged.result s s0 s1 a b = facts_from c.args.most c.new-reader.result c.new-reader.ensures c.merge_rows-merged.result s s0 s1 a b (record {
       merged = does.merged;
+      counted = does.counted;
       whole = does.whole;
       takes = does.takes;
       settled = does.settled;
@@ -51,6 +52,7 @@ returns g c =
       most_calls = does.most_calls;
       reads = does.reads;
       fault = does.fault;
+      text = does.text;
       kept = does.kept;
       failed = does.failed;
     }) in
