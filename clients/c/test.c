@@ -338,7 +338,7 @@ static void deaths(void)
     } rows[] = {
         {"printf 'stor'; kill -9 $$", PMA_UNKNOWN, PMA_STOPPED}, {"printf 'stored'; exit 4", PMA_UNKNOWN, PMA_DISK},
         {"echo refused slot 3 4; exit 3", PMA_UNKNOWN, PMA_REFUSED}, {"echo hello; cat", PMA_UNKNOWN, PMA_UNEXPECTED},
-        {"yes | tr -d '\\n'", PMA_UNKNOWN, PMA_UNEXPECTED}, {"echo stored; cat >/dev/null", PMA_OK, PMA_OK},
+        {"exec 2>/dev/null; yes | tr -d '\\n'", PMA_UNKNOWN, PMA_UNEXPECTED}, {"echo stored; cat >/dev/null", PMA_OK, PMA_OK},
         {"echo full 64; cat >/dev/null", PMA_FULL, PMA_OK}, {"echo no batch; cat >/dev/null", PMA_NO_BATCH, PMA_OK},
         {"echo hello; sleep 60", PMA_UNKNOWN, PMA_UNEXPECTED}, {"exec <&- >&-; sleep 60", PMA_UNKNOWN, PMA_STOPPED},
         {"for piece in sto red '\\n'; do printf $piece; sleep 0.05; done; cat >/dev/null", PMA_OK, PMA_OK},
@@ -375,7 +375,7 @@ static void stops(void)
     pid_t child = signaler(pma_pid(store), SIGCONT, 100000);
     DUE(put(store, "a", "2") == PMA_OK && waitpid(child, NULL, 0) == child);
     DUE(!kill((pid_t)pma_pid(store), SIGSTOP));
-    child = signaler(pma_pid(store), SIGKILL, 100000);
+    child = signaler(pma_pid(store), SIGKILL, 400000);
     DUE(put(store, "a", "3") == PMA_UNKNOWN && pma_cause(store) == PMA_STOPPED && waitpid(child, NULL, 0) == child);
     DUE(pma_close(store) == PMA_OK);
     for (int way = 0; way < 3; way++) {
@@ -400,7 +400,7 @@ static void interrupted_callers(void)
     pid_t child = fork();
     if (child == 0) {
         store = opened("interrupted");
-        signaler(getpid(), SIGINT, 50000);
+        signaler(getpid(), SIGINT, 300000);
         while (put(store, "a", "2") == PMA_OK)
             ;
         _exit(1);

@@ -15,6 +15,9 @@ SEED, KILLS = 7, 18
 LINES = [b"record a 9\n", b"remove b\n", b"record c\n", b"remove d\n", b"end 4\n"]
 MERGED = {b"a": b"9", b"c": b""}
 CHANGES = pma.Changes(stored=1, replaced=1, removed=1, absent=1)
+# Has the file "$2" for two seconds, from behind this line on.
+HOLD = (f'({{ echo check; sleep 2; }} | "{PROGRAM}" run "$2" >"$2.held") </dev/null >/dev/null & '
+        'until [ -s "$2.held" ]; do sleep 0.05; done')
 
 
 class Pieces:
@@ -35,6 +38,14 @@ class BulkTest(StoreCase):
         store = pma.Store(program, os.fsencode(self.file), False, timeout)
         self.addCleanup(close_anyhow, store)
         return store
+
+    def open_once_free(self):
+        for _ in range(200):
+            try:
+                return self.open("w")
+            except pma.InUse:
+                time.sleep(0.05)
+        return self.open("w")
 
     def test_what_a_merge_takes(self):
         text, path = b"".join(LINES), os.path.join(self.folder, "text")
@@ -161,12 +172,14 @@ class BulkTest(StoreCase):
         def ask():
             while not done.is_set():
                 found.append(store[b"0000"])
-        done, found = threading.Event(), []
+                begun.set()
+        begun, done, found = threading.Event(), threading.Event(), []
         with self.open(height=8) as store:
             store[b"0000"] = b"0"
             threads = [threading.Thread(target=ask) for _ in range(3)]
             for thread in threads:
                 thread.start()
+            begun.wait()
             try:
                 for turn in range(1, 6):
                     store.merge({b"%04d" % n: b"%d" % turn for n in range(2000)})
@@ -241,22 +254,20 @@ class BulkTest(StoreCase):
             store.close()
 
     def test_a_merge_of_a_store_that_is_in_use_by_then(self):
-        store = self.pretend(f'sleep 1 | "{PROGRAM}" run "$2" >/dev/null & sleep 0.3; exec "{PROGRAM}" "$@"')
+        store = self.pretend(f'{HOLD}; exec "{PROGRAM}" "$@"')
         self.assertRaises(pma.InUse, store.merge, {b"a": b"1"})
         self.assertRaises(pma.InUse, len, store)
         self.assertRaises(pma.InUse, store.__setitem__, b"a", b"1")
         store.close()
-        time.sleep(1)
-        self.assertEqual(len(self.open()), 0)
+        self.assertEqual(len(self.open_once_free()), 0)
 
     def test_a_store_that_is_taken_behind_a_merge(self):
-        store = self.pretend(f'"{PROGRAM}" "$@"; (sleep 1 | "{PROGRAM}" run "$2") </dev/null >/dev/null & sleep 0.3')
+        store = self.pretend(f'"{PROGRAM}" "$@"; {HOLD}')
         self.assertEqual(store.merge({b"a": b"1"}), pma.Changes(1, 0, 0, 0))  # it is made
         self.assertRaises(pma.InUse, store.get, b"a")
         store.close()
         store.close()
-        time.sleep(1)
-        self.assertEqual(dict(self.open()), {b"a": b"1"})
+        self.assertEqual(dict(self.open_once_free()), {b"a": b"1"})
 
     def test_a_program_that_is_gone(self):
         store = self.pretend("exit 9")
@@ -291,7 +302,7 @@ class BulkTest(StoreCase):
 
     def test_timeout(self):
         for script, rows, error in (("sleep 60", 50000, pma.TimedOut), ("cat >/dev/null; sleep 60", 1, pma.OutcomeUnknown)):
-            store = self.pretend(script, 0.3)
+            store = self.pretend(script, 1)
             with self.assertRaises(error):
                 store.merge((b"%06d" % n, b"") for n in range(rows))
             self.assertEqual(len(store), 0)

@@ -22,6 +22,21 @@ def sent_ahead(store, count):
             ahead.put(b"%d" % n, b"x")
 
 
+def once_sent(store, count, do, *words):
+    """Does this a moment after so many lines of the next requests were sent."""
+    def wait():
+        for _ in range(2000):
+            if store._run._sent >= count:
+                break
+            time.sleep(0.01)
+        time.sleep(0.05)
+        do(*words)
+    store._run._sent = 0
+    thread = threading.Thread(target=wait)
+    thread.start()
+    return thread
+
+
 class FaultTest(StoreCase):
     def pretend(self, script):
         """A store on a program of these shell lines, once it is opened."""
@@ -78,8 +93,7 @@ class FaultTest(StoreCase):
             store = self.open()
             store[b"a"] = b"1"
             os.kill(store.pid, signal.SIGSTOP)
-            killer = threading.Timer(0.1, os.kill, (store.pid, signal.SIGKILL))
-            killer.start()
+            killer = once_sent(store, 1, os.kill, store.pid, signal.SIGKILL)
             with self.assertRaises(error) as caught:
                 request(store)
             killer.join()
@@ -104,7 +118,7 @@ class FaultTest(StoreCase):
                                (lambda store: sent_ahead(store, 100000), pma.OutcomeUnknown)):
             with self.open(height=12) as store:
                 store[b"a"] = b"1"
-            store = self.open(height=12, timeout=0.3)
+            store = self.open(height=12, timeout=1)
             os.kill(store.pid, signal.SIGSTOP)
             begun = time.monotonic()
             with self.assertRaises(error) as caught:
@@ -132,8 +146,7 @@ class FaultTest(StoreCase):
         os.kill(store.pid, signal.SIGSTOP)
         pipeline = store.pipeline()
         answers = [pipeline.put(b"%d" % n, b"x") for n in range(100000)]
-        killer = threading.Timer(0.5, os.kill, (store.pid, signal.SIGKILL))
-        killer.start()
+        killer = once_sent(store, 100, os.kill, store.pid, signal.SIGKILL)
         self.assertRaises(pma.OutcomeUnknown, pipeline.__exit__, None, None, None)
         killer.join()
         self.assertRaises(pma.OutcomeUnknown, answers[0].result)
@@ -152,14 +165,15 @@ class FaultTest(StoreCase):
         answers = [pipeline.put(b"%d" % n, b"x") for n in range(100000)]
         before = signal.signal(signal.SIGALRM, interrupt)
         try:
-            signal.setitimer(signal.ITIMER_REAL, 0.3)
+            killer = once_sent(store, 100, os.kill, os.getpid(), signal.SIGALRM)
             self.assertRaises(KeyboardInterrupt, pipeline.__exit__, None, None, None)
         finally:
             signal.signal(signal.SIGALRM, before)
         kinds = [type(answer._error) for answer in answers]
         sent = kinds.count(pma.OutcomeUnknown)
         self.assertEqual(kinds, [pma.OutcomeUnknown] * sent + [pma.Ended] * (100000 - sent))
-        self.assertTrue(100 < sent < 100000, sent)
+        self.assertTrue(100 <= sent < 100000, sent)
+        killer.join()
         begun = time.monotonic()
         store.close()  # though the program is stopped
         self.assertLess(time.monotonic() - begun, 10)
@@ -178,7 +192,7 @@ class FaultTest(StoreCase):
         words = [sys.executable, "-c", script, PYTHON, self.file, PROGRAM]
         with subprocess.Popen(words, stdout=subprocess.PIPE, start_new_session=True) as caller:
             self.assertEqual(caller.stdout.readline(), b"here\n")
-            time.sleep(0.2)
+            time.sleep(0.5)
             os.killpg(caller.pid, signal.SIGINT)  # as the terminal does
             said, _ = caller.communicate(timeout=20)
         self.assertEqual((said, caller.returncode), (b"1\n", 0))

@@ -63,13 +63,13 @@ module _ (place : Place) (a : Ahead) (is : IsAhead place a) where
   -- the records ahead ascend
   pub ascending_left : (segments : Array) → LieAbove a.reader segments → IsAscending (left_in segments a)
   ascending_left segments in_order =
-      joined (at_hand a) (rows (drop a.reader.next segments)) (ascending_drop a.place a.page.rows is.fits.ascending) in_order.ascending
-      (last_drop a.place a.page.rows (rows (drop a.reader.next segments)) (behind_page a.reader.last a.page.rows (rows (drop a.reader.next segments)) is.last_is in_order.above))
+      joined (at_hand a) (rows (drop a.reader.next segments)) (ascending_drop a.index a.page.rows is.fits.ascending) in_order.ascending
+      (last_drop a.index a.page.rows (rows (drop a.reader.next segments)) (behind_page a.reader.last a.page.rows (rows (drop a.reader.next segments)) is.last_is in_order.above))
 
   -- the next record
-  module _ (r : Record) (there : slice_get a.page.rows a.place ≡ Some r) where
+  module _ (r : Record) (there : slice_get a.page.rows a.index ≡ Some r) where
     pub hand_is : at_hand a ≡ r ∷ at_hand (passed a)
-    hand_is = drop_at a.page.rows a.place r there
+    hand_is = drop_at a.page.rows a.index r there
 
     pub left_is : (segments : Array) → left_in segments a ≡ r ∷ left_in segments (passed a)
     left_is segments = ap (λ (l : List Record). l ++ rows (drop a.reader.next segments)) hand_is
@@ -77,9 +77,9 @@ module _ (place : Place) (a : Ahead) (is : IsAhead place a) where
     -- the others are above it
     pub above_passed : IsAbove (Some r.0) (passed a)
     above_passed = record {
-      here = parted (r ∷ []) (at_hand (passed a)) (subst IsAscending hand_is (ascending_drop a.place a.page.rows is.fits.ascending));
+      here = parted (r ∷ []) (at_hand (passed a)) (subst IsAscending hand_is (ascending_drop a.index a.page.rows is.fits.ascending));
       onward = λ none more rs behind.
-          ap (λ (l : List Record). begins_above (last_key l) rs) (sym (hand_is ∙ ap (λ (l : List Record). r ∷ l) none)) ∙ last_drop a.place a.page.rows rs (behind_page a.reader.last a.page.rows rs is.last_is behind);
+          ap (λ (l : List Record). begins_above (last_key l) rs) (sym (hand_is ∙ ap (λ (l : List Record). r ∷ l) none)) ∙ last_drop a.index a.page.rows rs (behind_page a.reader.last a.page.rows rs is.last_is behind);
     }
 
     -- and stay above what all of them were
@@ -311,8 +311,8 @@ none_left_over h stops = stops.all (by (at_hand h) stops.here)
     by (r ∷ l) is = absurd (true_false is)
 
 pub none_at_hand : (h : Ahead) → StopsAt None h → hand h ≡ 0
-none_at_hand h stops = elim (cases_lt h.place (length h.page.rows)) [
-  | inl lt ↦ absurd (hand_not h.place h.page.rows lt (by (at_hand h) stops.here))
+none_at_hand h stops = elim (cases_lt h.index (length h.page.rows)) [
+  | inl lt ↦ absurd (hand_not h.index h.page.rows lt (by (at_hand h) stops.here))
   | inr ge ↦ omega (arith, ge)
 ]
   where

@@ -184,7 +184,7 @@ module _ (place : Place) (h : Ahead) {a b : View} (live : ReadsLive place h a) (
     order = λ told_b. let told = told_back steps.frame told_b in subst (λ (s : Array). LieAbove h.reader s) (sym (array_on told)) (live.order told);
   }
 
-pub live_passed : (place : Place) (h : Ahead) (v : View) → h.place < length h.page.rows → ReadsLive place h v → ReadsLive place (passed h) v
+pub live_passed : (place : Place) (h : Ahead) (v : View) → h.index < length h.page.rows → ReadsLive place h v → ReadsLive place (passed h) v
 live_passed place h v lt live =
     let among = live.ahead in
     record {
@@ -216,7 +216,7 @@ amid_read x place s h f a b amid reads = record {
 }
 
 -- after the next record was packed and passed
-pub amid_packed : {X : Type 0} (x : X) (place : Place) (s : MergeRun) (t : Taken) (r : Record) (f g : Batch) (a b : View) → slice_get s.ahead.page.rows s.ahead.place ≡ Some r → s.ahead.place < length s.ahead.page.rows → IsAmid place s f a → PacksRow place r (Ok x) s.taken t f g a b → IsAmid place (record s { ahead = passed s.ahead; taken = t }) g b
+pub amid_packed : {X : Type 0} (x : X) (place : Place) (s : MergeRun) (t : Taken) (r : Record) (f g : Batch) (a b : View) → slice_get s.ahead.page.rows s.ahead.index ≡ Some r → s.ahead.index < length s.ahead.page.rows → IsAmid place s f a → PacksRow place r (Ok x) s.taken t f g a b → IsAmid place (record s { ahead = passed s.ahead; taken = t }) g b
 amid_packed x place s t r f g a b there lt amid packs =
     let live = live_on place s.ahead amid.live packs.steps in
     record {

@@ -31,14 +31,14 @@ upper k r low same =
     ] refl
 
 module _ (place : Place) (h : Ahead) (v : View) (live : ReadsLive place h v) (k : Bytes) (stops : StopsAt (Some k) h) where
-  met_at : begins_with k (at_hand h) ≡ true → (r : Record) × (slice_get h.page.rows h.place ≡ Some r) × (r.0 ≡ k) × (h.place < length h.page.rows)
-  met_at met = elim (cases_lt h.place (length h.page.rows)) [
-    | inl lt ↦ by (hand_some h.place h.page.rows lt) lt
-    | inr ge ↦ absurd (true_false (sym met ∙ ap (begins_with k) (hand_none h.place h.page.rows (omega (arith, ge, live.ahead.taken)))))
+  met_at : begins_with k (at_hand h) ≡ true → (r : Record) × (slice_get h.page.rows h.index ≡ Some r) × (r.0 ≡ k) × (h.index < length h.page.rows)
+  met_at met = elim (cases_lt h.index (length h.page.rows)) [
+    | inl lt ↦ by (hand_some h.index h.page.rows lt) lt
+    | inr ge ↦ absurd (true_false (sym met ∙ ap (begins_with k) (hand_none h.index h.page.rows (omega (arith, ge, live.ahead.taken)))))
   ]
     where
-      by : (r : Record) × (slice_get h.page.rows h.place ≡ Some r) → h.place < length h.page.rows → (r : Record) × (slice_get h.page.rows h.place ≡ Some r) × (r.0 ≡ k) × (h.place < length h.page.rows)
-      by s lt = (s.0, s.1, same_key s.0.0 k (equal _ (passes _ (ap (begins_with k) (sym (drop_at h.page.rows h.place s.0 s.1)) ∙ met))), lt)
+      by : (r : Record) × (slice_get h.page.rows h.index ≡ Some r) → h.index < length h.page.rows → (r : Record) × (slice_get h.page.rows h.index ≡ Some r) × (r.0 ≡ k) × (h.index < length h.page.rows)
+      by s lt = (s.0, s.1, same_key s.0.0 k (equal _ (passes _ (ap (begins_with k) (sym (drop_at h.page.rows h.index s.0 s.1)) ∙ met))), lt)
 
   unmet : begins_with k (at_hand h) ≡ false → IsAbove (Some k) h
   unmet isnt = record { here = by (at_hand h) stops.here isnt; onward = λ none more rs behind. absurd (more (stops.all none)) }

@@ -24,11 +24,11 @@ use Rattle.bulk_load.specs.declared.ahead.Ahead.{Ahead}
 
 -- those at hand
 abbrev pub at_hand : Ahead → List Record
-at_hand a = drop a.place a.page.rows
+at_hand a = drop a.index a.page.rows
 
 -- how many they are
 abbrev pub hand : Ahead → ℕ
-hand a = length a.page.rows - a.place
+hand a = length a.page.rows - a.index
 
 -- how many records the segments that were read have, by the counts that are kept
 abbrev pub read_by : Ahead → ℕ
@@ -36,7 +36,7 @@ read_by a = sum (take a.reader.next a.tally.now.counts)
 
 -- all of them, by the array of the region
 abbrev pub left_in : Array → Ahead → List Record
-left_in segments a = drop a.place a.page.rows ++ rows (drop a.reader.next segments)
+left_in segments a = drop a.index a.page.rows ++ rows (drop a.reader.next segments)
 
 -- The reading is amid the region of a place, for which a tally is kept, and that many records of the last segment were passed.
 pub record IsAhead (place : Place) (a : Ahead) : Type 0 where
@@ -46,7 +46,7 @@ pub record IsAhead (place : Place) (a : Ahead) : Type 0 where
   pub end_is : a.reader.end ≡ 2 ^ a.tally.now.height
   pub within : a.reader.next ≤ a.reader.end
   pub unfaulted : a.reader.faulted ≡ false
-  pub taken : a.place ≤ length a.page.rows
+  pub taken : a.index ≤ length a.page.rows
   pub fits : FitsSegment place.layout.format a.page.rows
   pub height : a.tally.now.height ≤ height_limit place.layout
   pub number : a.segment ≡ a.reader.next
@@ -95,7 +95,7 @@ begins_with key (r ∷ rs) = is_eq (key_cmp r.0 key)
 
 -- the next record was passed
 abbrev pub passed : Ahead → Ahead
-passed a = record a { place = a.place + 1 }
+passed a = record a { index = a.index + 1 }
 
 -- Some of the next segments were read, whatever was answered.
 pub record ReadsAhead {T : Type 0} (place : Place) (result : Result T StoreFault) (old new : Ahead) (a b : View) : Type 0 where

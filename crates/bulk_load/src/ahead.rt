@@ -39,8 +39,8 @@ pub(crate) struct Ahead<'a> {
     pub tally: &'a Tally,
     /// The segment that was read last.
     pub page: SegmentBuffer,
-    /// Its records from this place on weren't passed.
-    pub place: u32,
+    /// Its records from this index on weren't passed.
+    pub index: u32,
     /// The number of the next segment.
     pub segment: u32,
 }
@@ -62,7 +62,7 @@ pub(crate) fn all_ahead<'a>(place: &Place, tally: &'a Tally) -> Ahead<'a>
         reader: RegionReader::new(place.layout, place.region, 0, segments_at(tally.height())),
         tally,
         page: SegmentBuffer::new(),
-        place: 0,
+        index: 0,
         segment: 0,
     }
 }
@@ -75,7 +75,7 @@ pub(crate) fn next_below<S: Station>(
     key: &Option<Key>,
 ) -> Result<Option<Row>, StoreFault>
     requires live { ReadsLive place.now ahead.old (S.view station.old) }
-    ensures row { IfOk result (λ next. IfSome next (λ row. slice_get ahead.new.page.rows ahead.new.place
+    ensures row { IfOk result (λ next. IfSome next (λ row. slice_get ahead.new.page.rows ahead.new.index
         ≡ Some (record_of row))) }
     ensures under { IfOk result (λ next. IfSome next (λ row. begins_under key.now (record_of row ∷ []) ≡ true)) }
     ensures stops { IfOk result (λ next. IsNone next → StopsAt key.now ahead.new) }
@@ -85,16 +85,16 @@ pub(crate) fn next_below<S: Station>(
     if !more || !is_under(ahead, key) {
         return Ok(None);
     }
-    Ok(Some(ahead.page.rows().row(ahead.place)))
+    Ok(Some(ahead.page.rows().row(ahead.index)))
 }
 
 // Whether the record at hand is below a key, or there is no key.
 fn is_under(ahead: &Ahead<'_>, key: &Option<Key>) -> bool
-    requires { ahead.now.place < length ahead.now.page.rows }
+    requires { ahead.now.index < length ahead.now.page.rows }
     ensures { result ≡ begins_under key.now (at_hand ahead.now) }
 {
     match key {
-        Some(key) => ahead.page.rows().compare(ahead.place, key).is_lt(),
+        Some(key) => ahead.page.rows().compare(ahead.index, key).is_lt(),
         None => true,
     }
 }
@@ -106,12 +106,12 @@ fn reach<S: Station>(
     ahead: &mut Ahead<'_>,
 ) -> Result<bool, StoreFault>
     requires live { ReadsLive place.now ahead.old (S.view station.old) }
-    ensures some { IfOk result (λ more. more ≡ true → ahead.new.place < length ahead.new.page.rows) }
+    ensures some { IfOk result (λ more. more ≡ true → ahead.new.index < length ahead.new.page.rows) }
     ensures none { IfOk result (λ more. more ≡ false →
         (at_hand ahead.new ≡ []) × (ahead.new.reader.next ≡ ahead.new.reader.end)) }
     ensures reads { ReadsAhead place.now result ahead.old ahead.new (S.view station.old) (S.view station.new) }
 {
-    while ahead.place == ahead.page.rows().len() {
+    while ahead.index == ahead.page.rows().len() {
         let more = read_on(station, place, ahead)?;
         if !more {
             return Ok(false);
@@ -127,7 +127,7 @@ fn read_on<S: Station>(
     ahead: &mut Ahead<'_>,
 ) -> Result<bool, StoreFault>
     requires live { ReadsLive place.now ahead.old (S.view station.old) }
-    requires used_up { ahead.old.place ≡ length ahead.old.page.rows }
+    requires used_up { ahead.old.index ≡ length ahead.old.page.rows }
     ensures none { IfOk result (λ more. more ≡ false → (ahead.new ≡ ahead.old) × (ahead.old.reader.next ≡ ahead.old.reader.end)) }
     ensures next { IfOk result (λ more. more ≡ true → ahead.new.reader.next ≡ ahead.old.reader.next + 1) }
     ensures reads { ReadsAhead place.now result ahead.old ahead.new (S.view station.old) (S.view station.new) }
@@ -141,7 +141,7 @@ fn read_on<S: Station>(
     ) {
         Ok(true) => {
             ahead.segment += 1;
-            ahead.place = 0;
+            ahead.index = 0;
             Ok(true)
         }
         Ok(false) => Ok(false),
@@ -151,38 +151,38 @@ fn read_on<S: Station>(
 
 /// Passes the next record.
 pub(crate) fn pass(ahead: &mut Ahead<'_>)
-    requires { ahead.old.place < length ahead.old.page.rows }
+    requires { ahead.old.index < length ahead.old.page.rows }
     ensures ahead { ahead.new ≡ passed ahead.old }
     ensures small { length ahead.old.page.rows < 2 ^ 32 }
 {
     let _some = ahead.page.rows().len();
-    ahead.place += 1;
+    ahead.index += 1;
 }
 
 /// Passes the next record, if it has this key, and answers whether it has. No record ahead is below the key.
 pub(crate) fn pass_key(ahead: &mut Ahead<'_>, key: &Key) -> bool
-    requires place { ahead.old.place ≤ length ahead.old.page.rows }
+    requires index { ahead.old.index ≤ length ahead.old.page.rows }
     ensures found { result ≡ begins_with key.now (at_hand ahead.old) }
     ensures ahead { ahead.new ≡ (if begins_with key.now (at_hand ahead.old) then passed ahead.old else ahead.old) }
 {
     if !is_next(ahead, key) {
         return false;
     }
-    ahead.place += 1;
+    ahead.index += 1;
     true
 }
 
 // Whether the next record is at hand and has this key.
 fn is_next(ahead: &Ahead<'_>, key: &Key) -> bool
-    requires place { ahead.now.place ≤ length ahead.now.page.rows }
+    requires index { ahead.now.index ≤ length ahead.now.page.rows }
     ensures found { result ≡ begins_with key.now (at_hand ahead.now) }
     ensures small { length ahead.now.page.rows ≤ 64 }
 {
     let rows = ahead.page.rows();
-    if ahead.place == rows.len() {
+    if ahead.index == rows.len() {
         return false;
     }
-    rows.compare(ahead.place, key).is_eq()
+    rows.compare(ahead.index, key).is_eq()
 }
 
 // Reads the next segment of a reader, which has this number, into a page, and answers whether there was one. It sees that it

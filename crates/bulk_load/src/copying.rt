@@ -64,7 +64,7 @@ fn next_of<S: Station>(
     key: &Option<Key>,
 ) -> Result<Option<Row>, LoadFault>
     requires live { ReadsLive place.now run.old.ahead (S.view station.old) }
-    ensures row { IfOk result (λ next. IfSome next (λ row. slice_get run.new.ahead.page.rows run.new.ahead.place
+    ensures row { IfOk result (λ next. IfSome next (λ row. slice_get run.new.ahead.page.rows run.new.ahead.index
         ≡ Some (record_of row))) }
     ensures under { IfOk result (λ next. IfSome next (λ row. begins_under key.now (record_of row ∷ []) ≡ true)) }
     ensures stops { IfOk result (λ next. IsNone next → StopsAt key.now run.new.ahead) }

@@ -39,10 +39,10 @@ struct Part {
     count: u32,
 }
 
-// The place of a share, and how many records it is to have.
+// The index of a share among the frames, and how many records it is to have.
 #[derive(Clone, Copy)]
 struct Target {
-    place: u32,
+    index: u32,
     size: u32,
 }
 
@@ -128,7 +128,7 @@ fn fill_places<S: Station>(
         f -= 1;
         let size = share(part.records, part.segments, part.low + f);
         let to = Target {
-            place: packed.room + f,
+            index: packed.room + f,
             size,
         };
         fill_share(station, place, frames, packed, part.records, to)?;
@@ -148,9 +148,9 @@ fn fill_share<S: Station>(
     requires can { CanFill place.now frames.old (S.view station.old) }
     requires fits { records ≤ SEGMENT_RECORDS * 2 ^ height_limit place.now.layout }
     requires packed { IsPacked place.now.layout.format records frames.old packed.old }
-    requires behind { packed.old.room ≤ to.place }
-    requires frame { to.place < places place.now.layout.format frames.old }
-    requires none { share_in place.now.layout.format to.place frames.old ≡ [] }
+    requires behind { packed.old.room ≤ to.index }
+    requires frame { to.index < places place.now.layout.format frames.old }
+    requires none { share_in place.now.layout.format to.index frames.old ≡ [] }
     requires few { to.size ≤ SEGMENT_RECORDS }
     requires enough { to.size ≤ packed.old.rest }
     ensures reads { ReadsPacked place.now records result packed.old packed.new frames.old frames.new (S.view station.old) (S.view station.new) }
@@ -158,8 +158,8 @@ fn fill_share<S: Station>(
     ensures tried { TriesParts packed.old.room (used_by records) (used_by records - packed.old.unread) (S.view station.old).calls (S.view station.new).calls }
     ensures rest { OnOk result (packed.new.rest + to.size ≡ packed.old.rest) }
     ensures filled { OnOk result (Told (S.view station.old) → (rows : List Record) → ArePacked place.now records rows packed.old frames.old (S.view station.old).held →
-        share_in place.now.layout.format to.place frames.new ≡ slice_range rows packed.new.rest packed.old.rest) }
-    ensures others { OnOk result ((i : ℕ) → packed.old.room ≤ i → i < places place.now.layout.format frames.old → i ≢ to.place →
+        share_in place.now.layout.format to.index frames.new ≡ slice_range rows packed.new.rest packed.old.rest) }
+    ensures others { OnOk result ((i : ℕ) → packed.old.room ≤ i → i < places place.now.layout.format frames.old → i ≢ to.index →
         share_in place.now.layout.format i frames.new ≡ share_in place.now.layout.format i frames.old) }
 {
     let mut have = 0;
@@ -167,7 +167,14 @@ fn fill_share<S: Station>(
         if packed.rest <= SEGMENT_RECORDS * packed.unread {
             read_packed(station, place, frames, packed, records)?;
         } else {
-            have += take_last(frames, place.layout.format, packed, to.place, have, to.size - have);
+            have += take_last(
+                frames,
+                place.layout.format,
+                packed,
+                to.index,
+                have,
+                to.size - have,
+            );
         }
     }
     Ok(())

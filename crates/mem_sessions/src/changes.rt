@@ -58,19 +58,19 @@ pub const NO_FAULTS: Faults = Faults {
 /// No byte changes.
 pub const NO_CHANGE: Change = (u64::MAX, 0, 0);
 
-// Writes bytes at a place, as far as there are places.
-fn write_into(file: &mut Vec<u8>, place: usize, bytes: &[u8]) {
-    for (offset, byte) in bytes.iter().enumerate() {
-        if let Some(old) = file.get_mut(place.saturating_add(offset)) {
+// Writes bytes at an offset, as far as there are bytes.
+fn write_into(file: &mut Vec<u8>, offset: usize, bytes: &[u8]) {
+    for (i, byte) in bytes.iter().enumerate() {
+        if let Some(old) = file.get_mut(offset.saturating_add(i)) {
             *old = *byte;
         }
     }
 }
 
-// Writes a byte at that many places, as far as there are places.
-fn fill(file: &mut Vec<u8>, place: usize, count: usize) {
-    for offset in 0..count {
-        if let Some(old) = file.get_mut(place.saturating_add(offset)) {
+// Writes that many bytes from an offset on, as far as there are bytes.
+fn fill(file: &mut Vec<u8>, offset: usize, count: usize) {
+    for i in 0..count {
+        if let Some(old) = file.get_mut(offset.saturating_add(i)) {
             *old = 0xA5;
         }
     }
@@ -92,13 +92,13 @@ impl UntoldStation {
         Err(Failed)
     }
 
-    // The byte at a place; zero past the end.
-    fn byte(&self, place: u64) -> u8 {
+    // The byte at an offset; zero past the end.
+    fn byte(&self, offset: u64) -> u8 {
         let (call, changed, byte) = self.change;
-        if call <= self.calls && place == changed as u64 {
+        if call <= self.calls && offset == changed as u64 {
             return byte;
         }
-        self.file.get(place as usize).copied().unwrap_or(0)
+        self.file.get(offset as usize).copied().unwrap_or(0)
     }
 }
 

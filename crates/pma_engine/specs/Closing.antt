@@ -31,14 +31,12 @@ pub record ClosesAtMost (a b : View) : Type 0 where
   pub kept : Told a → (IsOpenIndex a.held → ⊥) → LeavesFile a b
   pub most : b.travel.written ≤ a.travel.written + 1
 
--- No byte but the clean gate is changed before that gate is even, whether the file was clean or not.
+-- No byte but the clean gate is changed before that gate is even, whether the file was clean or not, and whatever is pending.
 pub record ClosesFirst (a b : View) : Type 0 where
   -- the bytes held at the return are those at the entry but for the clean gate, or clean, if the station tells them
   pub held : Told a → Touched IsCleanPlace a.held b.held ⊎ IsClean b.held
-  -- and whatever a crash leaves at any moment is clean, or an image that one might have left at the entry but for the clean gate; if
-  -- nothing is pending there, or the index of the bytes that are held there is open
-  pub moments : NothingPending a ⊎ (Told a × IsOpenIndex a.held) →
-      LeavesOnly (λ image said. (start : List ℕ) × a.may_leave start × (Touched IsCleanPlace start image ⊎ IsClean image)) a b
+  -- and whatever a crash leaves at any moment is clean, or an image that one might have left at the entry but for the clean gate
+  pub moments : LeavesOnly (λ image said. (start : List ℕ) × a.may_leave start × (Touched IsCleanPlace start image ⊎ IsClean image)) a b
 
 -- an index that means nothing means nothing at every moment, and after it
 pub record StaysShut (a b : View) : Type 0 where

@@ -1,5 +1,5 @@
 -- The outcome of a batch that was committed at once.
-use Rattle.std.proofs.Common.{◌≡◌, inl, inr, ℕ, ◌+◌, ◌-◌, ◌*◌, ◌^◌, ◌<◌, ◌≤◌, ◌&&◌, nat_le, cond, Bool, true, List, [], length, Option, Some, None, is_some, is_none, Ok, Err, refl, sym, ap, subst, ◌∙◌, arith}
+use Rattle.std.proofs.Common.{◌≡◌, inl, inr, ℕ, ◌+◌, ◌-◌, ◌*◌, ◌^◌, ◌<◌, ◌≤◌, ◌&&◌, nat_le, cond, Bool, true, List, [], length, Option, Some, None, is_some, is_none, Ok, Err, refl, sym, ap, subst, ◌∙◌, arith, is_ok, get_or}
 use Rattle.std.proofs.lemmas.Bool.Decides.{nat_tests}
 use Rattle.std.proofs.lemmas.List.{take_all}
 use Rattle.std.proofs.lemmas.Nat.{pow_pos}
@@ -54,6 +54,7 @@ use Rattle.pma_store.proofs.Effects.{charges_edits, costs_edits, edits_in}
 use Rattle.pma_store.proofs.Making.{no_fault, stands_again}
 use Rattle.pma_store.proofs.OnceLaws.{used_few}
 use Rattle.pma_store.proofs.Outcomes.{has_is}
+use Rattle.pma_store.proofs.FoundItems.{AreThere, each_once, kinds_counted}
 use Rattle.pma_store.proofs.Sums.{counts_once}
 
 -- Products, and sums with them.
@@ -237,8 +238,8 @@ module _ {a : View} (items : List Update) (s : StoreView) (numbers : List ℕ) (
         index = subst (IsIndexOf index) (sym array_after) fences_are;
       }
 
-    pub committed : AppliesBatch items (Ok (done_by (counts_validated validated) (2 * edits_of validated))) s (record s { tally = tally; index = index; turn = turn }) a c
-    committed = record {
+    pub committed : (Told a → AreThere (λ k. is_ok (get_or look.found k (Err 0))) items (map_of a.held)) → AppliesBatch items (Ok (done_by (counts_validated validated) (2 * edits_of validated))) s (record s { tally = tally; index = index; turn = turn }) a c
+    committed keys = record {
       batch = record {
         answer = λ told.
             (λ τ. done_by (counts_is told τ) (charge_is told τ))
@@ -258,8 +259,10 @@ module _ {a : View} (items : List Update) (s : StoreView) (numbers : List ℕ) (
         at_once = λ told are. once_made commits.frames.steps commits.frames.cost commits.frames.none told;
         paid = omega (arith, commits.paid, ready.fits.listed, all);
         counted =
+            let kinds = kinds_counted items (λ k. is_ok (get_or look.found k (Err 0))) changes (counts_validated validated) ready.fits.counts_are ready.fits.kinds in
             counts_once items _ s.tally.height (2 * edits_of validated) changes s.tally.counts tally.counts (counts_validated validated)
-            (λ k d lt. omega (arith, ready.fits.in_store k d lt, ready.store.tally.size)) ready.fits.fit ready.fits.counted ready.fits.counts_are (ap (λ (t : TallyView). t.counts) commits.counted);
+            (λ k d lt. omega (arith, ready.fits.in_store k d lt, ready.store.tally.size)) ready.fits.fit kinds.0 kinds.1 ready.fits.counts_are (ap (λ (t : TallyView). t.counts) commits.counted);
+        found = each_once items (λ k. is_ok (get_or look.found k (Err 0))) (counts_validated validated) changes s (record s { tally = tally; index = index; turn = turn }) ready.fits.counts_are ready.fits.kinds ready.fits.in_store ready.fits.fit commits.counted keys;
         met = tt;
         complete = λ told calm. refl;
       };

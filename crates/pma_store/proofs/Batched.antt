@@ -19,12 +19,13 @@ use Rattle.map_model.specs.Image.{RepresentsMap, array_of, map_of}
 use Rattle.map_model.specs.Items.{ItemCounts, no_items, count_items, first_full, accepts, array_state_after_batch, charge_after_items, map_after_items}
 use Rattle.map_model.specs.Store.{Map, Update}
 use Rattle.redo_journal.specs.Rest.{RestsAt}
+use Rattle.recovery.specs.Intents.{puts_in}
 use Rattle.segment.specs.declared.fault.StoreFault.{StoreFault}
 use Rattle.segment.specs.declared.fault.StoreFault.TheVariants.{Failed}
 use Rattle.pma_store.specs.declared.answers.Batch.{Batch}
 use Rattle.pma_store.specs.declared.answers.Batch.TheVariants.{Done, Full, NoBatch}
 use Rattle.pma_store.specs.Answers.{state_in}
-use Rattle.pma_store.specs.Batching.{AppliesBatch, CountsBatch, MakesAtOnce, IsBatchPlace, IsRefusal, batch_answer, charge_in, done_by, intent_cost_in, items_made, map_after_batch, version_of}
+use Rattle.pma_store.specs.Batching.{AppliesBatch, CountsBatch, CountsEach, CountsEachOf, MakesAtOnce, IsBatchPlace, IsRefusal, batch_answer, charge_in, done_by, intent_cost_in, items_made, map_after_batch, version_of}
 use Rattle.pma_store.specs.BatchCalls.{CallsBatch, CallsIntent, LooksOnce}
 use Rattle.pma_store.specs.Costing.{most_of, updates_cost, WritesSome}
 use Rattle.pma_store.specs.Items.{IsItemPlace, MakesItems}
@@ -36,6 +37,7 @@ use Rattle.pma_store.specs.Once.{AreOneCommit, edited_segments}
 use Rattle.pma_store.specs.Rewrites.{spared_bytes}
 use Rattle.pma_store.specs.Store.{StoreView, Stands, StandsOn, IsOpenOn, limit_of}
 use Rattle.pma_store.proofs.BatchCalls.{are_from, intent_alone, look_alone, no_looks}
+use Rattle.pma_store.proofs.FoundItems.{each_before}
 use Rattle.pma_store.proofs.Making.{no_fault, same_fault, stands_again, stands_on, stands_there}
 use Rattle.pma_store.proofs.Moments.{IsReadyFor, begin_held, begin_steps, begun_then, idle_even, if_told, meant_idle}
 use Rattle.pma_store.proofs.Resting.{map_held}
@@ -72,6 +74,7 @@ fault_batch {a} {c} items fault s t meant touched layout closed most spent calls
     at_once = at_once;
     paid = tt;
     counted = tt;
+    found = tt;
     met = met;
     complete = fails_by a c fault damaged failed;
   };
@@ -107,8 +110,8 @@ module _ {a c : View} (items : List Update) (s : StoreView) (law : Lawful a) (is
 
   -- the items were validated, and are refused
   pub refused_batch : (done : Batch) → IsRefusal done → (done ≡ NoBatch → (c.travel ≡ a.travel) × (c.calls ≡ a.calls)) → (Told a → accepts (version_of s) (limit_of s) (map_of a.held) items ≡ false)
-      → (Told a → done ≡ batch_answer (version_of s) (limit_of s) (state_in s a.held) items) → AppliesBatch items (Ok done) s s a c
-  refused_batch done refusal unread refused answer = record {
+      → (Told a → done ≡ batch_answer (version_of s) (limit_of s) (state_in s a.held) items) → ((most : ℕ) → done ≡ Full most → most < sum s.tally.counts + puts_in items) → AppliesBatch items (Ok done) s s a c
+  refused_batch done refusal unread refused answer full = record {
     batch = record {
       answer = answer;
       state = λ told. (λ τ. state_in s (steps.held told τ)) ∙ sym (ap (λ (b : Bool). cond b (next_states (limit_of s) (state_in s a.held) items) (state_in s a.held)) (refused told));
@@ -125,7 +128,8 @@ module _ {a c : View} (items : List Update) (s : StoreView) (law : Lawful a) (is
       calls = look_alone items s looks;
       at_once = still_once;
       paid = omega (arith, nothing done refusal);
-      counted = as_many done refusal (sum s.tally.counts);
+      counted = as_many done refusal (sum s.tally.counts) full;
+      found = none_made done refusal;
       met = tt;
       complete = λ told calm. refl;
     };
@@ -142,10 +146,15 @@ module _ {a c : View} (items : List Update) (s : StoreView) (law : Lawful a) (is
       nothing (Full most) refusal = refl
       nothing NoBatch refusal = refl
 
-      as_many : (done : Batch) → IsRefusal done → (records : ℕ) → CountsBatch items done records records
-      as_many (Done stored replaced removed absent charge) refusal records = absurd refusal
-      as_many (Full most) refusal records = refl
-      as_many NoBatch refusal records = refl
+      as_many : (done : Batch) → IsRefusal done → (records : ℕ) → ((most : ℕ) → done ≡ Full most → most < records + puts_in items) → CountsBatch items done records records
+      as_many (Done stored replaced removed absent charge) refusal records full = absurd refusal
+      as_many (Full most) refusal records full = (refl, full most refl)
+      as_many NoBatch refusal records full = refl
+
+      none_made : (done : Batch) → IsRefusal done → CountsEachOf items done s s a
+      none_made (Done stored replaced removed absent charge) refusal = absurd refusal
+      none_made (Full most) refusal = tt
+      none_made NoBatch refusal = tt
 
 -- a file of a version without batches
 pub no_batch : {a : View} (items : List Update) (s : StoreView) → IsOpenOn s a → Lawful a → Steps Same a a → version_of s < INTENT_VERSION → AppliesBatch items (Ok NoBatch) s s a a
@@ -154,6 +163,7 @@ no_batch {a} items s is law steps early =
     refused_batch items s law is steps refl (no_looks items s.tally.height a) NoBatch tt (λ _. (refl, refl))
     (λ told. ap (λ (b : Bool). b && is_none (first_full (limit_of s) (map_of a.held) items)) below)
     (λ told. sym (ap (λ (b : Bool). cond b (cond (is_some (first_full (limit_of s) (map_of a.held) items)) (Full (upper_of (limit_of s))) (done_by (count_items (limit_of s) (map_of a.held) items no_items) (charge_after_items (limit_of s) (state_in s a.held) items))) NoBatch) below))
+    (λ most is. absurd cc)
   where
     le_false : (m n : ℕ) → n < m → nat_le m n ≡ false
     le_false m n lt = grind (arith, nat_tests)
@@ -186,7 +196,8 @@ full_batch {a} {c} items s t most is law version most_is validates =
     subst (λ (t : StoreView). AppliesBatch items (Ok (Full most)) s t a c) (sym validates.store)
     (refused_batch items s law is validates.steps validates.unwritten validates.looks (Full most) tt (λ e. absurd cc)
     (λ told. (λ τ. at_version τ && is_none (first_full (limit_of s) (map_of a.held) items)) ∙ not_none (first_full (limit_of s) (map_of a.held) items) (full told))
-    (λ told. ap Full most_is ∙ sym (λ τ. cond (at_version τ) (cond (full told τ) (Full (upper_of (limit_of s))) (done_by (count_items (limit_of s) (map_of a.held) items no_items) (charge_after_items (limit_of s) (state_in s a.held) items))) NoBatch)))
+    (λ told. ap Full most_is ∙ sym (λ τ. cond (at_version τ) (cond (full told τ) (Full (upper_of (limit_of s))) (done_by (count_items (limit_of s) (map_of a.held) items no_items) (charge_after_items (limit_of s) (state_in s a.held) items))) NoBatch))
+    (λ top is. let same : most ≡ top = cc in omega (arith, validates.full refl, most_is, same)))
 
 -- the disk failed while the keys were looked for
 pub validating_fails : {a c : View} (items : List Update) (fault : StoreFault) (s t : StoreView) → Lawful a → IsOpenOn s a → ValidatesItems items (Err fault) s t a c → AppliesBatch items (Err fault) s t a c
@@ -234,6 +245,7 @@ validated_then {a} {b} {c} items r s t is law first unwritten looks calls some a
             };
         paid = made.paid;
         counted = made.counted;
+        found = IfOk-weaker r _ _ (λ done each. each_before items done s t first each) made.found;
         met = IfErr-weaker r _ _ (λ fault met. elim met [ inl disk ↦ inl disk | inr more ↦ elim more [ inl looked ↦ inr (inl (looked.0, looked.1 ∙ unwritten)) | inr mid ↦ inr (inr mid) ] ]) made.met;
         complete = λ told calm. made.complete (told_on_b told) (λ rose. calm (omega (arith, rose, first.frame.disk_faults)));
       };
@@ -336,8 +348,8 @@ module _ {a b : View} (items : List Update) (s : StoreView) (is : IsOpenOn s a) 
         (run_most t (Err fault) law_b settled opened cost makes) (omega (arith, makes.spent, cost)) (intent_alone items s (intent_called t (Err fault) four makes) unfit) (λ told are. absurd (unfit told are)) (λ told. makes.damaged (told_on writes.frame told)) makes.counted (elim makes.met [ inl disk ↦ inl disk | inr mid ↦ inr (inr mid) ])
         (λ failed. omega (arith, makes.failed (same_fault fault (λ e. e) failed), writes.frame.disk_faults))
 
-    pub whole_batch : (charge : ℕ) → CountsBatch items (done_by counts charge) (sum s.tally.counts) (sum t.tally.counts) → MakesItems items (Ok charge) s t b c → AppliesBatch items (Ok (done_by counts charge)) s t a c
-    whole_batch charge counted makes = record {
+    pub whole_batch : (charge : ℕ) → CountsBatch items (done_by counts charge) (sum s.tally.counts) (sum t.tally.counts) → CountsEach items counts s t a → MakesItems items (Ok charge) s t b c → AppliesBatch items (Ok (done_by counts charge)) s t a c
+    whole_batch charge counted each makes = record {
       batch = record {
         answer = λ told.
             let facts_here = facts told in
@@ -363,6 +375,7 @@ module _ {a b : View} (items : List Update) (s : StoreView) (is : IsOpenOn s a) 
         at_once = λ told are. absurd (unfit told are);
         paid = makes.paid;
         counted = counted;
+        found = each;
         met = tt;
         complete = λ told calm. refl;
       };

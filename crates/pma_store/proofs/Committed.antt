@@ -1,5 +1,5 @@
 -- A batch that was looked over and then committed, or was validated alone.
-use Rattle.std.proofs.Common.{◌≡◌, ◌⊎◌, inl, inr, ℕ, zero, suc, ◌*◌, ◌^◌, ◌<◌, ◌≤◌, true, false, List, [], ◌∷◌, length, sum, get_or, Option, Some, None, is_some, Ok, Err, refl, sym, ap, subst, ◌∙◌, arith}
+use Rattle.std.proofs.Common.{◌+◌, ◌≡◌, ◌⊎◌, inl, inr, ℕ, zero, suc, ◌*◌, ◌^◌, ◌<◌, ◌≤◌, true, false, List, [], ◌∷◌, length, sum, get_or, Option, Some, None, is_some, Ok, Err, refl, sym, ap, subst, ◌∙◌, arith}
 use Rattle.std.specs.Prelude.{is_ok, IfSome}
 use Rattle.std.specs.FinMap.{len}
 use Rattle.std.proofs.Math.Pow.{pow_mono}
@@ -39,6 +39,7 @@ use Rattle.one_commit.specs.Editing.{AreEdits, LaysEdits}
 use Rattle.one_commit.specs.Fitting.{changes_in, fit_one_commit}
 use Rattle.one_commit.proofs.Edits.{are_edits}
 use Rattle.one_commit.proofs.Reaching.{state_reached}
+use Rattle.recovery.specs.Intents.{puts_in}
 use Rattle.redo_journal.specs.Commit.{IsJournalPlace, IsNamed, frame_byte}
 use Rattle.redo_journal.specs.Frames.{Batch}
 use Rattle.redo_journal.specs.declared.place.Place.{Place}
@@ -89,10 +90,11 @@ module _ {a c : View} (items : List Update) (s : StoreView) (numbers : List ℕ)
 
   pub validates : (records most : ℕ) (o : Option Validated) → most ≡ upper_of (limit_of s) → records ≡ sum s.tally.counts
       → ((hmax : ℕ) (m : Map) → most ≡ upper_of hmax → records ≡ len m → AreFoundAt look.found items m → counts_in o ≡ validated_of hmax m items)
-      → IfSome o (λ validated. (k : ℕ) → k < length items → get_or validated.found k false ≡ is_ok (get_or look.found k (Err 0))) → ValidatesItems items (Ok o) s s a c
-  validates records most o most_is records_is validated found = record {
+      → IfSome o (λ validated. (k : ℕ) → k < length items → get_or validated.found k false ≡ is_ok (get_or look.found k (Err 0))) → (o ≡ None → most < records + puts_in items) → ValidatesItems items (Ok o) s s a c
+  validates records most o most_is records_is validated found full = record {
     validated = λ told. validated (limit_of s) (map_of a.held) most_is (records_is ∙ records_are s a.held (stands_there s on told)) (found_before told);
     found = λ told. all_found o found told;
+    full = λ none. omega (arith, full none, most_is, records_is);
     store = refl;
     steps = looks.steps;
     unwritten = looks.unwritten;
@@ -112,6 +114,7 @@ pub looks_fail : {a c : View} (items : List Update) (fault : StoreFault) (s : St
 looks_fail items fault s numbers b look tall looks = record {
   validated = tt;
   found = tt;
+  full = tt;
   store = refl;
   steps = looks.steps;
   unwritten = looks.unwritten;

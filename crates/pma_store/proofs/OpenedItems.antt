@@ -1,11 +1,12 @@
 -- What becomes of a file that is opened, at each moment, with the items of its intent.
-use Rattle.std.proofs.Common.{◌^◌, ◌≡◌, ◌≢◌, ◌⊎◌, inl, inr, ℕ, ◌+◌, ◌≤◌, true, false, List, length, take, Some, None, Result, Ok, Err, refl, sym, ap, subst, ◌∙◌, arith}
+use Rattle.std.proofs.Common.{◌^◌, ◌≡◌, ◌≢◌, ◌⊎◌, inl, inr, ⊎_elim, ℕ, ◌+◌, ◌≤◌, true, false, List, length, take, Some, None, Result, Ok, Err, refl, sym, ap, subst, ◌∙◌, arith}
 use mathlib.Core.Bool.{true≢false}
 use Rattle.std.specs.Prelude.{IsOk, IsErrOf, is_ok}
 use Rattle.station.specs.Bytes.{Touched}
 use Rattle.station.specs.View.{View, Told, Honest, MayHold, EachHeld, Lawful, Rose, up}
 use Rattle.station.specs.Steps.{Frame, Steps}
 use Rattle.station.proofs.Composition.{frame_on, honest_on, told_on, weaken}
+use Rattle.station.proofs.Sayings.{leaves_in}
 use Rattle.batch_intent.specs.Means.{InBatch, KeepsIntent, Means, MeansMap, has_pending, map_after_all, meant_map, opening_reason, pending}
 use Rattle.batch_intent.proofs.Meanings.{batch_begun, items_are, meant_one, pending_kept, map_made}
 use Rattle.batch_intent.proofs.OpeningReasons.{means_of_none}
@@ -26,6 +27,7 @@ use Rattle.recovery.specs.Restores.{Opens, IsAtRest}
 use Rattle.recovery.specs.declared.fault.OpenFault.{OpenFault}
 use Rattle.recovery.specs.declared.fault.OpenFault.TheVariants.{Memory, Failed, NotStore, Damaged}
 use Rattle.recovery.proofs.Keeping.{items_same, opens_keeps, opens_means}
+use Rattle.recovery.proofs.Syncing.{LeavesSettled}
 use Rattle.redo_journal.specs.Commit.{IsJournalPlace, IsRegionPlace}
 use Rattle.segment.specs.declared.fault.Damage.TheVariants.{NotSegment, OtherCount, OutOfOrder}
 use Rattle.segment.specs.declared.fault.StoreFault.{StoreFault}
@@ -123,9 +125,13 @@ module _ {T U : Type 0} {a b : View} where
   }
 
 -- the sync comes first there too
+settled_meant : (a : View) (image said : List ℕ) → LeavesSettled Opens a image said → LeavesSettled OpensMeant a image said
+settled_meant a image said left = ⊎_elim (λ may. inl may) (λ opens. inr (opens_meant a.held image opens)) left
+
 pub synced_meant : {T U : Type 0} {a b : View} (r : Result T OpenFault) (q : Result U OpenFault) → (GoesOn q a b → GoesOn r a b) → SyncsFirst Opens r a b → SyncsFirst OpensMeant q a b
 synced_meant {a = a} r q goes first = record {
   called = first.called;
+  first = leaves_in (LeavesSettled OpensMeant a) first.first (λ honest image said now. settled_meant a image said now);
   synced = λ on honest image said left. opens_meant a.held image (first.synced (goes on) honest image said left);
 }
 
@@ -241,13 +247,19 @@ module _ {X : Type 0} {a b c : View} (x : X) (items : List Update) (s t : StoreV
       at_start : (start : List ℕ) → b.may_leave start → Touched (IsItemPlace s.place.layout) start image → MeansMap s.place.layout image (meant_map a.held) → OpensMeant a.held image
       at_start start left touched is = meant_at image (touched_on_top b.held start image (item_held start (inr (honest_on opens.steps.frame honest, left))) touched) is
 
-      left_then : (n : ℕ) → n ≤ a.calls
+      -- a moment before the items, or one at which they are made
+      either : {P : Type 0} (n : ℕ) → (b.may_have_left n image said → P) → (said ≡ b.said → OpensMeant a.held image → P)
           → b.may_have_left n image said ⊎ ((said ≡ b.said) × ((start : List ℕ) × b.may_leave start × Touched (IsItemPlace s.place.layout) start image))
           → b.may_have_left n image said ⊎ ((said ≡ b.said) × ((start : List ℕ) × b.may_leave start × MeansNow s.place.layout (meant_map a.held) start image))
-          → a.may_have_left n image said ⊎ ((said ≡ a.said) × ((start : List ℕ) × a.may_leave start × OpensMeant start image))
-      left_then n le (inl early) other = (steps_meant opens.steps).moments.each honest n image said le early
-      left_then n le (inr one) (inl early) = (steps_meant opens.steps).moments.each honest n image said le early
-      left_then n le (inr one) (inr two) = inr (one.0 ∙ opens.steps.frame.said, (a.held, law_a.held honest, at_start one.1.0 one.1.1 one.1.2 two.1.2))
+          → P
+      either n before then (inl early) other = before early
+      either n before then (inr one) (inl early) = before early
+      either n before then (inr one) (inr two) = then one.0 (at_start one.1.0 one.1.1 one.1.2 two.1.2)
+
+      at_moment : {P : Type 0} (n : ℕ) → n ≤ b.calls → c.may_have_left n image said → (b.may_have_left n image said → P) → (said ≡ b.said → OpensMeant a.held image → P) → P
+      at_moment n low left before then =
+          let there = honest_on opens.steps.frame honest in
+          either n before then (made.touched.moments.each there n image said low left) (now.moments.each there n image said low left)
 
     steps_told : Steps OpensMeant a c
     steps_told = record {
@@ -259,8 +271,8 @@ module _ {X : Type 0} {a b c : View} (x : X) (items : List Update) (s t : StoreV
           (a.held, law_a.held honest, at_start honest image c.said one.0 one.1 one.2 two.2);
       moments = record {
         each = λ honest n image said le left.
-            let low : n ≤ b.calls = omega (arith, le, opens.steps.frame.calls) in
-            left_then honest image said n le (made.touched.moments.each (honest_on opens.steps.frame honest) n image said low left) (now.moments.each (honest_on opens.steps.frame honest) n image said low left);
+            at_moment honest image said n (omega (arith, le, opens.steps.frame.calls)) left (λ early. (steps_meant opens.steps).moments.each honest n image said le early)
+            (λ same meant. inr (same ∙ opens.steps.frame.said, (a.held, law_a.held honest, meant)));
       };
     }
 
@@ -289,22 +301,17 @@ module _ {X : Type 0} {a b c : View} (x : X) (items : List Update) (s t : StoreV
   steps = if_told law_a frame steps_told
 
   -- whatever a crash leaves behind the sync comes from what was held at entry
-  held_then : (told : Told a) (honest : Honest a) (image said : List ℕ) → (b.may_have_left (up a.calls 1) image said → OpensMeant a.held image)
-      → b.may_have_left (up a.calls 1) image said ⊎ ((said ≡ b.said) × ((start : List ℕ) × b.may_leave start × Touched (IsItemPlace s.place.layout) start image))
-      → b.may_have_left (up a.calls 1) image said ⊎ ((said ≡ b.said) × ((start : List ℕ) × b.may_leave start × MeansNow s.place.layout (meant_map a.held) start image))
-      → OpensMeant a.held image
-  held_then told honest image said before (inl early) other = before early
-  held_then told honest image said before (inr one) (inl early) = before early
-  held_then told honest image said before (inr one) (inr two) = at_start told honest image said one.1.0 one.1.1 one.1.2 two.1.2
-
   pub items_synced : {U : Type 0} (result : Result U OpenFault) → SyncsFirst Opens (Ok x) a b → SyncsFirst OpensMeant result a c
   items_synced result first = record {
     called = omega (arith, first.called, made.touched.frame.calls);
+    first = record {
+      each = λ honest n image said le left.
+          at_moment (law_a.tells honest).0 honest image said n (omega (arith, le, opens.steps.frame.calls)) left
+          (λ early. ⊎_elim (λ past. inl past) (λ now. inr (settled_meant a image said now)) (first.first.each honest n image said le early)) (λ same meant. inr (inr meant));
+    };
     synced = λ goes honest image said left.
-        let told = (law_a.tells honest).0 in
-        let there = honest_on opens.steps.frame honest in
-        held_then told honest image said (λ early. opens_meant a.held image (first.synced (inl (λ is. true≢false (ap is_ok is))) honest image said early))
-        (made.touched.moments.each there (up a.calls 1) image said first.called left) ((now told).moments.each there (up a.calls 1) image said first.called left);
+        at_moment (law_a.tells honest).0 honest image said (up a.calls 1) first.called left
+        (λ early. opens_meant a.held image (first.synced (inl (λ is. true≢false (ap is_ok is))) honest image said early)) (λ same meant. meant);
   }
 
   busy : {P : Type 0} → Told a → IsAllAtRest a.held → P

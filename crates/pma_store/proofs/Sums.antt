@@ -22,7 +22,7 @@ use Rattle.window_tally.specs.declared.Change.TheVariants.{Add, Take}
 use Rattle.window_tally.specs.Choice.{adds}
 use Rattle.pma_store.specs.Batching.{CountsBatch, done_by}
 use Rattle.pma_store.specs.Counting.{SumsOne}
-use Rattle.pma_store.specs.Validating.{AreCounted, CountsFound, HaveRoom, SumsBy, SumsFound, SumsItem, adds_in, counted_by, counted_first, found_at, records_first, takes_in, there_in}
+use Rattle.pma_store.specs.Validating.{CountsFound, HaveRoom, SumsBy, SumsFound, SumsItem, counted_by, counted_first, found_at, kinds_in, records_first, there_in}
 use Rattle.pma_store.specs.Updating.{need_of}
 use Rattle.pma_store.specs.declared.update.Need.TheVariants as need
 
@@ -68,7 +68,16 @@ change_sums (unbind key) false change most before after asks one = absurd cc
 
 -- Changes of a batch, in their order.
 
-pub sum_changes : (height : ℕ) (changes : List ItemChange) (cs : List ℕ) → All (λ c. c.segment < length cs) changes → stay_within height cs changes ≡ true → sum (counts_by changes cs) + takes_in changes ≡ sum cs + adds_in changes
+-- how many of the changes add a record, and how many take one
+abbrev pub adds_in : List Change → ℕ
+adds_in [] = 0
+adds_in (c ∷ cs) = cond (adds c) 1 0 + adds_in cs
+
+abbrev pub takes_in : List Change → ℕ
+takes_in [] = 0
+takes_in (c ∷ cs) = cond (adds c) 0 1 + takes_in cs
+
+pub sum_changes : (height : ℕ) (changes : List ItemChange) (cs : List ℕ) → All (λ c. c.segment < length cs) changes → stay_within height cs changes ≡ true → sum (counts_by changes cs) + takes_in (kinds_in changes) ≡ sum cs + adds_in (kinds_in changes)
 sum_changes height [] cs inside within = omega arith
 sum_changes height (c ∷ changes) cs inside within =
     let parts = both_true (follows height cs c) (stay_within height (counts_after (adds c.change) cs c.segment) changes) within in
@@ -78,7 +87,7 @@ sum_changes height (c ∷ changes) cs inside within =
     let rest = sum_changes height changes (counts_after (adds c.change) cs c.segment) (λ k d low. omega (arith, inside (suc k) d (omega (arith, low)), size)) parts.1 in
     by _ _ c.change (sum_counted c.change cs c.segment lt (taken_there cs c here.0)) rest
   where
-    by : (n m : ℕ) (change : Change) → SumsOne change (sum cs) m → n + takes_in changes ≡ m + adds_in changes → n + (cond (adds change) 0 1 + takes_in changes) ≡ sum cs + (cond (adds change) 1 0 + adds_in changes)
+    by : (n m : ℕ) (change : Change) → SumsOne change (sum cs) m → n + takes_in (kinds_in changes) ≡ m + adds_in (kinds_in changes) → n + (cond (adds change) 0 1 + takes_in (kinds_in changes)) ≡ sum cs + (cond (adds change) 1 0 + adds_in (kinds_in changes))
     by n m Add one rest = omega (arith, one, rest)
     by n m Take one rest = omega (arith, one, rest)
 
@@ -142,7 +151,7 @@ total_first items there (suc k) = by (get_or items k none) (there k) (counted_fi
     by (unbind key) false c is = omega (arith, is)
 
 -- the puts as stored or replaced
-puts_next : (items : List Update) (k : ℕ) → k < length items → puts_in (take (suc k) items) ≡ puts_in (take k items) + cond (is_put (get_or items k none)) 1 0
+pub puts_next : (items : List Update) (k : ℕ) → k < length items → puts_in (take (suc k) items) ≡ puts_in (take k items) + cond (is_put (get_or items k none)) 1 0
 puts_next [] k lt = absurd (omega (arith, lt))
 puts_next (u ∷ us) zero lt = by (is_put u)
   where
@@ -216,11 +225,11 @@ counts_batch items found most before after charge counts is sums =
     subst (λ (c : ItemCounts). CountsBatch items (done_by c charge) before after) (sym is.counts_are) (all_puts items (there_in found), total_first items (there_in found) (length items), sums is.room)
 
 -- one commit
-pub counts_once : (items : List Update) (there : ℕ → Bool) (height charge : ℕ) (changes : List ItemChange) (cs now : List ℕ) (counts : ItemCounts) → All (λ c. c.segment < length cs) changes → fit_one_commit height cs changes ≡ true → AreCounted changes counts
+pub counts_once : (items : List Update) (there : ℕ → Bool) (height charge : ℕ) (changes : List ItemChange) (cs now : List ℕ) (counts : ItemCounts) → All (λ c. c.segment < length cs) changes → fit_one_commit height cs changes ≡ true → counts.stored ≡ adds_in (kinds_in changes) → counts.removed ≡ takes_in (kinds_in changes)
     → counts ≡ counted_first items there (length items) → now ≡ counts_by changes cs → CountsBatch items (done_by counts charge) (sum cs) (sum now)
-counts_once items there height charge changes cs now counts inside fit are counts_are is =
+counts_once items there height charge changes cs now counts inside fit adds_are takes_are counts_are is =
     let within = (both_true (stay_within height cs changes) (keep_places changes) fit).0 in
-    let kept : sum now + counts.removed ≡ sum cs + counts.stored = omega (arith, ap (λ (l : List ℕ). sum l) is, sum_changes height changes cs inside within, are.adds_are, are.takes_are) in (
+    let kept : sum now + counts.removed ≡ sum cs + counts.stored = omega (arith, ap (λ (l : List ℕ). sum l) is, sum_changes height changes cs inside within, adds_are, takes_are) in (
       ap (λ (c : ItemCounts). c.stored + c.replaced) counts_are ∙ all_puts items there,
       ap (λ (c : ItemCounts). c.stored + c.replaced + c.removed + c.absent) counts_are ∙ total_first items there (length items),
       kept,

@@ -30,7 +30,7 @@ use Rattle.pma_store.specs.declared.batch_scan.BatchScan.{BatchScan}
 use Rattle.pma_store.specs.Answers.{state_in}
 use Rattle.pma_store.specs.Batching.{AppliesBatch, done_by}
 use Rattle.pma_store.specs.Calling.{runs_calls}
-use Rattle.pma_store.specs.Validating.{AreCounted, CountsFound, counted_first, ValidatesItems, counts_of, edits_of, there_in}
+use Rattle.pma_store.specs.Validating.{CountsFound, counted_first, ValidatesItems, counts_of, edits_of, flags, kinds_in, kinds_of, there_in}
 use Rattle.pma_store.specs.Looked.{BelongThere, HasFound}
 use Rattle.pma_store.specs.Once.{AreOneCommit}
 use Rattle.pma_store.specs.Rewrites.{spared_bytes}
@@ -57,7 +57,7 @@ pub record FitsCommit (numbers : List ℕ) (items : List Update) (look : BatchSc
   pub changes_are : (array : Array) → 0 < length array → IsAscending (rows array) → BelongThere array numbers items →
       HasFound array numbers items look.found (2 ^ tally.height) → changes ≡ changes_in array items
   pub fit : fit_one_commit tally.height tally.counts changes ≡ true
-  pub counted : AreCounted changes (counts_of validated)
+  pub kinds : kinds_in changes ≡ kinds_of items (flags (λ k. is_ok (get_or look.found k (Err 0))) (length items))
   pub counts_are : counts_of validated ≡ counted_first items (λ k. is_ok (get_or look.found k (Err 0))) (length items)
 
 -- Why they don't: not each segment that they edit is in frames, more are there than items edit one, or the changes don't fit.

@@ -1,5 +1,5 @@
 -- Several updates as one command: what it answers, and what it leaves at every moment.
-use Rattle.std.specs.Prelude.{◌≡◌, ◌^◌, ◌⊎◌, ℕ, ◌+◌, ◌-◌, ◌*◌, ◌≤◌, nat_le, if◌then◌else◌, false, List, [], length, sum, is_some, Result, IsOk, OnOk, IfOk, IfErr, IsErrOf}
+use Rattle.std.specs.Prelude.{◌≡◌, ◌^◌, ◌⊎◌, ℕ, ◌+◌, ◌-◌, ◌*◌, ◌<◌, ◌≤◌, nat_le, if◌then◌else◌, Bool, false, List, [], length, sum, is_some, Result, IsOk, OnOk, IfOk, IfErr, IsErrOf}
 use Rattle.station.specs.Bytes.{Touched}
 use Rattle.station.specs.View.{View, Told, EachHeld, Rose}
 use Rattle.station.specs.Steps.{Steps}
@@ -21,13 +21,14 @@ use Rattle.pma_store.specs.declared.answers.Batch.TheVariants.{Done, Full, NoBat
 use Rattle.pma_store.specs.Answers.{state_in}
 use Rattle.pma_store.specs.BatchCalls.{CallsBatch, LooksOnce}
 use Rattle.pma_store.specs.Costing.{most_of, updates_cost, WritesSome}
-use Rattle.pma_store.specs.Damaging.{IsMetLooking, IsMetMid}
+use Rattle.pma_store.specs.Damaging.{AreFoundTallies, IsMetLooking, IsMetMid}
 use Rattle.pma_store.specs.Looking.{TellsOther}
 use Rattle.pma_store.specs.Meaning.{BecomesMeant}
 use Rattle.pma_store.specs.Once.{AreOneCommit, edited_segments}
 use Rattle.pma_store.specs.Rewrites.{spared_bytes}
 use Rattle.pma_store.specs.Store.{StoreView, StandsOn, LeavesAll, limit_of}
 use Rattle.pma_store.specs.Touching.{IsUpdatePlace}
+use Rattle.pma_store.specs.Validating.{AreFound, counted_all}
 
 abbrev pub version_of : StoreView → ℕ
 version_of s = s.place.layout.version
@@ -68,12 +69,33 @@ intent_cost_in (Full most) = 0
 intent_cost_in NoBatch = 0
 
 -- Each of the items is counted, the puts as stored or replaced; and the records behind them are those before them, with those that
--- were stored and without those that were removed.
+-- were stored and without those that were removed. If it is refused they are as many; and a batch that finds the store full would
+-- pass the most if each of its puts bound a new key.
 abbrev pub CountsBatch : List Update → Batch → ℕ → ℕ → Type 0
 CountsBatch items (Done stored replaced removed absent charge) before after =
     (stored + replaced ≡ puts_in items) × (stored + replaced + removed + absent ≡ length items) × (after + removed ≡ before + stored)
-CountsBatch items (Full most) before after = after ≡ before
+CountsBatch items (Full most) before after = (after ≡ before) × (most < before + puts_in items)
 CountsBatch items NoBatch before after = after ≡ before
+
+-- What was found of each item of a batch that was made.
+pub record CountsEach (items : List Update) (counts : ItemCounts) (s t : StoreView) (a : View) : Type 0 where
+  -- There is one Bool for each item: whether its key was there when it was looked for.
+  pub found : List Bool
+  -- By the Bool of its own item, the answer counts a put as replaced or as stored, and a removal as removed or as absent.
+  pub counts_are : counts ≡ counted_all items found no_items
+  -- The kept counts and marks go from those before the batch to those behind it in steps, one for each item in order. A put of a
+  -- key that was there leaves them as they are, and so does the removal of one that wasn't. At any other item they become what
+  -- such a change of some segment of the store asks for, with one record more or less in a segment of the store then.
+  pub tallies : AreFoundTallies items found s.tally t.tally
+  -- If bytes are told, each Bool is whether the map before the batch has the key; no two items have the same one.
+  pub keys : Told a → AreFound found items (map_of a.held) (length items)
+
+-- by an answer, if it was made
+abbrev pub CountsEachOf : List Update → Batch → StoreView → StoreView → View → Type 0
+CountsEachOf items (Done stored replaced removed absent charge) s t a =
+    CountsEach items (record { stored = stored; replaced = replaced; removed = removed; absent = absent }) s t a
+CountsEachOf items (Full most) s t a = Unit {0}
+CountsEachOf items NoBatch s t a = Unit {0}
 
 -- a refusal
 abbrev pub IsRefusal : Batch → Type 0
@@ -133,8 +155,11 @@ pub record Batches (items : List Update) (result : Result Batch StoreFault) (s t
   pub paid : IfOk result (λ done. charge_in done + potential_of t.tally ≤ potential_of s.tally + 514 * made_in (length items) done)
   -- On Ok, on every station, each put is counted as stored or replaced, and each removal as removed or absent; and the kept numbers
   -- of records come to those before it, one more for each that is counted as stored, and one less for each as removed. If it is
-  -- refused they are as many.
+  -- refused they are as many; and it is `Full` only if they and all its puts pass the most records that it names.
   pub counted : IfOk result (λ done. CountsBatch items done (sum s.tally.counts) (sum t.tally.counts))
+  -- On Ok, if it is made, on every station, each item is counted by what the search for its own key found, and the kept counts
+  -- and marks are changed by just the items that add or take a record, as `CountsEach` says.
+  pub found : IfOk result (λ done. CountsEachOf items done s t a)
   -- It fails by the disk; or by damage of a segment that was read last while the keys were looked for, by its kept count and not
   -- that keys are out of order, with nothing written; or in one of its items, as an update does, by the counts that the items
   -- before it left.

@@ -1,20 +1,23 @@
 -- What the items of a batch would do, by whether their keys are there and by how many records there are.
-use Rattle.std.specs.Prelude.{◌≡◌, ◌^◌, ℕ, zero, suc, ◌+◌, ◌<◌, if◌then◌else◌, Bool, true, false, List, [], ◌∷◌, length, slice_index_or, Option, Some, None, is_some, Result, IfOk, IfErr, IsErrOf, is_ok, Err}
+use Rattle.std.specs.Prelude.{◌≡◌, ◌^◌, ℕ, zero, suc, ◌+◌, ◌<◌, if◌then◌else◌, Bool, true, false, List, [], ◌∷◌, length, slice_index_or, Option, Some, None, is_some, Result, IfOk, IfErr, IsErrOf, is_ok, Err, sum}
 use Rattle.std.specs.FinMap.{contains_key}
+use Rattle.density_rule.specs.Bounds.{upper_of}
 use Rattle.station.specs.Bytes.{Same}
 use Rattle.station.specs.View.{View, Told, Rose}
 use Rattle.station.specs.Steps.{Steps}
 use Rattle.map_model.specs.Image.{map_of}
 use Rattle.map_model.specs.Items.{ItemCounts, no_items, count_items, first_full}
 use Rattle.map_model.specs.Store.{Map, Update, bind, unbind, key_of}
+use Rattle.one_commit.specs.Fitting.{is_put, kind_of}
 use Rattle.one_commit.specs.declared.changes.ItemChange.{ItemChange}
-use Rattle.recovery.specs.Intents.{meets_by, records_by}
+use Rattle.recovery.specs.Intents.{meets_by, puts_in, records_by}
 use Rattle.segment.specs.declared.fault.StoreFault.{StoreFault}
 use Rattle.segment.specs.declared.fault.StoreFault.TheVariants.{Failed}
-use Rattle.window_tally.specs.Choice.{adds}
+use Rattle.window_tally.specs.declared.Change.{Change}
+use Rattle.window_tally.specs.View.{TallyView}
 use Rattle.pma_store.specs.declared.validation.Validated.{Validated}
 use Rattle.pma_store.specs.BatchCalls.{LooksOnce}
-use Rattle.pma_store.specs.Damaging.{IsMetLooking}
+use Rattle.pma_store.specs.Damaging.{AreFoundTallies, IsMetLooking}
 use Rattle.pma_store.specs.Looking.{TellsOther}
 use Rattle.pma_store.specs.Store.{StoreView, limit_of}
 
@@ -107,24 +110,46 @@ SumsFound None items most before after = Unit {0}
 SumsFound (Some found) items most before after = HaveRoom items (there_in found) before most (length items) →
     after + (counted_first items (there_in found) (length items)).removed ≡ before + (counted_first items (there_in found) (length items)).stored
 
--- how many of the changes add a record, and how many take one
-abbrev pub adds_in : List ItemChange → ℕ
-adds_in [] = 0
-adds_in (c ∷ cs) = (if adds c.change then 1 else 0) + adds_in cs
+-- Item by item.
 
-abbrev pub takes_in : List ItemChange → ℕ
-takes_in [] = 0
-takes_in (c ∷ cs) = (if adds c.change then 0 else 1) + takes_in cs
+-- the first n values of what is found
+abbrev pub flags : (ℕ → Bool) → ℕ → List Bool
+flags there zero = []
+flags there (suc n) = there 0 ∷ flags (λ k. there (suc k)) n
 
--- the changes are as many as were counted
-pub record AreCounted (changes : List ItemChange) (counts : ItemCounts) : Type 0 where
-  pub adds_are : adds_in changes ≡ counts.stored
-  pub takes_are : takes_in changes ≡ counts.removed
+-- the counts with items more, each by whether its key was found
+abbrev pub counted_all : List Update → List Bool → ItemCounts → ItemCounts
+counted_all [] bs c = c
+counted_all (u ∷ us) [] c = c
+counted_all (u ∷ us) (b ∷ bs) c = counted_all us bs (counted_by u b c)
+
+-- what items make of the counts and marks, as their keys were found, if it was looked for them
+abbrev pub TalliesFound : Option (List Bool) → List Update → ℕ → TallyView → TallyView → Type 0
+TalliesFound None items most t v = Unit {0}
+TalliesFound (Some found) items most t v = HaveRoom items (there_in found) (sum t.counts) most (length items) →
+    AreFoundTallies items (flags (there_in found) (length items)) t v
+
+-- the kinds of changes
+abbrev pub kinds_in : List ItemChange → List Change
+kinds_in [] = []
+kinds_in (c ∷ cs) = c.change ∷ kinds_in cs
+
+-- with one before them, if there is one
+abbrev pub with_kind : Option Change → List Change → List Change
+with_kind None more = more
+with_kind (Some change) more = change ∷ more
+
+-- those of items, each by whether its key was found
+abbrev pub kinds_of : List Update → List Bool → List Change
+kinds_of [] bs = []
+kinds_of (u ∷ us) [] = []
+kinds_of (u ∷ us) (b ∷ bs) = with_kind (kind_of (is_put u) b) (kinds_of us bs)
 
 -- The keys of items were looked for, which changes nothing: what they would do, and which of them are there.
 pub record ValidatesItems (items : List Update) (result : Result (Option Validated) StoreFault) (s t : StoreView) (a b : View) : Type 0 where
   pub validated : IfOk result (λ validated. Told a → counts_in validated ≡ validated_of (limit_of s) (map_of a.held) items)
   pub found : IfOk result (λ validated. Told a → AreAllFound (found_in validated) items (map_of a.held))
+  pub full : IfOk result (λ validated. validated ≡ None → upper_of (limit_of s) < sum s.tally.counts + puts_in items)
   pub store : t ≡ s
   pub steps : Steps Same a b
   pub unwritten : b.travel.written ≡ a.travel.written

@@ -21,7 +21,7 @@ ghost use Rattle.pma_store.specs.Batching.{AppliesBatch, Batches, IsRefusal, ver
 ghost use Rattle.pma_store.specs.Charging.{changes, charge_told, work_by};
 ghost use Rattle.pma_store.specs.Damaging.{IsOrderly};
 ghost use Rattle.pma_store.specs.Items.{CountsAsFound, IsAsFound, IsContradicted, MakesItem, MakesItems};
-ghost use Rattle.pma_store.specs.Validating.{AreAllFound, CountsFound, SumsFound, SumsItem, counts_of, validated_of, found_at, there_in};
+ghost use Rattle.pma_store.specs.Validating.{AreAllFound, CountsFound, SumsFound, SumsItem, TalliesFound, counts_of, validated_of, found_at, there_in};
 ghost use Rattle.pma_store.specs.Looking.{TellsOther};
 ghost use Rattle.pma_store.specs.Once.{AreOneCommit};
 ghost use Rattle.pma_store.specs.Locations.{FindsLocation};
@@ -29,8 +29,8 @@ ghost use Rattle.pma_store.specs.Store.{IsOpenOn, limit_of, IsStore, StandsOn};
 ghost use Rattle.pma_store.specs.Updating.{FitsFormat, update_of};
 
 use crate::answers::{Batch, Outcome, Report, has_changed, work_of};
-use crate::batch_scan::{BatchScan, MOST, find_segments, look_over};
-use crate::commit::commit_edits;
+use crate::batch_scan::{BatchScan, MOST, Search, find_segments};
+use crate::commit::{Edits, commit_edits};
 use crate::store::{OpenArray, Store};
 use crate::update::{Location, Update, update_in};
 use crate::validation::{Validated, list_fitting, validate_items};
@@ -158,17 +158,13 @@ impl OpenArray {
         let segments = &mut segments[..len];
         find_segments(&self.index, intent, segments);
         let mut look = BatchScan::new();
-        look_over(
-            station,
-            &self.place,
-            &self.tally,
-            &mut self.page,
-            &mut self.frames,
+        let search = Search {
+            place: &self.place,
+            tally: &self.tally,
             intent,
             segments,
-            &mut look,
-            rows,
-        )?;
+        };
+        look.look_over(station, &search, &mut self.page, &mut self.frames, rows)?;
         let Some(validated) = validate_items(intent, &look.found, self.records(), most) else {
             return Ok(Attempt::Full);
         };
@@ -189,8 +185,10 @@ impl OpenArray {
             &mut self.frames,
             &mut self.index,
             &mut self.tally,
-            &look,
-            &changes[..count],
+            &Edits {
+                look: &look,
+                changes: &changes[..count],
+            },
         ) {
             Ok(()) => Ok(Attempt::Done(validated)),
             Err(Failed) => Err(StoreFault::Failed),
@@ -248,6 +246,7 @@ impl OpenArray {
         requires found { Told (S.view station.old) → AreAllFound found intent.now (map_of (S.view station.old).held) }
         ensures made { MakesItems intent.now result self.old self.new (S.view station.old) (S.view station.new) }
         ensures sums { OnOk result (SumsFound found intent.now (upper_of (limit_of self.old)) (sum self.old.tally.counts) (sum self.new.tally.counts)) }
+        ensures tallies { OnOk result (TalliesFound found intent.now (upper_of (limit_of self.old)) self.old.tally self.new.tally) }
     {
         let mut charges = 0;
         for i in 0..intent.len() {

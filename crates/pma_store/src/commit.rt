@@ -148,6 +148,13 @@ fn count_change(tally: &mut Tally, segment: u32, change: Option<Change>)
     }
 }
 
+/// The segments of a batch that are in frames, and what its items change.
+#[derive(Clone, Copy)]
+pub(crate) struct Edits<'a> {
+    pub(crate) look: &'a BatchScan,
+    pub(crate) changes: &'a [ItemChange],
+}
+
 /// Commits the edited segments, and then sets their fences and counts the changes. After `Failed` counts and index are as they
 /// were.
 pub(crate) fn commit_edits<S: Station>(
@@ -156,28 +163,27 @@ pub(crate) fn commit_edits<S: Station>(
     frames: &mut Frames,
     index: &mut Index,
     tally: &mut Tally,
-    look: &BatchScan,
-    changes: &[ItemChange],
+    edits: &Edits,
 ) -> Result<(), Failed>
     requires layout { IsLayout place.now.layout }
     requires region { place.now.region < 2 }
     requires reach { file_length place.now.layout ≤ (S.view station.old).fixed.reach }
     requires journal { frames.old.journal ≡ place.now.layout.journal }
-    requires loaded { AreLoaded place.now.layout.format frames.old look.now (2 ^ index.old.height) }
+    requires loaded { AreLoaded place.now.layout.format frames.old edits.now.look.now (2 ^ index.old.height) }
     requires tall { index.old.height ≤ height_limit place.now.layout }
     requires settled { EachHeld (IsSettledAt place.now) (S.view station.old) }
     requires rests { RestsAt place.now.layout frames.old.turn (S.view station.old) }
     requires tally { IsTally tally.old }
     requires balanced { IsBalanced tally.old.height tally.old.counts }
-    requires in_store { All (λ c. c.segment < 2 ^ tally.old.height) changes.now }
-    requires within { stay_within tally.old.height tally.old.counts changes.now ≡ true }
-    ensures committed { CommitsEdits place.now look.now changes.now result frames.old frames.new.turn index.old index.new tally.old tally.new (S.view station.old) (S.view station.new) }
+    requires in_store { All (λ c. c.segment < 2 ^ tally.old.height) edits.now.changes.now }
+    requires within { stay_within tally.old.height tally.old.counts edits.now.changes.now ≡ true }
+    ensures committed { CommitsEdits place.now edits.now.look.now edits.now.changes.now result frames.old frames.new.turn index.old index.new tally.old tally.new (S.view station.old) (S.view station.new) }
     ensures journal { frames.new.journal ≡ frames.old.journal }
 {
-    match commit_frames(station, place, frames, look.count) {
+    match commit_frames(station, place, frames, edits.look.count) {
         Ok(()) => {
-            renew_fences(index, frames, place.layout.format, look);
-            count_changes(tally, changes);
+            renew_fences(index, frames, place.layout.format, edits.look);
+            count_changes(tally, edits.changes);
             Ok(())
         }
         Err(Failed) => Err(Failed),

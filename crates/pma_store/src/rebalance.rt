@@ -35,6 +35,13 @@ use segment::{Damage, Segment, StoreFault};
 use station::Station;
 use window_tally::{Change, Pick, Tally};
 
+/// A change of a segment, and what is done first.
+#[derive(Clone, Copy)]
+pub(crate) struct Plan {
+    pub(crate) change: Change,
+    pub(crate) pick: Pick,
+}
+
 impl OpenArray {
     // What a change of a segment asks for.
     pub(crate) fn pick(&self, segment: u32, change: Change) -> Pick
@@ -83,32 +90,31 @@ impl OpenArray {
         update: &Update,
         location: Location,
         rows: &mut Segment,
-        change: Change,
-        pick: Pick,
+        plan: Plan,
     ) -> Result<Location, StoreFault>
         requires on { StandsOn self.old (S.view station.old) }
         requires kept { IsStore self.old }
-        requires few { change ≡ Change.Add → sum self.old.tally.counts < upper_of self.old.tally.hmax }
+        requires few { plan.change ≡ Change.Add → sum self.old.tally.counts < upper_of self.old.tally.hmax }
         requires location { IsLocation (update_of update.now) self.old location rows.old }
         requires own { Told (S.view station.old) → IsOwn (update_of update.now) location rows.old (S.view station.old).held }
-        requires needs { need_of (update_of update.now) (is_ok location.found) ≡ need.Change change }
-        requires pick { pick ≡ pick_of self.old.tally.hmax self.old.tally.height location.segment change (broken_in change location.segment self.old.tally) }
-        requires possible { IsPossible self.old.tally pick }
-        requires room { pick ≢ Pick.AtLimit }
-        ensures kept { KeepsStore result (ready_cost self.old.place.layout self.old.tally.height pick)
-            (ready_calls self.old.place.layout self.old.tally.height pick + again_calls pick)
+        requires needs { need_of (update_of update.now) (is_ok location.found) ≡ need.Change plan.change }
+        requires pick { plan.pick ≡ pick_of self.old.tally.hmax self.old.tally.height location.segment plan.change (broken_in plan.change location.segment self.old.tally) }
+        requires possible { IsPossible self.old.tally plan.pick }
+        requires room { plan.pick ≢ Pick.AtLimit }
+        ensures kept { KeepsStore result (ready_cost self.old.place.layout self.old.tally.height plan.pick)
+            (ready_calls self.old.place.layout self.old.tally.height plan.pick + again_calls plan.pick)
             self.old self.new (S.view station.old) (S.view station.new) }
-        ensures place { OnOk result (IsPlaceAfter (resizes pick) self.old self.new (S.view station.old) (S.view station.new)) }
-        ensures ready { IfOk result (λ next. IsReady (update_of update.now) change location.segment self.old self.new next rows.new) }
-        ensures own { IfOk result (λ next. Told (S.view station.old) → HasReady (update_of update.now) change location.segment self.old next rows.new (S.view station.old).held (S.view station.new).held) }
-        ensures asks { OnErr result (IsSome (broken_in change location.segment self.old.tally)) }
-        ensures late { IfErr result (λ fault. IsMetLate change location.segment self.old self.new fault (S.view station.new)) }
+        ensures place { OnOk result (IsPlaceAfter (resizes plan.pick) self.old self.new (S.view station.old) (S.view station.new)) }
+        ensures ready { IfOk result (λ next. IsReady (update_of update.now) plan.change location.segment self.old self.new next rows.new) }
+        ensures own { IfOk result (λ next. Told (S.view station.old) → HasReady (update_of update.now) plan.change location.segment self.old next rows.new (S.view station.old).held (S.view station.new).held) }
+        ensures asks { OnErr result (IsSome (broken_in plan.change location.segment self.old.tally)) }
+        ensures late { IfErr result (λ fault. IsMetLate plan.change location.segment self.old self.new fault (S.view station.new)) }
     {
-        if pick == Pick::Fits {
+        if plan.pick == Pick::Fits {
             return Ok(location);
         }
-        self.make_ready(station, location.segment, change, pick)?;
-        self.find_again(station, update, rows, change, pick)
+        self.make_ready(station, location.segment, plan.change, plan.pick)?;
+        self.find_again(station, update, rows, plan)
     }
 
     // Does what a change of a segment asks for.
@@ -173,20 +179,19 @@ impl OpenArray {
         station: &mut S,
         update: &Update,
         rows: &mut Segment,
-        change: Change,
-        pick: Pick,
+        plan: Plan,
     ) -> Result<Location, StoreFault>
         requires on { StandsOn self.old (S.view station.old) }
-        requires again { Told (S.view station.old) → FindsAgain (update_of update.now) change pick (array_of (S.view station.old).held) }
-        requires low { IsLow pick }
+        requires again { Told (S.view station.old) → FindsAgain (update_of update.now) plan.change plan.pick (array_of (S.view station.old).held) }
+        requires low { IsLow plan.pick }
         ensures store { IsStore self.new }
         ensures found { FindsLocation (update_of update.now) result self.old self.new rows.new (S.view station.old) (S.view station.new) }
-        ensures lies { IfOk result (λ location. LiesIn pick location.segment) }
-        ensures needs { IfOk result (λ location. need_of (update_of update.now) (is_ok location.found) ≡ need.Change change) }
-        ensures out { IfErr result (λ fault. ¬ IsOrderly fault → LeavesWindow (update_of update.now) change pick self.new rows.new) }
+        ensures lies { IfOk result (λ location. LiesIn plan.pick location.segment) }
+        ensures needs { IfOk result (λ location. need_of (update_of update.now) (is_ok location.found) ≡ need.Change plan.change) }
+        ensures out { IfErr result (λ fault. ¬ IsOrderly fault → LeavesWindow (update_of update.now) plan.change plan.pick self.new rows.new) }
     {
         match self.find_location(station, update, rows) {
-            Ok(location) if fits_again(update, location, change, pick) => Ok(location),
+            Ok(location) if fits_again(update, location, plan) => Ok(location),
             Ok(location) => Err(StoreFault::Damaged {
                 segment: location.segment,
                 why: Damage::OutOfOrder,
@@ -206,11 +211,12 @@ fn updates_in(tally: &Tally, window: Window) -> Option<u64>
 }
 
 // Whether a location lies where it may, and the update asks for the same change there.
-fn fits_again(update: &Update, location: Location, change: Change, pick: Pick) -> bool
-    requires { IsLow pick }
-    ensures { IsTrue result ↔ (LiesIn pick location.segment × (need_of (update_of update.now) (is_ok location.found) ≡ need.Change change)) }
+fn fits_again(update: &Update, location: Location, plan: Plan) -> bool
+    requires { IsLow plan.pick }
+    ensures { IsTrue result ↔ (LiesIn plan.pick location.segment × (need_of (update_of update.now) (is_ok location.found) ≡ need.Change plan.change)) }
 {
-    lies_in(pick, location.segment) && update.need(location.found.is_ok()) == Need::Change(change)
+    let need = update.need(location.found.is_ok());
+    lies_in(plan.pick, location.segment) && need == Need::Change(plan.change)
 }
 
 // Whether a segment lies in the window that was picked, where one was.

@@ -11,11 +11,11 @@ ghost use Rattle.key_slot.specs.Record.{IsAscending};
 ghost use Rattle.map_model.specs.Array.{Array, rows};
 ghost use Rattle.map_model.specs.Store.{Map};
 ghost use Rattle.one_commit.specs.Fitting.{changes_in};
-ghost use Rattle.recovery.specs.Intents.{meets_by, records_by};
+ghost use Rattle.recovery.specs.Intents.{meets_by, puts_in, records_by};
 ghost use Rattle.window_tally.specs.View.{IsTally};
 ghost use Rattle.pma_store.specs.AtOnce.{FitsCommit, IsUnfit};
 ghost use Rattle.pma_store.specs.Batching.{done_by};
-ghost use Rattle.pma_store.specs.Validating.{AreCounted, AreFoundAt, CountsFound, counted_first, counts_in, counts_of, edits_of, validated_of, counted_by, total};
+ghost use Rattle.pma_store.specs.Validating.{AreFoundAt, CountsFound, counted_first, counts_in, counts_of, edits_of, flags, kinds_in, kinds_of, validated_of, counted_by, total};
 ghost use Rattle.pma_store.specs.Looked.{BelongThere, HasFound};
 ghost use Rattle.pma_store.specs.Updating.{update_of};
 
@@ -72,6 +72,7 @@ pub(crate) fn validate_items(
     requires { length found.now ≡ 16 }
     ensures validated { (hmax : ℕ) (m : Map) → most ≡ upper_of hmax → records ≡ len m → AreFoundAt found.now intent.now m → counts_in result ≡ validated_of hmax m intent.now }
     ensures found { IfSome result (λ validated. (k : ℕ) → k < length intent.now → slice_index_or validated.found k false ≡ is_ok (slice_index_or found.now k (Err 0))) }
+    ensures full { result ≡ None → most < records + puts_in intent.now }
     ensures total { IfSome result (λ validated. total validated ≡ length intent.now) }
     ensures as_found { IfSome result (λ validated. CountsFound intent.now (λ k. is_ok (slice_index_or found.now k (Err 0))) records most (counts_of validated)) }
 {
@@ -168,7 +169,8 @@ fn list_changes(
     requires found { length found.now ≡ 16 }
     ensures few { result ≤ length intent.now }
     ensures in_store { (n : ℕ) → ((k : ℕ) → k < length segments.now → slice_index_or segments.now k 0 < n) → All (λ c. c.segment < n) (take result changes.new) }
-    ensures counted { AreCounted (take result changes.new) (counted_first intent.now (λ k. is_ok (slice_index_or found.now k (Err 0))) (length intent.now)) }
+    ensures kinds { kinds_in (take result changes.new) ≡
+        kinds_of intent.now (flags (λ k. is_ok (slice_index_or found.now k (Err 0))) (length intent.now)) }
     ensures listed { (array : Array) (n : ℕ) → 0 < length array → IsAscending (rows array) →
         BelongThere array segments.now intent.now → ((k : ℕ) → k < length segments.now → slice_index_or segments.now k 0 < n) →
         HasFound array segments.now intent.now found.now n → take result changes.new ≡ changes_in array intent.now }

@@ -1,7 +1,7 @@
 -- The outcome of an opening, and what is known of parts and file between its steps.
 use Rattle.std.specs.Prelude.{◌≡◌, ◌≢◌, ◌⊎◌, ℕ, ◌+◌, ◌<◌, ◌≤◌, List, sum, Some, None, Result, IsOk, OnOk, IfErr, IsErrOf}
 use Rattle.station.specs.View.{View, Told, Honest, EachHeld, NothingPending, Rose, up}
-use Rattle.station.specs.Steps.{Steps}
+use Rattle.station.specs.Steps.{Steps, LeavesOnly}
 use Rattle.density_rule.specs.Bounds.{IsInBounds}
 use Rattle.density_rule.specs.Marks.{no_marks}
 use Rattle.density_rule.specs.Repair.{repair_window}
@@ -73,6 +73,9 @@ GoesOn result a b = (IsErrOf result Failed → ⊥) ⊎ (up a.calls 1 < b.calls)
 -- were held at entry, and from no other image.
 pub record SyncsFirst {T : Type 0} (R : List ℕ → List ℕ → Type 0) (result : Result T OpenFault) (a b : View) : Type 0 where
   pub called : up a.calls 1 ≤ b.calls
+  -- while the first call is made, a crash leaves an image that it might have left at entry; behind it, one that comes by R from
+  -- the bytes that were held there
+  pub first : LeavesOnly (λ image said. a.may_leave image ⊎ R a.held image) a b
   pub synced : GoesOn result a b → Honest a → (image said : List ℕ) → b.may_have_left (up a.calls 1) image said → R a.held image
 
 -- The parts of an opened store, and the file that they agree with: its array is the repair of the old one.

@@ -12,7 +12,7 @@ ghost use Rattle.recovery.specs.Faults.{IsNoDamage, IsIntentFault};
 ghost use Rattle.recovery.specs.Intents.{intent_of, intent_reason, intent_calls, intent_reads, IsIntentFor, may_meet, place_among};
 ghost use Rattle.recovery.specs.Opening.{IsReadBack};
 
-use crate::fault::{OpenFault, of_repair};
+use crate::fault::OpenFault;
 use crate::fullness::{count_puts, full_place};
 use crate::looking::find_keys;
 use crate::parts::Parts;
@@ -72,13 +72,11 @@ fn admit<S: Station>(station: &mut S, parts: &Parts, intent: &Intent) -> Result<
     if records + count_puts(intent) <= most {
         return Ok(());
     }
-    match find_keys(station, parts, intent) {
-        Ok(there) => match full_place(intent, &there, records, most) {
-            None => Ok(()),
-            Some(place) => Err(OpenFault::NotStore(Reason::Intent {
-                place: INTENT as u32 + place,
-            })),
-        },
-        Err(fault) => Err(of_repair(fault)),
+    let there = find_keys(station, parts, intent)?;
+    match full_place(intent, &there, records, most) {
+        None => Ok(()),
+        Some(place) => Err(OpenFault::NotStore(Reason::Intent {
+            place: INTENT as u32 + place,
+        })),
     }
 }

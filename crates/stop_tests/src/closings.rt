@@ -1,5 +1,5 @@
-//! Dumps, upgrades and loads that are stopped at each call, and with each call failing: of stores whose index is open, which they
-//! close, and dumps of one whose file has no room for an index.
+//! Dumps, upgrades, merges and loads that are stopped at each call, and with each call failing: of stores whose index is open,
+//! which they close, and dumps of one whose file has no room for an index.
 
 use super::indexes::{COMMAND, left, see_both};
 use super::openings::{failed_at, image, range_over};
@@ -112,6 +112,11 @@ pub(super) fn see_commands(rt: &impl Abort, alloc: Global, maker: &str, fails: b
         (b"", (map, map)),
         fails,
     );
+    let text = b"remove k001\nrecord k066\nend 2\n";
+    let line = b"merged stored=1 replaced=0 removed=1 absent=0\n";
+    let after = range_over(rt, alloc, (2, 66));
+    let want = (line.as_slice(), (map, after.as_slice()));
+    see_command(rt, alloc, Verb::Merge, &file, text, want, fails);
     let empty = answered_by(alloc, maker, "2", None, &[]).expect(rt, "the store");
     let want = (b"".as_slice(), (b"end 0\n".as_slice(), map));
     see_command(rt, alloc, Verb::Load, &empty, map, want, fails);

@@ -16,7 +16,7 @@ pub returns-then-not-more-clause-none : goal.returns-then-not-more-clause-none
 returns-then-not-more-clause-none g c same =
     let n = c.in_ok-more.ensures.none c.if-not-more.true in
     let old = c.loop-ahead.ahead in (
-      ap (λ (a : Ahead). at_hand a) n.0 ∙ hand_none old.place old.page.rows (c.loop-ahead-test.true ∙ c.len.ensures.len ∙ ap (λ (l : List Record). length l) c.rows.ensures),
+      ap (λ (a : Ahead). at_hand a) n.0 ∙ hand_none old.index old.page.rows (c.loop-ahead-test.true ∙ c.len.ensures.len ∙ ap (λ (l : List Record). length l) c.rows.ensures),
       ap (λ (a : Ahead). a.reader.next) n.0 ∙ n.1 ∙ sym (ap (λ (a : Ahead). a.reader.end) n.0),
     )
 

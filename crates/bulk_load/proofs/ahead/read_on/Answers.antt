@@ -39,7 +39,7 @@ read g c told =
     let is = subst (λ (l : Layout). IsSegment l.format rs (next_page old held)) among.layout_is (c.in-Ok-true.ensures.segment c.in-Ok-true.field-0-test told) in
     own_read c.args.place.now c.args.ahead.now.tally.now held (c.requires.live.stands held (inl (told, refl))) old.next rs (below g c) (subst (IsSegment c.args.place.now.layout.format rs) page is)
 
-ahead_on : (g : _) (c : In-Ok-true g) → IsAhead c.args.place.now (record c.args.ahead.now { reader = c.next_segment.new.reader; page = c.next_segment.new.page; place = 0; segment = c.args.ahead.now.segment + 1 })
+ahead_on : (g : _) (c : In-Ok-true g) → IsAhead c.args.place.now (record c.args.ahead.now { reader = c.next_segment.new.reader; page = c.next_segment.new.page; index = 0; segment = c.args.ahead.now.segment + 1 })
 ahead_on g c =
     let live = c.requires.live in
     let among = live.ahead in
@@ -91,7 +91,7 @@ returns-in-Ok-true-clause-reads g c =
           ∙ ahead_read segments old.reader.next old.page.rows c.next_segment.new.page.rows lt (read g at told)
           ∙ ap (λ (k : ℕ). drop k old.page.rows ++ rows (drop old.reader.next segments)) (sym c.requires.used_up);
       above = λ key above.
-          let none = hand_none old.place old.page.rows c.requires.used_up in
+          let none = hand_none old.index old.page.rows c.requires.used_up in
           let more = above.onward none (λ e. omega (arith, e, below g at, among.end_is)) in
           record {
             here = more c.next_segment.new.page.rows (c.in-Ok-true.ensures.above c.in-Ok-true.field-0-test);

@@ -122,8 +122,8 @@ module _ (g : _) (c : In-Some g) where
   abbrev h : Ahead
   h = c.next_of.new.run.ahead
 
-  is_there : slice_get h.page.rows h.place ≡ Some r
-  is_there = subst (λ (o : Option Row). IfSome o (λ row. slice_get h.page.rows h.place ≡ Some (record_of row))) c.in-Some.is c.in_ok-row.ensures.row
+  is_there : slice_get h.page.rows h.index ≡ Some r
+  is_there = subst (λ (o : Option Row). IfSome o (λ row. slice_get h.page.rows h.index ≡ Some (record_of row))) c.in-Some.is c.in_ok-row.ensures.row
 
   hit : begins_under c.args.key.now (r ∷ []) ≡ true
   hit = subst (λ (o : Option Row). IfSome o (λ row. begins_under c.args.key.now (record_of row ∷ []) ≡ true)) c.in-Some.is c.in_ok-row.ensures.under
@@ -152,10 +152,10 @@ pub take_result-requires-clause-fits : goal.take_result-requires-clause-fits
 take_result-requires-clause-fits g c =
     let at = (goal.at.take_result-requires-clause-fits g c).In-Some in
     let amid = mid_amid g (goal.at.take_result-requires-clause-fits g c).In_ok-row in
-    all_at (is_record c.args.place.now.layout.format) (h g at).place (h g at).page.rows (r g at) amid.live.ahead.fits.records (is_there g at)
+    all_at (is_record c.args.place.now.layout.format) (h g at).index (h g at).page.rows (r g at) amid.live.ahead.fits.records (is_there g at)
 
 pub pass-requires : goal.pass-requires
-pass-requires g c = let at = (goal.at.pass-requires g c).In-Some in some_lt (h g at).place (h g at).page.rows (r g at) (is_there g at)
+pass-requires g c = let at = (goal.at.pass-requires g c).In-Some in some_lt (h g at).index (h g at).page.rows (r g at) (is_there g at)
 
 -- A fault of the reading.
 
@@ -202,7 +202,7 @@ returns-in_err-take_result g c =
     (tries_on place (2 ^ first.ahead.tally.now.height) first.taken.written m.taken.written first.ahead.reader.next m.ahead.reader.next c.args.frames.now c.loop-row.frames c.take_result.new.frames a b z (taking_inside place m.taken c.loop-row.frames amid.taking) (mid_goes g mid_at)
     (packs_tries place (2 ^ first.ahead.tally.now.height) m.ahead.reader.next (r g at) _ m.taken c.take_result.new.taken c.loop-row.frames c.take_result.new.frames b z (omega (arith, amid.live.ahead.within, amid.live.ahead.end_is, tall g mid_at)) amid.taking packs))
     (packing_copy_fault place c.args.key.now first a m.taken.records c.in_err-take_result.field-0.0 fault inv.copied (left_in (array_of a.held) (passed m.ahead)) (r g at) (omega (arith, inv.count, ap (λ (t : Taken). t.records) (same_taken g mid_at))) (hit g at) (split_hit g at))
-    (packing_over place first m.taken.records c.in_err-take_result.field-0.0 fault (omega (arith, mid_walked g mid_at, some_lt m.ahead.place m.ahead.page.rows (r g at) (is_there g at), sum_by-take-le (λ x. x) m.ahead.tally.now.counts m.ahead.reader.next, ap (λ (t : TallyView). sum t.counts) (mid_tally g mid_at))))
+    (packing_over place first m.taken.records c.in_err-take_result.field-0.0 fault (omega (arith, mid_walked g mid_at, some_lt m.ahead.index m.ahead.page.rows (r g at) (is_there g at), sum_by-take-le (λ x. x) m.ahead.tally.now.counts m.ahead.reader.next, ap (λ (t : TallyView). sum t.counts) (mid_tally g mid_at))))
     (packing_damage place first.ahead.reader.next a.travel z.travel first.ahead.tally.now (most_records place.layout) m.taken.records c.in_err-take_result.field-0.0 fault)
     (λ disk. rose_on a b z.disk_faults (mid_goes g mid_at).steps.frame.disk_faults (c.in_err-take_result.ensures.failed (disk_as {T = Unit {0}} c.in_err-take_result.field-0.0 disk)))
 
@@ -226,7 +226,7 @@ loop-row-preserved g c =
     let packs = c.take_result.ensures in
     let ok = c.in_ok-take_result.ensures in
     let e = record_of c.in-Some.row in
-    let lt = some_lt m.ahead.place m.ahead.page.rows e (is_there g at) in
+    let lt = some_lt m.ahead.index m.ahead.page.rows e (is_there g at) in
     let next : c.pass.new.ahead ≡ passed m.ahead = c.pass.ensures.ahead in
     let goes = goes_on place first.taken.written m.taken.written t.written first.ahead.reader.next m.ahead.reader.next m.ahead.reader.next c.args.frames.now f k a b z (mid_goes g mid_at) (packs_goes place tt e m.taken t m.ahead.reader.next f k b z ok) in
     record {

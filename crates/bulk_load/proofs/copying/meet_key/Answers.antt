@@ -59,7 +59,7 @@ returns g c =
     let live = copies.amid.live in
     let stops = copies.stops in
     let met = begins_with k (at_hand h) in
-    let is : new ≡ cond met (record h { place = h.place + 1 }) h = c.pass_key.ensures.ahead in
+    let is : new ≡ cond met (record h { index = h.index + 1 }) h = c.pass_key.ensures.ahead in
     record {
       amid = record {
         can = copies.amid.can;

@@ -59,7 +59,7 @@ loop-have-preserved-in-Continue-1 g c =
       room = done.reads.room ∙ inv.room;
       unread = omega (arith, done.reads.unread, inv.unread);
       rest = omega (arith, done.same, inv.rest);
-      filled = ap length (done.others c.args.to.place (omega (arith, c.requires.behind, inv.room)) (omega (arith, c.requires.frame, wide))) ∙ inv.filled;
+      filled = ap length (done.others c.args.to.index (omega (arith, c.requires.behind, inv.room)) (omega (arith, c.requires.frame, wide))) ∙ inv.filled;
       others = λ i le lt other. done.others i (omega (arith, le, inv.room)) (omega (arith, lt, wide)) ∙ inv.others i le lt other;
       slots = done.reads.rest ∙ ap (λ (x : Batch). record x { slots = c.read_packed.new.frames.slots }) inv.slots;
       steps = same_on inv.steps done.reads.steps;
@@ -69,7 +69,7 @@ loop-have-preserved-in-Continue-1 g c =
       can = fill_same c.args.place.now c.loop-have.frames c.read_packed.new.frames inv.can (ap (λ (b : Batch). b.journal) done.reads.rest) done.reads.steps;
       are = λ told rows are. done.reads.are (told_on inv.steps.frame told) rows (inv.are told rows are);
       share = λ told rows are.
-          done.others c.args.to.place (omega (arith, c.requires.behind, inv.room)) (omega (arith, c.requires.frame, wide)) ∙ inv.share told rows are
+          done.others c.args.to.index (omega (arith, c.requires.behind, inv.room)) (omega (arith, c.requires.frame, wide)) ∙ inv.share told rows are
           ∙ ap (λ (k : ℕ). slice_range rows k c.args.packed.now.rest) (sym done.same);
     }
 

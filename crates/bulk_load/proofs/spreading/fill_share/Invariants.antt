@@ -17,8 +17,8 @@ invariant-loop-have g l = record {
   room : l.packed.room ≡ l.fn.packed.room;
   unread : l.packed.unread ≤ l.fn.packed.unread;
   rest : l.packed.rest + l.have ≡ l.fn.packed.rest;
-  filled : length (share_in l.place.layout.format l.to.place l.frames) ≡ l.have;
-  others : (i : ℕ) → l.fn.packed.room ≤ i → i < places l.place.layout.format l.fn.frames → i ≢ l.to.place → share_in l.place.layout.format i l.frames ≡ share_in l.place.layout.format i l.fn.frames;
+  filled : length (share_in l.place.layout.format l.to.index l.frames) ≡ l.have;
+  others : (i : ℕ) → l.fn.packed.room ≤ i → i < places l.place.layout.format l.fn.frames → i ≢ l.to.index → share_in l.place.layout.format i l.frames ≡ share_in l.place.layout.format i l.fn.frames;
   slots : l.frames ≡ record l.fn.frames { slots = l.frames.slots };
   steps : Steps Same (g.S.Station.view l.fn.station) (g.S.Station.view l.station);
   unwritten : (g.S.Station.view l.station).travel.written ≡ (g.S.Station.view l.fn.station).travel.written;
@@ -27,7 +27,7 @@ invariant-loop-have g l = record {
   can : CanFill l.place l.frames (g.S.Station.view l.station);
   are : Told (g.S.Station.view l.fn.station) → (rows : List Record) → ArePacked l.place l.records rows l.fn.packed l.fn.frames (g.S.Station.view l.fn.station).held → ArePacked l.place l.records rows l.packed l.frames (g.S.Station.view l.station).held;
   share : Told (g.S.Station.view l.fn.station) → (rows : List Record) → ArePacked l.place l.records rows l.fn.packed l.fn.frames (g.S.Station.view l.fn.station).held →
-      share_in l.place.layout.format l.to.place l.frames ≡ slice_range rows l.packed.rest l.fn.packed.rest;
+      share_in l.place.layout.format l.to.index l.frames ≡ slice_range rows l.packed.rest l.fn.packed.rest;
 }
 
 -- each segment is read once, and each record moved once

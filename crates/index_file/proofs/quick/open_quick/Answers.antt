@@ -114,7 +114,7 @@ returns-in-Ok-read_header-clause-named g c =
 -- The sync.
 
 pub returns-in_default-clause-synced : goal.returns-in_default-clause-synced
-returns-in_default-clause-synced g c = sync_failed (g.S.Station.view c.args.station.now) (g.S.Station.view c.sync.new.self) c.sync.ensures.counted
+returns-in_default-clause-synced g c = sync_failed (g.S.Station.view c.args.station.now) (g.S.Station.view c.sync.new.self) c.sync.ensures.counted c.sync.ensures.steps
 
 pub returns-in-Ok-read_header-clause-synced : goal.returns-in-Ok-read_header-clause-synced
 returns-in-Ok-read_header-clause-synced g c =

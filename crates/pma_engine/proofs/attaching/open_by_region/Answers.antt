@@ -31,15 +31,15 @@ returns-in-Ok-open_on-clause-opens g c =
     let closing = c.close_index.ensures in
     let is = c.in-Ok-open_on.ensures in
     region_synced (g.S.Station.view c.args.station.now) (g.S.Station.view c.close_index.new.station) (g.S.Station.view c.open_on.new.station) (g.met.S.Station.lawful c.close_index.new.station) (g.met.S.Station.lawful c.open_on.new.station)
-    (record { steps = closing.steps; kept = closing.kept; most = closing.cost }) c.in-Ok.ensures.settled c.in-Ok.ensures.synced closing.clean c.in-Ok.ensures.shut c.in-Ok-open_on.store is.opens c.open_on.ensures.cost is.open is.layout is.state
-    (g.S.Station.view c.sync_opened.new.station) c.sync_opened.result c.sync_opened.ensures
+    (record { steps = closing.steps; kept = closing.kept; most = closing.cost }) c.in-Ok.ensures.settled closing.clean c.in-Ok.ensures.shut c.in-Ok-open_on.store is.opens c.open_on.ensures.cost is.open is.layout is.state
+    c.open_on.ensures.synced.first (g.S.Station.view c.sync_opened.new.station) c.sync_opened.result c.sync_opened.ensures
 
 pub returns-in-Err-open_on-clause-opens : goal.returns-in-Err-open_on-clause-opens
 returns-in-Err-open_on-clause-opens g c =
     let closing = c.close_index.ensures in
     let is = c.in-Err-open_on.ensures in
     region_failed (g.S.Station.view c.args.station.now) (g.S.Station.view c.close_index.new.station) (g.S.Station.view c.open_on.new.station) (g.met.S.Station.lawful c.close_index.new.station) (g.met.S.Station.lawful c.open_on.new.station)
-    (record { steps = closing.steps; kept = closing.kept; most = closing.cost }) c.in-Ok.ensures.settled c.in-Ok.ensures.synced closing.clean c.in-Ok.ensures.shut c.in-Err-open_on.fault is.opens c.open_on.ensures.cost is.failed
+    (record { steps = closing.steps; kept = closing.kept; most = closing.cost }) c.in-Ok.ensures.settled closing.clean c.in-Ok.ensures.shut c.in-Err-open_on.fault is.opens c.open_on.ensures.cost is.failed c.open_on.ensures.synced.first
 
 pub returns-in-Err-clause-opens : goal.returns-in-Err-clause-opens
 returns-in-Err-clause-opens g c =

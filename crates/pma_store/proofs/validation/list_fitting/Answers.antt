@@ -1,8 +1,6 @@
-use Rattle.std.proofs.Common.{◌≡◌, length, take, inr, sym, ap, subst, ◌∙◌, arith}
+use Rattle.std.proofs.Common.{◌≡◌, length, take, inr, sym, ap, ◌∙◌, arith}
 use Rattle.std.proofs.lemmas.List.{length-take-le}
-use Rattle.map_model.specs.Items.{ItemCounts}
 use Rattle.one_commit.specs.Fitting.{fit_one_commit}
-use Rattle.pma_store.specs.Validating.{AreCounted}
 use Rattle.pma_store.proofs.FittingLaws.{not_false, fits_is}
 use Rattle.pma_store.proofs.validation.list_fitting.Goals as goal
 
@@ -24,7 +22,7 @@ returns-clause-fits c =
       in_store = c.list_changes-count.ensures.in_store _ c.requires.within;
       changes_are = λ array some ascends belong finds. c.list_changes-count.ensures.listed array _ some ascends belong c.requires.within finds;
       fit = fits_is _ _ c.fits_one_commit.ensures c.if-not-fits_one_commit.false;
-      counted = subst (λ (k : ItemCounts). AreCounted (take n changes) k) (sym c.requires.counted) c.list_changes-count.ensures.counted;
+      kinds = c.list_changes-count.ensures.kinds;
       counts_are = c.requires.counted;
     }
 

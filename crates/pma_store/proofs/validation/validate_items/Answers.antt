@@ -11,6 +11,7 @@ use Rattle.pma_store.specs.Validating.{counts_of, counted_by, counted_first}
 use Rattle.pma_store.specs.Updating.{update_of}
 use Rattle.pma_store.proofs.Validations.{IsValidated, none_validated, all_validated, full_validated, next_validated, full_of, room_of}
 use Rattle.std.proofs.lemmas.List.{get_or_default}
+use Rattle.pma_store.proofs.Fullness.{meets_full}
 use Rattle.pma_store.proofs.Sums.{next_first, none_first}
 use Rattle.pma_store.proofs.validation.validate_items.Goals as goal
 
@@ -38,6 +39,10 @@ returns-then-not-count_item c =
           (λ t. meets_by (sym item t) c.is_ok-present.result c.loop-i.records (sym most t)) ∙ full_of c.count_item.result (meets_by (update_of c.update_in-update.result) c.is_ok-present.result c.loop-i.records c.args.most) c.count_item.ensures.room c.if-not-count_item.true in
           full_validated hmax m items i c.loop-i.records (counts_of c.loop-i.validated) d lt c.len-i-end.ensures.intent.distinct (is.validated hmax m most records found) c.is_ok-present.result there full;
       found = tt;
+      full = λ _.
+          let full : meets_by (get_or items i d) c.is_ok-present.result c.loop-i.records c.args.most ≡ true =
+          (λ t. meets_by (sym item t) c.is_ok-present.result c.loop-i.records c.args.most) ∙ full_of c.count_item.result (meets_by (update_of c.update_in-update.result) c.is_ok-present.result c.loop-i.records c.args.most) c.count_item.ensures.room c.if-not-count_item.true in
+          meets_full items (λ k. is_ok (get_or c.args.found.now k (Err 0))) c.args.records c.args.most i c.loop-i.records c.is_ok-present.result lt is.first.records_are full;
       total = tt;
       as_found = tt;
     }
@@ -83,6 +88,7 @@ returns c =
     record {
       validated = λ hmax m most records found. all_validated hmax m c.args.intent.now c.loop-i.i c.loop-i.records (counts_of c.loop-i.validated) end (is.validated hmax m most records found);
       found = λ k lt. is.found k (omega (arith, lt, end));
+      full = λ none. absurd cc;
       total = is.counted ∙ end;
       as_found = record {
         counts_are = is.first.counts_are ∙ ap (counted_first c.args.intent.now (λ k. is_ok (get_or c.args.found.now k (Err 0)))) end;

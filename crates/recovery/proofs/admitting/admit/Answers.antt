@@ -15,7 +15,7 @@ use Rattle.recovery.specs.Intents.{IsCounted, place_among}
 use Rattle.recovery.proofs.Lookups.{records_are}
 use Rattle.recovery.proofs.Rooms.{few_admitted}
 use Rattle.recovery.proofs.admitting.admit.Goals as goal
-use Rattle.recovery.proofs.admitting.admit.Goals.{After-count_puts, In-Ok}
+use Rattle.recovery.proofs.admitting.admit.Goals.{After-count_puts, In_ok-there}
 
 -- the records, by the tally
 records : (g : _) (c : After-count_puts g) → c.count-records.result ≡ sum c.args.parts.now.tally.counts
@@ -57,9 +57,9 @@ pub overflow_add-result : goal.overflow_add-result
 overflow_add-result g c = omega (arith, c.in-Some.ensures.low)
 
 -- what is known of the items behind a look
-counted : (g : _) (c : In-Ok g) → c.upper-most.result ≡ upper_of (height_limit c.args.parts.now.place.layout) → len (map_of (g.S.Station.view c.args.station.now).held) ≡ c.count-records.result → Told (g.S.Station.view c.args.station.now)
-    → IsCounted (height_limit c.args.parts.now.place.layout) (map_of (g.S.Station.view c.args.station.now).held) c.args.intent.now c.in-Ok.there c.count-records.result c.upper-most.result
-counted g c most_is len told = record { most_is = most_is; records_are = sym len; found = c.in-Ok.ensures.found told }
+counted : (g : _) (c : In_ok-there g) → c.upper-most.result ≡ upper_of (height_limit c.args.parts.now.place.layout) → len (map_of (g.S.Station.view c.args.station.now).held) ≡ c.count-records.result → Told (g.S.Station.view c.args.station.now)
+    → IsCounted (height_limit c.args.parts.now.place.layout) (map_of (g.S.Station.view c.args.station.now).held) c.args.intent.now c.in_ok-there.there c.count-records.result c.upper-most.result
+counted g c most_is len told = record { most_is = most_is; records_are = sym len; found = c.in_ok-there.ensures.found told }
 
 no_place : (items : List Update) (o : Option ℕ) → place_among items o ≡ None → o ≡ None
 no_place items None is = refl
@@ -70,7 +70,7 @@ returns-in-None-clause-room g c told =
     let limit = height_limit c.args.parts.now.place.layout in
     let m = map_of (g.S.Station.view c.args.station.now).held in
     let at = goal.at.returns-in-None-clause-room g c in
-    let known = counted g at.In-Ok (most g at.After-count_puts) (len_is g at.After-count_puts told) told in
+    let known = counted g at.In_ok-there (most g at.After-count_puts) (len_is g at.After-count_puts told) told in
     no_place c.args.intent.now (first_full limit m c.args.intent.now) (sym (c.full_place.ensures.full limit m known) ∙ c.in-None.is)
 
 pub returns-in-Some-clause-full : goal.returns-in-Some-clause-full
@@ -78,7 +78,7 @@ returns-in-Some-clause-full g c r is told =
     let limit = height_limit c.args.parts.now.place.layout in
     let m = map_of (g.S.Station.view c.args.station.now).held in
     let at = goal.at.returns-in-Some-clause-full g c in
-    let known = counted g at.In-Ok (most g at.After-count_puts) (len_is g at.After-count_puts told) told in
+    let known = counted g at.In_ok-there (most g at.After-count_puts) (len_is g at.After-count_puts told) told in
     let own : Intent (3584 + c.in-Some.place) ≡ r = cc in
     ap reason_at (sym (c.full_place.ensures.full limit m known) ∙ c.in-Some.is)
     ∙ ap Some own

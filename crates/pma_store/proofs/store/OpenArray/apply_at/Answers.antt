@@ -1,4 +1,4 @@
-use Rattle.std.proofs.Common.{◌≡◌, ◌≢◌, inl, inr, ◌+◌, ℕ, ◌^◌, ◌<◌, ◌≤◌, Bool, true, length, get_or, Some, sym, ap, subst, ◌∙◌, arith, rules, is_ok, refl}
+use Rattle.std.proofs.Common.{◌≡◌, ◌≢◌, inl, inr, ◌+◌, ℕ, ◌^◌, ◌<◌, ◌≤◌, Bool, true, false, length, get_or, Some, sym, ap, subst, ◌∙◌, arith, rules, is_ok, refl}
 use Rattle.std.specs.Prelude.{sum}
 use Rattle.station.specs.View.{Told}
 use Rattle.station.specs.Steps.{Steps}
@@ -11,7 +11,7 @@ use Rattle.header_gate.specs.Places.{height_limit}
 use Rattle.map_model.specs.Array.{rows}
 use Rattle.map_model.specs.Holding.{HoldsMap}
 use Rattle.map_model.specs.Image.{array_of, map_of, height_of}
-use Rattle.map_model.specs.Store.{height_after, map_after}
+use Rattle.map_model.specs.Store.{Update, bind, height_after, map_after, unbind}
 use Rattle.std.proofs.lemmas.Grind.{common_steps}
 use Rattle.pma_store.specs.declared.update.Need.TheVariants as need
 use Rattle.window_tally.specs.declared.Change.{Change}
@@ -24,7 +24,8 @@ use Rattle.map_model.specs.ArrayState.{next_state, report_by, report_of}
 use Rattle.pma_store.specs.Answers.{state_in, reported}
 use Rattle.pma_store.specs.Counting.{SumsIf, SumsOne, counted}
 use Rattle.pma_store.specs.Changing.{outcome_of, update_cost, picked_height}
-use Rattle.pma_store.specs.declared.answers.Outcome.TheVariants.{Changed, Replaced}
+use Rattle.pma_store.specs.declared.answers.Outcome.{Outcome}
+use Rattle.pma_store.specs.declared.answers.Outcome.TheVariants.{Changed, Replaced, Unchanged}
 use Rattle.pma_store.specs.Rewrites.{HasRewritten, Rewrites, rewritten, commit_cost}
 use Rattle.pma_store.specs.Store.{StoreView, Stands, limit_of}
 use Rattle.pma_store.specs.Touching.{Updates, IsPlaceAfter}
@@ -43,7 +44,7 @@ use Rattle.pma_store.proofs.Paying.{paid_changed, paid_quietly}
 use Rattle.pma_store.proofs.Damages.{change_is, none_asks}
 use Rattle.pma_store.proofs.Making.{no_fault, stands_there, stands_again, quiet_applies, fault_applies, rewrite_faults, changes, quiet_report, quiet_rested, replaces}
 use Rattle.pma_store.specs.Readying.{broken_in, readied, ready_cost, resizes}
-use Rattle.pma_store.specs.Damaging.{IsMetLate, change_in, picked, report_at}
+use Rattle.pma_store.specs.Damaging.{FindsNoRoom, IsMetLate, change_in, picked, report_at}
 use Rattle.pma_store.specs.Calling.{asked_calls, commit_calls, update_calls}
 use Rattle.pma_store.proofs.Meeting.{moved_one, quiet_within, replaced_within}
 use Rattle.pma_store.proofs.store.OpenArray.apply_at.Goals.{After-prepare, After-rewrite, After-rewrite-2, In-Nothing, Then-eq}
@@ -75,6 +76,31 @@ returns-in-Nothing-clause-within g c = quiet_within (update_of c.args.update.now
 pub returns-in-Nothing-clause-sums : goal.returns-in-Nothing-clause-sums
 returns-in-Nothing-clause-sums g c =
     nothing_sums (update_of c.args.update.now) (is_ok c.args.location.found) _ _ (sym (c.need.ensures ∙ ap (need_of (update_of c.args.update.now)) c.is_ok.ensures.value) ∙ c.in-Nothing.is)
+
+-- A put changes nothing in a full store alone.
+
+nothing_full : (u : Update) (there : Bool) (s : StoreView) → need_of u there ≡ Nothing → FindsNoRoom u Unchanged s
+nothing_full (bind key value) true s asks = absurd cc
+nothing_full (bind key value) false s asks = absurd cc
+nothing_full (unbind key) there s asks = tt
+
+limit_full : (u : Update) (s : StoreView) → sum s.tally.counts ≡ upper_of (limit_of s) → FindsNoRoom u Unchanged s
+limit_full (bind key value) s full = λ _. full
+limit_full (unbind key) s full = tt
+
+made_full : (u : Update) (outcome : Outcome) (s : StoreView) → ¬ (outcome ≡ Unchanged) → FindsNoRoom u outcome s
+made_full (bind key value) outcome s made = λ none. absurd (made none)
+made_full (unbind key) outcome s made = tt
+
+pub returns-in-Nothing-clause-full : goal.returns-in-Nothing-clause-full
+returns-in-Nothing-clause-full g c =
+    nothing_full (update_of c.args.update.now) (is_ok c.args.location.found) c.args.self.now (sym (c.need.ensures ∙ ap (need_of (update_of c.args.update.now)) c.is_ok.ensures.value) ∙ c.in-Nothing.is)
+
+pub returns-in-Replace-clause-full : goal.returns-in-Replace-clause-full
+returns-in-Replace-clause-full g c = made_full (update_of c.args.update.now) Replaced c.args.self.now (λ none. absurd cc)
+
+pub returns-clause-full : goal.returns-clause-full
+returns-clause-full g c = made_full (update_of c.args.update.now) Changed c.args.self.now (λ none. absurd cc)
 
 -- Another value for a present key.
 
@@ -179,6 +205,12 @@ full_here g c told =
 pub returns-then-eq-clause-applied : goal.returns-then-eq-clause-applied
 returns-then-eq-clause-applied g c =
     quiet_applies (update_of c.args.update.now) c.args.self.now c.requires.on (full_here g (goal.at.returns-then-eq-clause-applied g c).Then-eq)
+
+pub returns-then-eq-clause-full : goal.returns-then-eq-clause-full
+returns-then-eq-clause-full g c =
+    let s = c.args.self.now in
+    let is : c.pick-pick.result ≡ AtLimit = first_of (search rules, grind (arith, common_steps)) in
+    limit_full (update_of c.args.update.now) s ((subst (IsPossible s.tally) is c.pick-pick.ensures.possible).1 ∙ ap (λ (h : ℕ). upper_of h) c.requires.kept.hmax)
 
 -- What is known of the store before and once it is ready.
 

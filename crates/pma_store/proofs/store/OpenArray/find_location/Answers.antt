@@ -1,12 +1,11 @@
 use Rattle.std.proofs.Common.{◌≡◌, inl, ℕ, ◌<◌, ◌^◌, List, length, refl, sym, ap, ◌∙◌, subst, arith}
-use Rattle.std.specs.Prelude.{Ok, Some, IfOk, IfErr, is_some}
+use Rattle.std.specs.Prelude.{Ok, Some, IfOk, IfErr, IsOk, IsSome, ◌↔◌}
 use Rattle.std.proofs.lemmas.Result.{err_from_is_err_and}
-use Rattle.key_slot.specs.Record.{Record}
+use Rattle.key_slot.specs.Record.{Bytes, Record}
 use Rattle.station.specs.View.{Told}
 use Rattle.station.specs.declared.travel.Travel.{Travel}
-use Rattle.density_rule.specs.Windows.{count_in}
 use Rattle.density_rule.proofs.Totals.{count_in-segment}
-use Rattle.map_model.specs.Array.{segment_at, segment_for}
+use Rattle.map_model.specs.Array.{segment_for}
 use Rattle.map_model.specs.Store.{key_of}
 use Rattle.map_model.specs.Image.{array_of}
 use Rattle.range_scan.specs.PageView.{PageView}
@@ -15,6 +14,8 @@ use Rattle.pma_store.specs.Store.{StoreView, Stands}
 use Rattle.pma_store.specs.Inside.{view_of}
 use Rattle.pma_store.specs.Locations.{IsLocation, IsOwn, FindsLocation}
 use Rattle.pma_store.specs.Updating.{update_of}
+use Rattle.pma_store.specs.declared.update.Location.{Location}
+use Rattle.pma_store.proofs.Editing.{present_is}
 use Rattle.pma_store.proofs.Damages.{own_damage, own_orderly}
 use Rattle.pma_store.proofs.Making.{by_disk, no_fault}
 use Rattle.station.specs.View.{after_read}
@@ -53,32 +54,33 @@ returns-clause-found g c =
     let u = update_of c.args.update.now in
     let rows = c.read.new.self.rows in
     let at = c.find_segment-segment.result in
-    let location = c.location_in.result in
-    let read_rows : c.deref.result.now.rows ≡ rows = ap (λ (p : PageView). p.rows) c.deref.ensures in
-    let here_is : location.segment ≡ at = c.location_in.ensures.segment in
-    let within_it : location.segment < 2 ^ s.tally.height = subst (λ (i : ℕ). i < 2 ^ s.tally.height) (sym here_is) (within g here) in
+    let found = c.find-found.result in
+    let location : Location = record { segment = at; found = found } in
+    let read_rows : c.rows-page.result ≡ rows = c.rows-page.ensures ∙ ap (λ (p : PageView). p.rows) c.deref.ensures in
+    let within_it : location.segment < 2 ^ s.tally.height = within g here in
     let there : location.segment < length s.tally.counts = omega (arith, within_it, c.self.invariant.tally.size) in
     let is_location : IsLocation u s location rows = record {
       within = within_it;
       there = there;
-      count = c.in_ok-read.ensures.count ∙ c.kept_count-kept.ensures ∙ ap (count_in s.tally.counts 0) (sym here_is) ∙ count_in-segment s.tally.counts location.segment there;
+      count = c.in_ok-read.ensures.count ∙ c.kept_count-kept.ensures ∙ count_in-segment s.tally.counts location.segment there;
       ascending = c.read.ensures.fits.ascending;
       fits = c.read.ensures.fits.records;
-      key = subst (λ (rs : List Record). IfOk location.found (λ place. key_at rs place ≡ Some (key_of u))) read_rows c.location_in.ensures.key;
-      gap = subst (λ (rs : List Record). IfErr location.found (λ place. IsGap rs place (key_of u))) read_rows c.location_in.ensures.gap;
-      present = c.location_in.ensures.present ∙ ap (λ (rs : List Record). is_some (value_of (key_of u) rs)) read_rows;
+      key = subst (λ (k : Bytes). IfOk found (λ place. key_at rows place ≡ Some k)) c.key-key.ensures (subst (λ (rs : List Record). IfOk found (λ place. key_at rs place ≡ Some c.key-key.result.now)) read_rows c.find-found.ensures.ok);
+      gap = subst (λ (k : Bytes). IfErr found (λ place. IsGap rows place k)) c.key-key.ensures (subst (λ (rs : List Record). IfErr found (λ place. IsGap rs place c.key-key.result.now)) read_rows c.find-found.ensures.err);
+      present = present_is found (value_of (key_of u) rows)
+          (subst (λ (k : Bytes). IsOk found ↔ IsSome (value_of k rows)) c.key-key.ensures (subst (λ (rs : List Record). IsOk found ↔ IsSome (value_of c.key-key.result.now rs)) read_rows c.find-found.ensures.when));
     } in
     let own : Told a → IsOwn u location rows a.held = λ (told : Told a). record {
-      segment_is = here_is ∙ found_is s a.held (stands g here told) c.key.result.now at c.find_segment-segment.ensures.found ∙ ap (segment_for (array_of a.held)) c.key.ensures;
-      rows_are = c.in_ok-read.ensures.rows told ∙ segment_is s.place.layout s.place.region s.tally.height s.tally.counts a.held (stands g here told).balanced.stands (readable g here told) at (within g here) ∙ ap (segment_at (array_of a.held)) (sym here_is);
+      segment_is = found_is s a.held (stands g here told) c.key-key.result.now at c.find_segment-segment.ensures.found ∙ ap (segment_for (array_of a.held)) c.key-key.ensures;
+      rows_are = c.in_ok-read.ensures.rows told ∙ segment_is s.place.layout s.place.region s.tally.height s.tally.counts a.held (stands g here told).balanced.stands (readable g here told) at (within g here);
     } in
-    subst (λ (rs : List Record). FindsLocation u (Ok location) c.args.self.now s rs a b) (sym (c.location_in.ensures.rows ∙ read_rows)) (record {
+    subst (λ (rs : List Record). FindsLocation u (Ok location) c.args.self.now s rs a b) (sym (c.copy_into.ensures ∙ read_rows)) (record {
       location = is_location;
       own = own;
       at = at;
       at_in = subst (λ (v : StoreView). at < 2 ^ v.tally.height) c.self.view_is (within g here);
-      at_own = λ told. found_is s a.held (stands g here told) c.key.result.now at c.find_segment-segment.ensures.found ∙ ap (segment_for (array_of a.held)) c.key.ensures;
-      at_is = here_is;
+      at_own = λ told. found_is s a.held (stands g here told) c.key-key.result.now at c.find_segment-segment.ensures.found ∙ ap (segment_for (array_of a.held)) c.key-key.ensures;
+      at_is = refl;
       read = subst (λ (v : StoreView). b.travel ≡ after_read (segment_place v.place.layout v.place.region at) (segment_size v.place.layout) a.travel) c.self.view_is c.read.ensures.reads;
       damage = tt;
       calls = c.read.ensures.calls;
@@ -104,7 +106,7 @@ returns-in_err-read-clause-found g c =
       own = tt;
       at = at;
       at_in = subst (λ (v : StoreView). at < 2 ^ v.tally.height) c.self.view_is (within g here);
-      at_own = λ told. found_is s a.held (stands g here told) c.key.result.now at c.find_segment-segment.ensures.found ∙ ap (segment_for (array_of a.held)) c.key.ensures;
+      at_own = λ told. found_is s a.held (stands g here told) c.key-key.result.now at c.find_segment-segment.ensures.found ∙ ap (segment_for (array_of a.held)) c.key-key.ensures;
       at_is = tt;
       read = subst (λ (v : StoreView). b.travel ≡ after_read (segment_place v.place.layout v.place.region at) (segment_size v.place.layout) a.travel) c.self.view_is c.read.ensures.reads;
       damage = subst (λ (v : StoreView). IsDamageAt at v.tally.counts c.in_err-read.field-0.0) c.self.view_is (own_damage s.tally.counts at c.kept_count-kept.result c.in_err-read.field-0.0 c.kept_count-kept.ensures found.own);

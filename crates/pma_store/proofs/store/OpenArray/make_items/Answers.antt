@@ -10,10 +10,11 @@ use Rattle.map_model.specs.Array.{segment_at, segment_for}
 use Rattle.map_model.specs.Image.{array_of}
 use Rattle.map_model.specs.Store.{Update, unbind, key_of}
 use Rattle.segment.specs.Rows.{value_of}
-use Rattle.pma_store.specs.Items.{IsAsFound, MakesItem}
+use Rattle.pma_store.specs.Items.{CountsAsFound, IsAsFound, MakesItem}
 use Rattle.pma_store.specs.Validating.{SumsItem, found_at}
 use Rattle.pma_store.specs.Store.{limit_of}
 use Rattle.pma_store.specs.Updating.{FitsFormat, update_of}
+use Rattle.pma_store.proofs.FoundItems.{all_tallies, next_tallies, none_tallies, tally_item}
 use Rattle.pma_store.proofs.ItemsApplied.{fits_format}
 use Rattle.pma_store.proofs.ItemsMade.{HasMade, none_made, one_more, one_fails, as_found, all_made, not_closed}
 use Rattle.pma_store.proofs.Resting.{rests_closed}
@@ -21,7 +22,7 @@ use Rattle.pma_store.proofs.Sums.{all_sums, next_sums, none_sums}
 use Rattle.pma_store.proofs.store.OpenArray.make_items.Goals as goal
 
 pub loop-i-init : goal.loop-i-init
-loop-i-init g c = record { made = none_made c.args.intent.now c.args.self.now c.requires.on; sums = none_sums c.args.found c.args.intent.now _ _ }
+loop-i-init g c = record { made = none_made c.args.intent.now c.args.self.now c.requires.on; sums = none_sums c.args.found c.args.intent.now _ _; tallies = none_tallies c.args.found c.args.intent.now _ _ }
 
 pub make_item-requires-clause-fits : goal.make_item-requires-clause-fits
 make_item-requires-clause-fits g c =
@@ -71,16 +72,23 @@ loop-i-preserved g c =
     let b = g.S.Station.view c.loop-i.station in
     let e = g.S.Station.view c.make_item.new.station in
     let next : suc i ≡ i + 1 = omega arith in
+    let same : limit_of c.loop-i.self ≡ limit_of c.args.self.now = ap height_limit c.loop-i.invariant.made.layout in
+    let one =
+    subst (λ (h : ℕ). SumsItem (found_at c.args.found i) (get_or items i d) (upper_of h) (sum c.loop-i.self.tally.counts) (sum c.make_item.new.self.tally.counts)) same
+    (subst (λ (u : Update). SumsItem (found_at c.args.found i) u (upper_of (limit_of c.loop-i.self)) (sum c.loop-i.self.tally.counts) (sum c.make_item.new.self.tally.counts)) item
+    (subst (λ (o : Option Bool). SumsItem o (update_of c.update_in-update.result) (upper_of (limit_of c.loop-i.self)) (sum c.loop-i.self.tally.counts) (sum c.make_item.new.self.tally.counts)) c.found_of.ensures c.in_ok-charge.ensures.sums)) in
+    let made = subst (λ (u : Update). MakesItem u (Ok c.in_ok-charge.charge) c.loop-i.self c.make_item.new.self b e) item c.in_ok-charge.ensures.made in
+    let as_found =
+    subst (λ (u : Update). CountsAsFound (found_at c.args.found i) u c.loop-i.self.tally c.make_item.new.self.tally) item
+    (subst (λ (o : Option Bool). CountsAsFound o (update_of c.update_in-update.result) c.loop-i.self.tally c.make_item.new.self.tally) c.found_of.ensures c.in_ok-charge.ensures.as_found) in
     record {
       made = subst (λ (n : ℕ). HasMade items n (c.loop-i.charges + c.in_ok-charge.charge) c.args.self.now c.make_item.new.self a e) next
           (one_more items i c.loop-i.charges c.args.self.now c.loop-i.self c.make_item.new.self a b e c.loop-i.invariant.made d lt c.in_ok-charge.charge (g.met.S.Station.lawful c.make_item.new.station)
-          (subst (λ (u : Update). MakesItem u (Ok c.in_ok-charge.charge) c.loop-i.self c.make_item.new.self b e) item c.in_ok-charge.ensures.made));
-      sums =
-          let same : limit_of c.loop-i.self ≡ limit_of c.args.self.now = ap height_limit c.loop-i.invariant.made.layout in
-          next_sums c.args.found items i (upper_of (limit_of c.args.self.now)) (sum c.args.self.now.tally.counts) (sum c.loop-i.self.tally.counts) (sum c.make_item.new.self.tally.counts) lt c.loop-i.invariant.sums
-          (subst (λ (h : ℕ). SumsItem (found_at c.args.found i) (get_or items i d) (upper_of h) (sum c.loop-i.self.tally.counts) (sum c.make_item.new.self.tally.counts)) same
-          (subst (λ (u : Update). SumsItem (found_at c.args.found i) u (upper_of (limit_of c.loop-i.self)) (sum c.loop-i.self.tally.counts) (sum c.make_item.new.self.tally.counts)) item
-          (subst (λ (o : Option Bool). SumsItem o (update_of c.update_in-update.result) (upper_of (limit_of c.loop-i.self)) (sum c.loop-i.self.tally.counts) (sum c.make_item.new.self.tally.counts)) c.found_of.ensures c.in_ok-charge.ensures.sums)));
+          made);
+      sums = next_sums c.args.found items i (upper_of (limit_of c.args.self.now)) (sum c.args.self.now.tally.counts) (sum c.loop-i.self.tally.counts) (sum c.make_item.new.self.tally.counts) lt c.loop-i.invariant.sums one;
+      tallies =
+          next_tallies c.args.found items i (upper_of (limit_of c.args.self.now)) c.args.self.now.tally c.loop-i.self.tally c.make_item.new.self.tally lt c.loop-i.invariant.sums c.loop-i.invariant.tallies
+          (tally_item (found_at c.args.found i) (get_or items i d) (upper_of (limit_of c.args.self.now)) c.loop-i.self.tally c.make_item.new.self.tally as_found one made.met.counts);
     }
 
 pub returns-in-Ok-clause-made : goal.returns-in-Ok-clause-made
@@ -107,3 +115,6 @@ returns-in-Err-clause-made g c =
 
 pub returns-in-Ok-clause-sums : goal.returns-in-Ok-clause-sums
 returns-in-Ok-clause-sums g c = all_sums c.args.found c.args.intent.now c.loop-i.i _ _ _ (omega (arith, c.len-i-end.ensures.count, c.loop-i-test.false)) c.loop-i.invariant.sums
+
+pub returns-in-Ok-clause-tallies : goal.returns-in-Ok-clause-tallies
+returns-in-Ok-clause-tallies g c = all_tallies c.args.found c.args.intent.now c.loop-i.i _ _ _ (omega (arith, c.len-i-end.ensures.count, c.loop-i-test.false)) c.loop-i.invariant.tallies

@@ -39,12 +39,12 @@ find_again-requires-clause-again g c told_b =
     let s = c.args.self.now in
     let told = told_back c.make_ready.ensures.kept.steps.frame told_b in
     let own = stands g here told in
-    let room : c.args.change ≡ Add → length (rows (array_of a.held)) < upper_of (limit_of s) = λ (add : c.args.change ≡ Add).
+    let room : c.args.plan.change ≡ Add → length (rows (array_of a.held)) < upper_of (limit_of s) = λ (add : c.args.plan.change ≡ Add).
     omega (arith, c.requires.few add, records_are s a.held own, rows_len s a.held own, ap (λ (h : ℕ). upper_of h) c.requires.kept.hmax) in
-    finds_again s a.held own (update_of c.args.update.now) c.args.change c.args.location c.args.rows.now c.requires.location (c.requires.own told) c.requires.needs room b.held (c.in_ok-make_ready.ensures.array told) c.args.pick c.requires.pick
+    finds_again s a.held own (update_of c.args.update.now) c.args.plan.change c.args.location c.args.rows.now c.requires.location (c.requires.own told) c.requires.needs room b.held (c.in_ok-make_ready.ensures.array told) c.args.plan.pick c.requires.pick
 
 pub find_again-requires-clause-low : goal.find_again-requires-clause-low
-find_again-requires-clause-low g c = low_of c.args.self.now.tally c.args.pick (omega (arith, c.requires.kept.tally.height_is, c.requires.kept.tally.hmax_is)) c.requires.possible
+find_again-requires-clause-low g c = low_of c.args.self.now.tally c.args.plan.pick (omega (arith, c.requires.kept.tally.height_is, c.requires.kept.tally.hmax_is)) c.requires.possible
 
 -- the segment is read again
 again_one : (pick : Pick) → (pick ≡ Fits → ⊥) → (pick ≡ AtLimit → ⊥) → again_calls pick ≡ 1
@@ -58,19 +58,19 @@ pub returns-in_err-make_ready-clause-kept : goal.returns-in_err-make_ready-claus
 returns-in_err-make_ready-clause-kept g c =
     let p = err_from_is_err_and c.from_residual.result c.from_residual.ensures.1 in
     rw (p.1, p.2) (
-    keeps_err c.in_err-make_ready.field-0.0 _ (ready_calls c.args.self.now.place.layout c.args.self.now.tally.height c.args.pick) _ c.args.self.now _ (omega arith) c.in_err-make_ready.ensures.kept)
+    keeps_err c.in_err-make_ready.field-0.0 _ (ready_calls c.args.self.now.place.layout c.args.self.now.tally.height c.args.plan.pick) _ c.args.self.now _ (omega arith) c.in_err-make_ready.ensures.kept)
 
 pub returns-clause-kept : goal.returns-clause-kept
 returns-clause-kept g c =
-    let one = again_one c.args.pick (first_of (search rules, grind (arith, common_steps))) c.requires.room in
-    subst (λ (n : ℕ). KeepsStore c.find_again.result (ready_cost c.args.self.now.place.layout c.args.self.now.tally.height c.args.pick) (ready_calls c.args.self.now.place.layout c.args.self.now.tally.height c.args.pick + n) c.args.self.now c.find_again.new.self (g.S.Station.view c.args.station.now) (g.S.Station.view c.find_again.new.station)) (sym one) (finds_keeps tt (update_of c.args.update.now) c.find_again.result c.find_again.new.rows (ready_cost c.args.self.now.place.layout c.args.self.now.tally.height c.args.pick) (ready_calls c.args.self.now.place.layout c.args.self.now.tally.height c.args.pick) c.args.self.now c.make_ready.new.self c.find_again.new.self (g.met.S.Station.lawful c.make_ready.new.station)
+    let one = again_one c.args.plan.pick (first_of (search rules, grind (arith, common_steps))) c.requires.room in
+    subst (λ (n : ℕ). KeepsStore c.find_again.result (ready_cost c.args.self.now.place.layout c.args.self.now.tally.height c.args.plan.pick) (ready_calls c.args.self.now.place.layout c.args.self.now.tally.height c.args.plan.pick + n) c.args.self.now c.find_again.new.self (g.S.Station.view c.args.station.now) (g.S.Station.view c.find_again.new.station)) (sym one) (finds_keeps tt (update_of c.args.update.now) c.find_again.result c.find_again.new.rows (ready_cost c.args.self.now.place.layout c.args.self.now.tally.height c.args.plan.pick) (ready_calls c.args.self.now.place.layout c.args.self.now.tally.height c.args.plan.pick) c.args.self.now c.make_ready.new.self c.find_again.new.self (g.met.S.Station.lawful c.make_ready.new.station)
     c.in_ok-make_ready.ensures.kept c.find_again.ensures.found
     (subst (λ (v : StoreView). v.tally.height ≤ limit_of v) c.find_again.ensures.found.store (omega (arith, c.find_again.ensures.store.tally.height_is, c.find_again.ensures.store.hmax))))
 
 pub returns-clause-place : goal.returns-clause-place
 returns-clause-place g c =
     let found = c.find_again.ensures.found in
-    on_ok_too c.find_again.result (place_before (resizes c.args.pick) c.args.self.now c.make_ready.new.self c.find_again.new.self c.in_ok-make_ready.ensures.place found.store found.steps)
+    on_ok_too c.find_again.result (place_before (resizes c.args.plan.pick) c.args.self.now c.make_ready.new.self c.find_again.new.self c.in_ok-make_ready.ensures.place found.store found.steps)
 
 pub returns-clause-own : goal.returns-clause-own
 returns-clause-own g c = IfOk-weaker c.find_again.result _ _ (λ next own told.
@@ -89,10 +89,10 @@ returns-clause-own g c = IfOk-weaker c.find_again.result _ _ (λ next own told.
 
 pub returns-clause-ready : goal.returns-clause-ready
 returns-clause-ready g c =
-    let some : c.args.pick ≡ Fits → ⊥ = first_of (search rules, grind (arith, common_steps)) in
+    let some : c.args.plan.pick ≡ Fits → ⊥ = first_of (search rules, grind (arith, common_steps)) in
     all_locations c.find_again.result c.find_again.ensures.found.location c.find_again.ensures.lies c.find_again.ensures.needs (λ next location lies needs. record {
       tally_is = ap (λ (s : StoreView). s.tally) c.find_again.ensures.found.store ∙ c.in_ok-make_ready.ensures.tally;
-      near = near_of c.args.change c.args.location.segment c.args.self.now.tally next.segment c.args.pick c.requires.pick some lies;
+      near = near_of c.args.plan.change c.args.location.segment c.args.self.now.tally next.segment c.args.plan.pick c.requires.pick some lies;
       is_location = location;
       needs = needs;
     })
@@ -100,16 +100,16 @@ returns-clause-ready g c =
 pub returns-clause-asks : goal.returns-clause-asks
 returns-clause-asks g c =
     let t = c.args.self.now.tally in
-    let some : c.args.pick ≡ Fits → ⊥ = first_of (search rules, grind (arith, common_steps)) in
-    on_err_too c.find_again.result (asked_first t.hmax t.height c.args.location.segment c.args.change (broken_in c.args.change c.args.location.segment t) c.args.pick c.requires.pick some)
+    let some : c.args.plan.pick ≡ Fits → ⊥ = first_of (search rules, grind (arith, common_steps)) in
+    on_err_too c.find_again.result (asked_first t.hmax t.height c.args.location.segment c.args.plan.change (broken_in c.args.plan.change c.args.location.segment t) c.args.plan.pick c.requires.pick some)
 
 pub returns-clause-late : goal.returns-clause-late
 returns-clause-late g c =
     let s = c.args.self.now in
     let t = s.tally in
-    let some : c.args.pick ≡ Fits → ⊥ = first_of (search rules, grind (arith, common_steps)) in
-    found_behind c.args.change c.args.location.segment s c.make_ready.new.self c.find_again.new.self (update_of c.args.update.now) c.find_again.result c.find_again.new.rows c.find_again.ensures.found
-    (asked_first t.hmax t.height c.args.location.segment c.args.change (broken_in c.args.change c.args.location.segment t) c.args.pick c.requires.pick some) c.in_ok-make_ready.ensures.tally
+    let some : c.args.plan.pick ≡ Fits → ⊥ = first_of (search rules, grind (arith, common_steps)) in
+    found_behind c.args.plan.change c.args.location.segment s c.make_ready.new.self c.find_again.new.self (update_of c.args.update.now) c.find_again.result c.find_again.new.rows c.find_again.ensures.found
+    (asked_first t.hmax t.height c.args.location.segment c.args.plan.change (broken_in c.args.plan.change c.args.location.segment t) c.args.plan.pick c.requires.pick some) c.in_ok-make_ready.ensures.tally
     (subst (λ (p : Pick). c.make_ready.new.self.place ≡ place_after (resizes p) s.place) c.requires.pick c.in_ok-make_ready.ensures.place.place_is)
 
 pub returns-in_err-make_ready-clause-late : goal.returns-in_err-make_ready-clause-late
@@ -127,5 +127,5 @@ returns-in_err-make_ready-clause-asks g c =
     let p = err_from_is_err_and c.from_residual.result c.from_residual.ensures.1 in
     rw p.1 (
     let t = c.args.self.now.tally in
-    let some : c.args.pick ≡ Fits → ⊥ = first_of (search rules, grind (arith, common_steps)) in
-    asked_first t.hmax t.height c.args.location.segment c.args.change (broken_in c.args.change c.args.location.segment t) c.args.pick c.requires.pick some)
+    let some : c.args.plan.pick ≡ Fits → ⊥ = first_of (search rules, grind (arith, common_steps)) in
+    asked_first t.hmax t.height c.args.location.segment c.args.plan.change (broken_in c.args.plan.change c.args.location.segment t) c.args.plan.pick c.requires.pick some)

@@ -5,6 +5,7 @@ use Rattle.map_model.specs.ArrayState.{ArrayState}
 use Rattle.map_model.specs.Store.{Map}
 use Rattle.pma_store.specs.Validating.{AreAllFound, counts_of}
 use Rattle.pma_store.proofs.Batched.{stands_intent, state_intent, not_called, not_written, intent_called, items_fail, whole_batch}
+use Rattle.pma_store.proofs.FoundItems.{each_run}
 use Rattle.pma_store.proofs.Resting.{rests_written}
 use Rattle.pma_store.proofs.Sums.{counts_batch}
 use Rattle.pma_store.proofs.store.OpenArray.run_batch.Goals as goal
@@ -42,7 +43,8 @@ pub returns-in-Ok-make_items-clause-applied : goal.returns-in-Ok-make_items-clau
 returns-in-Ok-make_items-clause-applied g c =
     whole_batch c.args.intent.now c.args.self.now c.requires.open (g.met.S.Station.lawful c.args.station.now) c.requires.some c.write_intent.ensures.intent c.requires.fit c.requires.version (counts_of c.args.validated.now) c.requires.validated c.requires.unfit c.write_intent.ensures.steps
     c.make_items.new.self (g.met.S.Station.lawful c.write_intent.new.station) c.in-Ok.ensures.settled c.in-Ok.ensures.opened (omega (arith, c.write_intent.ensures.cost)) c.write_intent.ensures.calls c.in-Ok-make_items.charge
-    (counts_batch c.args.intent.now c.args.validated.now.found _ _ _ c.in-Ok-make_items.charge (counts_of c.args.validated.now) c.requires.counted c.in-Ok-make_items.ensures.sums) c.in-Ok-make_items.ensures.made
+    (counts_batch c.args.intent.now c.args.validated.now.found _ _ _ c.in-Ok-make_items.charge (counts_of c.args.validated.now) c.requires.counted c.in-Ok-make_items.ensures.sums)
+    (each_run c.args.intent.now c.args.validated.now.found _ (counts_of c.args.validated.now) c.args.self.now c.make_items.new.self c.requires.counted c.in-Ok-make_items.ensures.tallies c.requires.found) c.in-Ok-make_items.ensures.made
 
 pub returns-in-Err-make_items-clause-applied : goal.returns-in-Err-make_items-clause-applied
 returns-in-Err-make_items-clause-applied g c =

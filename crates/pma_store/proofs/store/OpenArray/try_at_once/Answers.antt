@@ -1,12 +1,14 @@
 use Rattle.std.proofs.Common.{◌≡◌, ℕ, ◌+◌, ◌*◌, ◌^◌, ◌<◌, ◌≤◌, List, length, take, get_or, Result, Ok, Err, Some, None, refl, sym, ap, subst, ◌∙◌, arith}
 use Rattle.std.proofs.lemmas.Result.{err_from_is_err_and}
 use Rattle.std.specs.Prelude.{is_ok, sum}
+use Rattle.std.specs.FinMap.{contains_key}
 use Rattle.std.proofs.lemmas.List.{length-take-le}
 use Rattle.station.specs.View.{Told}
 use Rattle.station.proofs.Composition.{told_back}
 use Rattle.density_rule.specs.Bounds.{upper_of}
 use Rattle.header_gate.specs.declared.layout.TheConstants.{INTENT_VERSION}
 use Rattle.map_model.specs.Image.{array_of, map_of}
+use Rattle.map_model.specs.Store.{key_of}
 use Rattle.segment.specs.declared.fault.StoreFault.{StoreFault}
 use Rattle.segment.specs.declared.fault.StoreFault.TheVariants.{Failed}
 use Rattle.pma_store.specs.declared.batch.Attempt.{Attempt}
@@ -72,7 +74,7 @@ returns-in_err-look_over g c =
     let items = c.args.intent.now in
     subst (λ (v : StoreView). AppliesBatch items (Err c.in_err-look_over.field-0.0) v (record s { journal = c.look_over.new.frames.journal; turn = c.look_over.new.frames.turn }) a b) c.self.view_is
     (subst (λ (t : StoreView). AppliesBatch items (Err c.in_err-look_over.field-0.0) s t a b) (sym (same g here))
-    (validating_fails items c.in_err-look_over.field-0.0 s s (g.met.S.Station.lawful c.args.station.now) (opened g found) (looks_fail items c.in_err-look_over.field-0.0 s c.find_segments.new.segments c.look_over.new.frames c.look_over.new.look (tall_of s c.self.invariant) c.in_err-look_over.ensures.looks))))
+    (validating_fails items c.in_err-look_over.field-0.0 s s (g.met.S.Station.lawful c.args.station.now) (opened g found) (looks_fail items c.in_err-look_over.field-0.0 s c.find_segments.new.segments c.look_over.new.frames c.look_over.new.self (tall_of s c.self.invariant) c.in_err-look_over.ensures.looks))))
 
 -- the most records, for the store's fields
 most : (g : _) (c : After-find_segments g) → c.args.most ≡ upper_of (limit_of (view_of c.self.inside))
@@ -88,8 +90,8 @@ returns-in_default g c =
     let items = c.args.intent.now in
     subst (λ (v : StoreView). ValidatesItems items (Ok None) v (record s { journal = c.look_over.new.frames.journal; turn = c.look_over.new.frames.turn }) a b) c.self.view_is
     (subst (λ (t : StoreView). ValidatesItems items (Ok None) s t a b) (sym (same g here))
-    (validates items s c.find_segments.new.segments c.look_over.new.frames c.look_over.new.look (opened g found).on c.find_segments.ensures.size (belong g found) (within g found) c.in_ok-look_over.ensures.looks
-    c.records.result c.args.most None (most g found) c.records.ensures c.in_default.ensures.validated tt))
+    (validates items s c.find_segments.new.segments c.look_over.new.frames c.look_over.new.self (opened g found).on c.find_segments.ensures.size (belong g found) (within g found) c.in_ok-look_over.ensures.looks
+    c.records.result c.args.most None (most g found) c.records.ensures c.in_default.ensures.validated tt (λ _. c.in_default.ensures.full refl)))
 
 pub returns-in_default-list_fitting : goal.returns-in_default-list_fitting
 returns-in_default-list_fitting g c =
@@ -101,14 +103,14 @@ returns-in_default-list_fitting g c =
     let items = c.args.intent.now in
     let looks = c.in_ok-look_over.ensures.looks in
     let validated = c.in-Some.validated in
-    let tells = validates items s c.find_segments.new.segments c.look_over.new.frames c.look_over.new.look (opened g found).on c.find_segments.ensures.size (belong g found) (within g found) looks
-    c.records.result c.args.most (Some validated) (most g found) c.records.ensures c.in-Some.ensures.validated c.in-Some.ensures.found in
+    let tells = validates items s c.find_segments.new.segments c.look_over.new.frames c.look_over.new.self (opened g found).on c.find_segments.ensures.size (belong g found) (within g found) looks
+    c.records.result c.args.most (Some validated) (most g found) c.records.ensures c.in-Some.ensures.validated c.in-Some.ensures.found (λ none. absurd cc) in
     subst (λ (v : StoreView). TriesOnce items (Ok (Validated validated)) v (record s { journal = c.look_over.new.frames.journal; turn = c.look_over.new.frames.turn }) a b) c.self.view_is (
       subst (λ (t : StoreView). ValidatesItems items (Ok (Some validated)) s t a b) (sym (same g here)) tells,
       λ told are.
-          not_once items s a.held (stands_there s (opened g found).on told) c.find_segments.new.segments c.look_over.new.frames c.look_over.new.look validated looks.loaded (looks.looked told) (looks.used told) (belong g found told)
+          not_once items s a.held (stands_there s (opened g found).on told) c.find_segments.new.segments c.look_over.new.frames c.look_over.new.self validated looks.loaded (looks.looked told) (looks.used told) (belong g found told)
           c.len-len.ensures.intent.distinct (tells.validated told) are (c.in_default-list_fitting.ensures.unfit refl),
-      found_as items (λ k. is_ok (get_or c.look_over.new.look.found k (Err 0))) (there_in validated.found) c.records.result c.args.most (sum s.tally.counts) (upper_of (limit_of s)) (counts_of validated) (λ j lt. sym (c.in-Some.ensures.found j lt)) c.records.ensures (most g found)
+      found_as items (λ k. is_ok (get_or c.look_over.new.self.found k (Err 0))) (there_in validated.found) c.records.result c.args.most (sum s.tally.counts) (upper_of (limit_of s)) (counts_of validated) (λ j lt. sym (c.in-Some.ensures.found j lt)) c.records.ensures (most g found)
           c.in-Some.ensures.as_found,
     )
 
@@ -145,7 +147,7 @@ returns g c =
     let e = g.S.Station.view c.commit_edits.new.station in
     let items = c.args.intent.now in
     let numbers = c.find_segments.new.segments in
-    let look = c.look_over.new.look in
+    let look = c.look_over.new.self in
     let frames = c.look_over.new.frames in
     let validated = c.in-Some.validated in
     let changes = take c.in-Some-list_fitting.count c.list_fitting.new.changes in
@@ -166,7 +168,7 @@ returns g c =
       journal = c.look_over.ensures.looks.journal;
       fits = c.in-Some-list_fitting.ensures.fits;
     } in
-    let tells = validates items s numbers frames look is.on c.find_segments.ensures.size (belong g found) (within g found) c.in_ok-look_over.ensures.looks c.records.result c.args.most (Some validated) (most g found) c.records.ensures c.in-Some.ensures.validated c.in-Some.ensures.found in
+    let tells = validates items s numbers frames look is.on c.find_segments.ensures.size (belong g found) (within g found) c.in_ok-look_over.ensures.looks c.records.result c.args.most (Some validated) (most g found) c.records.ensures c.in-Some.ensures.validated c.in-Some.ensures.found (λ none. absurd cc) in
     let validated_is = λ (told : Told b). tells.validated (told_back steps.frame told) ∙ ap (λ (x : List ℕ). validated_of (limit_of s) (map_of x) items) (held told) in
     let index = c.commit_edits.new.index in
     let turn = c.commit_edits.new.frames.turn in
@@ -183,7 +185,8 @@ returns g c =
           subst (λ (r : Result Attempt StoreFault). TriesOnce items r s (record s { tally = tally; index = index; journal = c.commit_edits.new.frames.journal; turn = turn }) a e) (sym w.result-is)
           (subst (λ (j : ℕ). AppliesBatch items (Ok (done_by (counts_of validated) (2 * edits_of validated))) s (record s { tally = tally; index = index; journal = j; turn = turn }) a e) (sym journal)
           (validated_then items (Ok (done_by (counts_of validated) (2 * edits_of validated))) s (record s { tally = tally; index = index; turn = turn }) is law steps c.look_over.ensures.looks.unwritten looks (calls w.in-Ok.ensures.committed.frames.calls) (λ refusal. refusal)
-          (committed items s numbers frames look validated changes ready law_b version validated_is c.in-Some.ensures.total looked.0 few (g.met.S.Station.lawful c.commit_edits.new.station) turn index tally w.in-Ok.ensures.committed)))
+          (committed items s numbers frames look validated changes ready law_b version validated_is c.in-Some.ensures.total looked.0 few (g.met.S.Station.lawful c.commit_edits.new.station) turn index tally w.in-Ok.ensures.committed
+          (λ told i lt d. sym (c.in-Some.ensures.found i lt) ∙ tells.found (told_back steps.frame told) i lt d ∙ ap (λ (x : List ℕ). contains_key (map_of x) (key_of (get_or items i d))) (held told)))))
       | in-Err w ↦
           let commits = w.in-Err.ensures.committed in
           subst (λ (r : Result Attempt StoreFault). TriesOnce items r s (record s { tally = tally; index = index; journal = c.commit_edits.new.frames.journal; turn = turn }) a e) (sym w.result-is)

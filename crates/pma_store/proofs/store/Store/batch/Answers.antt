@@ -25,6 +25,7 @@ returns-in-Err-clause-batch g c =
       at_once = made.at_once;
       paid = tt;
       counted = tt;
+      found = tt;
       met = elim made.met [
         | inl disk ↦ inl disk
         | inr more ↦ elim more [

@@ -16,21 +16,21 @@ use Rattle.pma_store.proofs.OnceLaws.{used_none}
 use Rattle.pma_store.proofs.BatchScanLaws.{none_numbers, loads_none, looks_none, loads_later, looks_later, reads_none, reads_more, reads_all}
 use Rattle.pma_store.proofs.Making.{no_fault}
 use Rattle.pma_store.proofs.Standing.{rows_ascend, size_of}
-use Rattle.pma_store.proofs.batch_scan.look_over.Goals as goal
+use Rattle.pma_store.proofs.batch_scan.BatchScan.look_over.Goals as goal
 
 pub loop-segment-init : goal.loop-segment-init
 loop-segment-init g c =
-    let layout = c.args.place.now.layout in
+    let layout = c.args.search.now.place.now.layout in
     let known = known_format layout.hmax layout.format c.requires.layout.format in
     let none = ap (λ (b : Batch). b.numbers) c.start.ensures.after in
     record {
       steps = no_steps (g.S.Station.view c.args.station.now);
       unwritten = refl;
       upto = omega arith;
-      reads = (reads_none c.args.place.now c.args.segments.now (g.S.Station.view c.args.station.now), omega (arith, c.requires.fresh));
-      loaded = loads_none layout.format c.start.new.self c.args.look.now known c.start.ensures.batch none c.requires.fresh;
-      looked = λ told. looks_none layout.format (array_of (g.S.Station.view c.args.station.now).held) c.args.segments.now c.args.intent.now c.start.new.self c.args.look.now known none;
-      used = λ told. used_none layout (array_of (g.S.Station.view c.args.station.now).held) c.args.intent.now c.start.new.self c.args.look.now.whole (none_numbers layout.format c.start.new.self known none) c.requires.whole;
+      reads = (reads_none c.args.search.now.place.now c.args.search.now.segments.now (g.S.Station.view c.args.station.now), omega (arith, c.requires.fresh));
+      loaded = loads_none layout.format c.start.new.self c.args.self.now known c.start.ensures.batch none c.requires.fresh;
+      looked = λ told. looks_none layout.format (array_of (g.S.Station.view c.args.station.now).held) c.args.search.now.segments.now c.args.search.now.intent.now c.start.new.self c.args.self.now known none;
+      used = λ told. used_none layout (array_of (g.S.Station.view c.args.station.now).held) c.args.search.now.intent.now c.start.new.self c.args.self.now.whole (none_numbers layout.format c.start.new.self known none) c.requires.whole;
       journal = ap (λ (b : Batch). b.journal) c.start.ensures.after ∙ c.requires.journal;
       turn = ap (λ (b : Batch). b.turn) c.start.ensures.after;
     }
@@ -40,14 +40,14 @@ returns-in_err-read_rows-clause-looks g c =
     let p = err_from_is_err_and c.from_residual.result c.from_residual.ensures.1 in
     rw (p.1, p.2) (
     let is = c.loop-segment.invariant in
-    let more = reads_more c.args.place.now c.args.segments.now c.loop-segment.from c.in-Some.segment (g.S.Station.view c.args.station.now) (g.S.Station.view c.loop-segment.station) (g.S.Station.view c.read_rows.new.station) is.reads.0 c.in-Some.ensures c.read_rows.ensures.reads c.read_rows.ensures.calls in
+    let more = reads_more c.args.search.now.place.now c.args.search.now.segments.now c.loop-segment.from c.in-Some.segment (g.S.Station.view c.args.station.now) (g.S.Station.view c.loop-segment.station) (g.S.Station.view c.read_rows.new.station) is.reads.0 c.in-Some.ensures c.read_rows.ensures.reads c.read_rows.ensures.calls in
     record {
       loaded = tt;
       looked = tt;
       journal = is.journal;
       reads = tt;
       used = tt;
-      looks = (looks_once c.args.place.now c.args.segments.now c.args.intent.now (c.in-Some.segment + 1) c.args.tally.now.height c.requires.segments c.requires.within c.requires.belong more.0).0;
+      looks = (looks_once c.args.search.now.place.now c.args.search.now.segments.now c.args.search.now.intent.now (c.in-Some.segment + 1) c.args.search.now.tally.now.height c.requires.segments c.requires.within c.requires.belong more.0).0;
       few = tt;
       steps = same_on is.steps c.read_rows.ensures.steps;
       unwritten = ap (λ (t : Travel). t.written) c.read_rows.ensures.reads ∙ is.unwritten;
@@ -65,9 +65,9 @@ take_in-requires-clause-may g c = record {
     arith,
     c.requires.within c.in-Some.ensures.at c.in-Some.ensures.inside,
     c.in-Some.ensures.is,
-    pow_mono {i = c.args.tally.now.height} {j = height_limit c.args.place.now.layout} c.requires.tall,
+    pow_mono {i = c.args.search.now.tally.now.height} {j = height_limit c.args.search.now.place.now.layout} c.requires.tall,
   );
-  loaded = loads_later c.args.place.now.layout.format c.loop-segment.from c.in-Some.segment c.loop-segment.frames c.loop-segment.look c.in-Some.ensures.above c.loop-segment.invariant.loaded;
+  loaded = loads_later c.args.search.now.place.now.layout.format c.loop-segment.from c.in-Some.segment c.loop-segment.frames c.loop-segment.self c.in-Some.ensures.above c.loop-segment.invariant.loaded;
   fits = c.in_ok-read_rows.ensures.fits;
   room = c.requires.items;
 }
@@ -75,11 +75,11 @@ take_in-requires-clause-may g c = record {
 pub loop-segment-preserved : goal.loop-segment-preserved
 loop-segment-preserved g c =
     let a = g.S.Station.view c.args.station.now in
-    let place = c.args.place.now in
-    let tally = c.args.tally.now in
+    let place = c.args.search.now.place.now in
+    let tally = c.args.search.now.tally.now in
     let is = c.loop-segment.invariant in
     let least = c.in-Some.ensures in
-    let more = reads_more place c.args.segments.now c.loop-segment.from c.in-Some.segment a (g.S.Station.view c.loop-segment.station) (g.S.Station.view c.read_rows.new.station) is.reads.0 least c.read_rows.ensures.reads c.read_rows.ensures.calls in
+    let more = reads_more place c.args.search.now.segments.now c.loop-segment.from c.in-Some.segment a (g.S.Station.view c.loop-segment.station) (g.S.Station.view c.read_rows.new.station) is.reads.0 least c.read_rows.ensures.reads c.read_rows.ensures.calls in
     record {
       steps = same_on is.steps c.read_rows.ensures.steps;
       unwritten = ap (λ (t : Travel). t.written) c.read_rows.ensures.reads ∙ is.unwritten;
@@ -93,7 +93,7 @@ loop-segment-preserved g c =
           let ascends = rows_ascend place.layout place.region tally.height tally.counts a.held stands in
           let own = c.in_ok-read_rows.ensures.rows (told_on is.steps.frame told) ∙ ap (λ (x : List ℕ). segment_at (array_of x) c.in-Some.segment) (is.steps.held told) in
           c.take_in.ensures.looked array some ascends (c.requires.belong told) own
-          (looks_later place.layout.format array c.args.segments.now c.args.intent.now some ascends c.requires.intent.distinct c.requires.segments (c.requires.belong told) c.loop-segment.from c.in-Some.segment c.loop-segment.frames c.loop-segment.look (λ k lt le. least.lowest k lt le) (is.looked told));
+          (looks_later place.layout.format array c.args.search.now.segments.now c.args.search.now.intent.now some ascends c.requires.intent.distinct c.requires.segments (c.requires.belong told) c.loop-segment.from c.in-Some.segment c.loop-segment.frames c.loop-segment.self (λ k lt le. least.lowest k lt le) (is.looked told));
       used = λ told.
           let stands = c.requires.stands told in
           let array = array_of a.held in
@@ -108,19 +108,19 @@ loop-segment-preserved g c =
 pub returns-clause-looks : goal.returns-clause-looks
 returns-clause-looks g c =
     let a = g.S.Station.view c.args.station.now in
-    let place = c.args.place.now in
-    let tally = c.args.tally.now in
+    let place = c.args.search.now.place.now in
+    let tally = c.args.search.now.tally.now in
     let is = c.loop-segment.invariant in
-    let all = reads_all place c.args.segments.now c.loop-segment.from (2 ^ tally.height) a (g.S.Station.view c.loop-segment.station) is.upto c.in_default.ensures is.reads.0 in
-    let looks = looks_once place c.args.segments.now c.args.intent.now (2 ^ tally.height) tally.height c.requires.segments c.requires.within c.requires.belong all.0 in
+    let all = reads_all place c.args.search.now.segments.now c.loop-segment.from (2 ^ tally.height) a (g.S.Station.view c.loop-segment.station) is.upto c.in_default.ensures is.reads.0 in
+    let looks = looks_once place c.args.search.now.segments.now c.args.search.now.intent.now (2 ^ tally.height) tally.height c.requires.segments c.requires.within c.requires.belong all.0 in
     record {
-      loaded = loads_later place.layout.format c.loop-segment.from (2 ^ tally.height) c.loop-segment.frames c.loop-segment.look is.upto is.loaded;
+      loaded = loads_later place.layout.format c.loop-segment.from (2 ^ tally.height) c.loop-segment.frames c.loop-segment.self is.upto is.loaded;
       looked = λ told.
           let stands = c.requires.stands told in
           let array = array_of a.held in
           let some : 0 < length array = omega (arith, size_of place.layout place.region tally.height tally.counts a.held stands, pow_pos tally.height) in
           let ascends = rows_ascend place.layout place.region tally.height tally.counts a.held stands in
-          looks_later place.layout.format array c.args.segments.now c.args.intent.now some ascends c.requires.intent.distinct c.requires.segments (c.requires.belong told) c.loop-segment.from (2 ^ tally.height) c.loop-segment.frames c.loop-segment.look (λ k lt le. absurd (omega (arith, c.in_default.ensures k lt, le))) (is.looked told);
+          looks_later place.layout.format array c.args.search.now.segments.now c.args.search.now.intent.now some ascends c.requires.intent.distinct c.requires.segments (c.requires.belong told) c.loop-segment.from (2 ^ tally.height) c.loop-segment.frames c.loop-segment.self (λ k lt le. absurd (omega (arith, c.in_default.ensures k lt, le))) (is.looked told);
       used = is.used;
       journal = is.journal;
       reads = all.0;
@@ -137,4 +137,4 @@ pub read_rows-requires-clause-readable : goal.read_rows-requires-clause-readable
 read_rows-requires-clause-readable g c told =
     let steps = c.loop-segment.invariant.steps in
     let told_a : Told (g.S.Station.view c.args.station.now) = told_back steps.frame told in
-    subst (IsRecovered c.args.place.now.layout) (sym (steps.held told_a)) (c.requires.readable told_a)
+    subst (IsRecovered c.args.search.now.place.now.layout) (sym (steps.held told_a)) (c.requires.readable told_a)
