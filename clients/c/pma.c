@@ -542,16 +542,19 @@ static pma_code open_once(pma *store)
     return begins(store->line, "oversized key ") ? done(store, PMA_OK) : refused(store, 0);
 }
 
+/* Who had the file may have closed it before its lock is looked for: then it is opened again, up to a second later. */
 static pma_code open_run(pma *store)
 {
-    for (int tries = 3;; tries--) { /* who had the file may have closed it before its lock is looked for */
+    for (long pause = 1;; pause *= 2) { /* in milliseconds */
+        struct timespec time = {0, pause * 1000000};
         pma_code code = open_once(store);
         if (code != PMA_DISK)
             return code;
         shut(store);
         code = lock_of(store->file);
-        if (code || tries == 1)
+        if (code || pause == 1024)
             return store->cause = code ? code : PMA_DISK;
+        nanosleep(&time, NULL);
     }
 }
 

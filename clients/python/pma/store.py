@@ -6,6 +6,7 @@ import errno
 import itertools
 import os
 import threading
+import time
 from typing import (Any, BinaryIO, Callable, ContextManager, ItemsView, Iterable, Iterator, MutableMapping, Optional, Sequence,
                     Tuple, TypeVar, Union, ValuesView)
 
@@ -23,6 +24,7 @@ T = TypeVar("T")
 PAGE = 1000  # records that one request reads, of an iteration or a range
 BACK = 100  # records that are read by one wait, of a range from its end on
 FLAGS = "r", "w", "c", "n"
+PAUSES = [2**n / 1000 for n in range(10)]  # seconds before the next try to open: who had the file may have closed it meanwhile
 
 
 def bytes_of(text: Text) -> bytes:
@@ -35,8 +37,8 @@ def bytes_of(text: Text) -> bytes:
 
 
 def opened(program: str, file: bytes, timeout: Optional[float]) -> Tuple[Run, int, int]:
-    """A run on this store, with the most bytes of a key and of a value. `InUse` where another process has it."""
-    tries = 3  # whoever had it may have closed it before its lock was looked for
+    """A run on this store, with the most bytes of a key and of a value. `InUse` if another process has it."""
+    pauses = iter(PAUSES)
     while True:
         run = Run(program, b"run", file, timeout)
         key, value = Limit(b"key"), Limit(b"value")
@@ -46,9 +48,10 @@ def opened(program: str, file: bytes, timeout: Optional[float]) -> Tuple[Run, in
         except DiskFault:
             run.close()
             making.refuse_in_use(file)
-            tries -= 1
-            if not tries:
+            pause = next(pauses, None)
+            if pause is None:
                 raise
+            time.sleep(pause)
         except Error:
             run.close()
             raise
