@@ -45,6 +45,8 @@ form run-of-a-pair "$script" run paired.pma
 form quick-of-a-pair "$script" quick paired.pma
 form load 'record a 1\nrecord b\nend 2\n' load empty.pma
 form load-into-a-pair 'record a 1\nrecord b\nend 2\n' load empty_pair.pma
+form merge 'record b 2\nremove c\nend 2\n' merge plain.pma
+form merge-into-a-pair 'record b 2\nremove c\nend 2\n' merge paired.pma
 form dump '' dump indexed.pma
 form upgrade '' upgrade indexed.pma
 form upgrade-of-a-pair '' upgrade paired.pma
