@@ -5,11 +5,8 @@
 # A line of the feed is `NUMBER PRICE`, or `NUMBER` where its price goes; the last line of a number counts. Each night the merge
 # is killed once at a random moment, and the table is that of before or after; then it is merged again.
 set -eu
-export LC_ALL=C
-program=${1:-./pma}
-folder=$(mktemp -d)
-trap 'rm -rf "$folder"' EXIT
-store=$folder/prices.pma
+# shellcheck source=examples/common.sh
+. "$(dirname "$0")/common.sh"
 
 # The table as the store has it, and whether it is one of these files.
 is_one_of() {
@@ -17,7 +14,7 @@ is_one_of() {
     for table in "$@"; do
         cmp -s "$folder/found" "$table" && return
     done
-    echo "feed: not as expected in night $night"
+    echo "$name: not as expected in night $night"
     exit 1
 }
 

@@ -7,15 +7,8 @@
 #   out/FROM/TO       an edge by where it begins, with its kind
 #   in/TO/FROM        the same edge by where it ends
 set -eu
-export LC_ALL=C
-program=${1:-./pma}
-folder=$(mktemp -d)
-trap 'rm -rf "$folder"' EXIT
-store=$folder/graph.pma
-
-differ() {
-    [ "$(cat "$1")" = "$(cat "$2")" ] || { echo "graph: not as expected: $3"; exit 1; }
-}
+# shellcheck source=examples/common.sh
+. "$(dirname "$0")/common.sh"
 
 # Both records of each edge `FROM TO KIND`, as lines of a script, each behind this word.
 edges() {

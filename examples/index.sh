@@ -7,15 +7,8 @@
 #   by/STATE/NUMBER    nothing: the key alone tells
 # The run that moves them is killed twenty times, at random moments behind its first reply, and sent again what has none.
 set -eu
-export LC_ALL=C
-program=${1:-./pma}
-folder=$(mktemp -d)
-trap 'rm -rf "$folder"' EXIT
-store=$folder/index.pma
-
-differ() {
-    [ "$(cat "$1")" = "$(cat "$2")" ] || { echo "index: not as expected: $3"; exit 1; }
-}
+# shellcheck source=examples/common.sh
+. "$(dirname "$0")/common.sh"
 
 # The table after this many moves, as lines `NUMBER/STATE`.
 after() {

@@ -4,15 +4,8 @@
 #
 # A reading is a record with the key at/PLACE/TIME.
 set -eu
-export LC_ALL=C
-program=${1:-./pma}
-folder=$(mktemp -d)
-trap 'rm -rf "$folder"' EXIT
-store=$folder/table.pma
-
-differ() {
-    [ "$(cat "$1")" = "$(cat "$2")" ] || { echo "table: not as expected: $3"; exit 1; }
-}
+# shellcheck source=examples/common.sh
+. "$(dirname "$0")/common.sh"
 
 # The record of each reading `PLACE TIME VALUE`, as a line of a script behind this word.
 records() {

@@ -59,8 +59,13 @@ class Contracts:
         doc: list[str] = []
         words, labels = "", []  # the group that is being read
         holder, by_trait, in_trait, name, in_doc, foreign = "", False, False, "", True, False
+        inside = 0  # how many braces of a clause are open, which may take several lines
         for line in path.read_text().splitlines():
             text = line.strip()
+            if inside > 0:
+                self.named.update(re.findall(r"\b[A-Z]\w+\b", line))
+                inside += line.count("{") - line.count("}")
+                continue
             if block := BLOCK.match(line):
                 kind, of = block[1], block[2]
                 by_trait = kind == "impl" and " for " in line
@@ -81,6 +86,7 @@ class Contracts:
                 self.close(name, words, labels)
                 words, labels, in_doc, foreign = (words + " " if words and goes_on else "") + text[3:], [], False, False
             elif name and (clause := CLAUSE.match(line)):
+                inside = line.count("{") - line.count("}")
                 if not foreign:
                     labels.append(clause[1] or "")
                 self.named.update(re.findall(r"\b[A-Z]\w+\b", line))

@@ -1,6 +1,8 @@
 """What the tests share: the program of the environment's PMA, and a folder of each test's own."""
+import contextlib
 import faulthandler
 import os
+import signal
 import stat
 import sys
 import tempfile
@@ -48,3 +50,24 @@ def close_anyhow(store):
         pass
 
 
+class PathLike:
+    def __init__(self, path):
+        self._path = path
+
+    def __fspath__(self):
+        return self._path
+
+
+@contextlib.contextmanager
+def alarms_to(handler):
+    """Has this function take the alarms meanwhile, of which none comes later."""
+    before = signal.signal(signal.SIGALRM, handler)
+    try:
+        yield
+    finally:
+        signal.setitimer(signal.ITIMER_REAL, 0)
+        signal.signal(signal.SIGALRM, before)
+
+
+def interrupt(*_):
+    raise KeyboardInterrupt

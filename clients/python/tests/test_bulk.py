@@ -9,7 +9,7 @@ import time
 import unittest
 from unittest import mock
 
-from common import PROGRAM, StoreCase, close_anyhow, pma
+from common import PROGRAM, PathLike, StoreCase, alarms_to, close_anyhow, interrupt, pma
 
 SEED, KILLS = 7, 18
 LINES = [b"record a 9\n", b"remove b\n", b"record c\n", b"remove d\n", b"end 4\n"]
@@ -285,20 +285,14 @@ class BulkTest(StoreCase):
         self.assertEqual(len(store), 0)
 
     def test_a_merge_that_is_interrupted(self):
-        def interrupt(*_):
-            raise KeyboardInterrupt
         store = self.pretend("sleep 60")
-        before = signal.signal(signal.SIGALRM, interrupt)
-        try:
+        with alarms_to(interrupt):
             for updates in ({b"a": b""}, {b"%06d" % n: b"" for n in range(50000)}):
                 signal.setitimer(signal.ITIMER_REAL, 0.2)
                 begun = time.monotonic()
                 self.assertRaises(KeyboardInterrupt, store.merge, updates)
                 self.assertLess(time.monotonic() - begun, 10)
                 self.assertEqual(len(store), 0)
-        finally:
-            signal.setitimer(signal.ITIMER_REAL, 0)
-            signal.signal(signal.SIGALRM, before)
 
     def test_timeout(self):
         for script, rows, error in (("sleep 60", 50000, pma.TimedOut), ("cat >/dev/null; sleep 60", 1, pma.OutcomeUnknown)):
@@ -316,14 +310,6 @@ class BulkTest(StoreCase):
             self.assertRaises(TypeError, store.merge, [5])
             self.assertEqual(len(os.listdir("/proc/self/fd")), before)
         self.assertRaises(ChildProcessError, os.waitpid, -1, os.WNOHANG)
-
-
-class PathLike:
-    def __init__(self, path):
-        self._path = path
-
-    def __fspath__(self):
-        return self._path
 
 
 def kill_anyhow(number):

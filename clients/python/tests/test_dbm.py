@@ -6,15 +6,7 @@ import random
 import unittest
 from functools import partial
 
-from common import StoreCase, pma
-
-
-class FakePath:
-    def __init__(self, path):
-        self.path = path
-
-    def __fspath__(self):
-        return self.path
+from common import PathLike, StoreCase, pma
 
 
 class DbmTest(StoreCase):
@@ -182,13 +174,13 @@ class DbmTest(StoreCase):
             self.assertEqual(db[b"key"], b"value")
 
     def test_open_with_pathlib_path(self):
-        self.open("c", FakePath(self.file)).close()
+        self.open("c", PathLike(self.file)).close()
 
     def test_open_with_bytes_path(self):
         self.open("c", os.fsencode(self.file)).close()
 
     def test_open_with_pathlib_bytes_path(self):
-        self.open("c", FakePath(os.fsencode(self.file))).close()
+        self.open("c", PathLike(os.fsencode(self.file))).close()
 
 
 if __name__ == "__main__":

@@ -11,7 +11,7 @@ import time
 import unittest
 from unittest import mock
 
-from common import PROGRAM, PYTHON, StoreCase, close_anyhow, pma
+from common import PROGRAM, PYTHON, StoreCase, alarms_to, close_anyhow, interrupt, pma
 
 OPENED = "printf 'oversized key 24\\noversized value 32\\n'\n"  # what an opening is answered
 
@@ -157,18 +157,13 @@ class FaultTest(StoreCase):
 
     def test_a_full_pipe_that_is_given_up(self):
         """The same, where the caller is interrupted: all that may have come to the program is unknown."""
-        def interrupt(*_):
-            raise KeyboardInterrupt
         store = self.open()
         os.kill(store.pid, signal.SIGSTOP)
         pipeline = store.pipeline()
         answers = [pipeline.put(b"%d" % n, b"x") for n in range(100000)]
-        before = signal.signal(signal.SIGALRM, interrupt)
-        try:
+        with alarms_to(interrupt):
             killer = once_sent(store, 100, os.kill, os.getpid(), signal.SIGALRM)
             self.assertRaises(KeyboardInterrupt, pipeline.__exit__, None, None, None)
-        finally:
-            signal.signal(signal.SIGALRM, before)
         kinds = [type(answer._error) for answer in answers]
         sent = kinds.count(pma.OutcomeUnknown)
         self.assertEqual(kinds, [pma.OutcomeUnknown] * sent + [pma.Ended] * (100000 - sent))
@@ -276,30 +271,21 @@ class FaultTest(StoreCase):
 
     def test_signals_that_are_handled(self):
         count = []
-        before = signal.signal(signal.SIGALRM, lambda *_: count.append(1))
-        signal.setitimer(signal.ITIMER_REAL, 0.0005, 0.0005)
-        try:
+        with alarms_to(lambda *_: count.append(1)):
+            signal.setitimer(signal.ITIMER_REAL, 0.0005, 0.0005)
             with self.open() as store:
                 for n in range(2000):
                     store[b"%d" % (n % 50)] = b"%d" % n
                 self.assertEqual([store[b"%d" % n] for n in range(50)], [b"%d" % (1950 + n) for n in range(50)])
-        finally:
-            signal.setitimer(signal.ITIMER_REAL, 0)
-            signal.signal(signal.SIGALRM, before)
         self.assertTrue(count)
 
     def test_signal_that_raises_breaks_off(self):
-        def interrupt(*_):
-            raise KeyboardInterrupt
         store = self.pretend("cat >/dev/null")
-        before = signal.signal(signal.SIGALRM, interrupt)
-        try:
+        with alarms_to(interrupt):
             signal.setitimer(signal.ITIMER_REAL, 0.05)
             pipeline = store.pipeline()
             answers = [pipeline.put(b"%d" % n, b"") for n in range(3)] + [pipeline.get(b"a")]
             self.assertRaises(KeyboardInterrupt, pipeline.__exit__, None, None, None)
-        finally:
-            signal.signal(signal.SIGALRM, before)
         for answer in answers[:3]:  # the replies to some may have been on their way
             self.assertRaises(pma.OutcomeUnknown, answer.result)
         self.assertRaises(pma.Ended, answers[3].result)
@@ -315,12 +301,9 @@ class FaultTest(StoreCase):
             except pma.Error as error:
                 caught.append(str(error))
         store = self.pretend("head -n 3 >/dev/null; sleep 0.2; echo absent; cat >/dev/null")
-        before = signal.signal(signal.SIGALRM, ask)
-        try:
+        with alarms_to(ask):
             signal.setitimer(signal.ITIMER_REAL, 0.05)
             self.assertIsNone(store.get(b"b"))
-        finally:
-            signal.signal(signal.SIGALRM, before)
         self.assertEqual(caught, ["another request of this thread is under way"])
         store.close()
 

@@ -10,7 +10,6 @@ use slot_wide::encode_wide;
 use station::{CrashStation, MemStation, Pick};
 use std::alloc::Global;
 use std::process::Abort;
-use std::test::Fail;
 
 /// How many records each of at most eight segments has.
 pub type Counts = [u32; 8];
@@ -36,7 +35,7 @@ pub fn layout_of(format: u32, height: u32, journal: u32) -> Layout
 }
 
 /// The record of a number; the keys ascend with the numbers. One of format 2 is as long as one may be.
-pub fn row(number: u32, format: u32) -> Result<Row, Fail> {
+pub fn row(rt: &impl Abort, number: u32, format: u32) -> Row {
     let [_, high, middle, low] = number.to_be_bytes();
     let mut key = [b'k'; MAX_KEY_LEN];
     key[1..4].copy_from_slice(&[high, middle, low]);
@@ -47,10 +46,10 @@ pub fn row(number: u32, format: u32) -> Result<Row, Fail> {
     } else {
         (MAX_KEY_LEN, MAX_VALUE_LEN)
     };
-    Ok(Row {
-        key: Key::from_bytes(&key[..key_len])?,
-        value: Value::from_bytes(&value[..value_len])?,
-    })
+    Row {
+        key: Key::from_bytes(&key[..key_len]).expect(rt, "a key"),
+        value: Value::from_bytes(&value[..value_len]).expect(rt, "a value"),
+    }
 }
 
 /// The offset of a segment: behind the header and a page of the journal's table with its images, twice where there are two.
@@ -88,19 +87,19 @@ pub fn file_of(
     layout: Layout,
     height: u32,
     counts: Counts,
-) -> Result<Vec<u8>, Fail> {
+) -> Vec<u8> {
     let end = offset_of(rt, layout, 2, 0);
     assert!(rt; end < 2000000);
-    let mut file = vec![in alloc; 0; end + area_of(layout)]?;
+    let mut file = vec![in alloc; 0; end + area_of(layout)].expect(rt, "memory");
     lay_header(rt, &mut file, layout, height);
     let mut number = 0;
     for (i, count) in counts.iter().enumerate() {
         assert!(rt; i < 16 && number < 1000 && *count <= 64);
         let offset = offset_of(rt, layout, 0, i as u32);
-        lay_rows(rt, &mut file, layout.format, offset, number, *count)?;
+        lay_rows(rt, &mut file, layout.format, offset, number, *count);
         number += *count;
     }
-    Ok(file)
+    file
 }
 
 /// Lays the header of a store of this layout and height, whose live region is 0, over zeros.
@@ -121,13 +120,12 @@ pub fn lay_rows(
     offset: usize,
     before: u32,
     count: u32,
-) -> Result<(), Fail> {
+) {
     assert!(rt; format <= 2 && offset < 2000000 && before < 2000 && count <= 64);
     for i in 0..count {
-        let row = row(before + i + 1, format)?;
+        let row = row(rt, before + i + 1, format);
         lay_row(rt, file, offset + (64 * format * i) as usize, &row);
     }
-    Ok(())
 }
 
 /// Lays a record over a file, in a slot of format 1 where that has room for it.
@@ -147,7 +145,7 @@ pub fn see_records(
     layout: Layout,
     first: u32,
     last: u32,
-) -> Result<(u32, Counts), Fail> {
+) -> (u32, Counts) {
     assert!(rt; file.len() >= offset_of(rt, layout, 2, 0));
     assert!(rt; file.len() >= 8192 && last < 1000);
     let live = file[0] % 2;
@@ -162,10 +160,10 @@ pub fn see_records(
     for segment in 0..1u32 << height {
         let offset = offset_of(rt, laid, live as u32, segment);
         assert!(rt; segment < 8 && offset <= file.len() && size <= file.len() - offset);
-        let rows = Segment::decode(&file[offset..offset + size])?;
+        let rows = Segment::decode(&file[offset..offset + size]).expect(rt, "a segment");
         for i in 0..rows.len() {
             let Row { key, value } = rows.row(i);
-            let wanted = row(number, layout.format)?;
+            let wanted = row(rt, number, layout.format);
             assert!(rt;
                 key == wanted.key && value == wanted.value,
                 "record {i} of {segment}"
@@ -176,14 +174,19 @@ pub fn see_records(
         counts[segment as usize] = rows.len();
     }
     assert_eq!(rt; number, last + 1);
-    Ok((height, counts))
+    (height, counts)
+}
+
+/// A station that holds a file.
+pub fn holding(rt: &impl Abort, alloc: Global, file: &[u8]) -> MemStation {
+    assert!(rt; file.len() < 2000000);
+    MemStation::new(alloc, file, file.len(), 0, &[], None).expect(rt, "memory")
 }
 
 /// A station that holds a file, with notes of all its calls.
-pub fn noting(rt: &impl Abort, alloc: Global, file: &[u8]) -> Result<CrashStation, Fail> {
-    assert!(rt; file.len() < 2000000);
-    let inner = MemStation::new(alloc, file, file.len(), 0, &[], None)?;
-    Ok(CrashStation::new(alloc, inner, 400, 1000000)?)
+pub fn noting(rt: &impl Abort, alloc: Global, file: &[u8]) -> CrashStation {
+    let inner = holding(rt, alloc, file);
+    CrashStation::new(alloc, inner, 400, 1000000).expect(rt, "memory")
 }
 
 /// Opens a file, and sees that it has the records with the numbers from `first` up to `last`.
@@ -193,10 +196,9 @@ pub fn see_opens(
     file: &[u8],
     layout: Layout,
     last: u32,
-) -> Result<(u32, Counts), Fail> {
-    assert!(rt; file.len() < 1000000);
-    let mut station = MemStation::new(alloc, file, file.len(), 0, &[], None)?;
-    opens(alloc, &mut station)?;
+) -> (u32, Counts) {
+    let mut station = holding(rt, alloc, file);
+    opens(alloc, &mut station).expect(rt, "it opens");
     see_records(rt, station.held(), layout, 1, last)
 }
 
@@ -207,14 +209,13 @@ pub fn see_stops(
     station: &CrashStation,
     layout: Layout,
     last: u32,
-) -> Result<(), Fail> {
+) {
     let noted = station.noted();
     assert!(rt; noted < 400, "there was room for all notes");
     for calls in 0..=noted as u32 {
         for pick in PICKS {
-            let image = station.crash_image(alloc, calls, pick)?;
-            see_opens(rt, alloc, &image, layout, last)?;
+            let image = station.crash_image(alloc, calls, pick).expect(rt, "memory");
+            see_opens(rt, alloc, &image, layout, last);
         }
     }
-    Ok(())
 }

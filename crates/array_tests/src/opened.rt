@@ -5,9 +5,9 @@ ghost use Rattle.std.specs.Prelude.{◌≡◌, ◌≤◌, IfOk, IfSome};
 ghost use Rattle.station.specs.View.{Told, EachHeld, NothingPending};
 ghost use Rattle.header_gate.specs.InPlace.{IsBare};
 ghost use Rattle.header_gate.specs.Places.{file_length};
-ghost use Rattle.recovery.specs.Parts.{Fits, AgreesWith};
+ghost use Rattle.recovery.specs.StoreParts.{Fits, AgreesWith};
 ghost use Rattle.redo_journal.specs.Rest.{RestsAt};
-ghost use Rattle.segment_frames.specs.Standing.{StandsFor};
+ghost use Rattle.segment_frames.specs.FrameStanding.{StandsFor};
 
 use crate::untold::UntoldStation;
 use index_file::open_quick;

@@ -3,7 +3,7 @@
 ghost use Rattle.std.specs.Prelude.{◌≤◌};
 
 use crate::files::{
-    Counts, FORMATS, file_of, lay, lay_row, layout_of, noting, offset_of, row, see_opens,
+    Counts, FORMATS, file_of, holding, lay, lay_row, layout_of, noting, offset_of, row, see_opens,
     see_records, see_stops,
 };
 use crate::opened::opens;
@@ -12,7 +12,6 @@ use recovery::OpenFault;
 use station::MemStation;
 use std::alloc::Global;
 use std::process::Abort;
-use std::test::Fail;
 
 const LAYOUT: Layout = Layout {
     hmax: 2,
@@ -28,13 +27,12 @@ const LENGTH: u64 = 57344;
 const EVEN: Counts = [32, 32, 0, 0, 0, 0, 0, 0];
 
 // The reason for which a file is refused.
-fn reason(rt: &impl Abort, alloc: Global, file: &[u8]) -> Result<Option<Reason>, Fail> {
-    assert!(rt; file.len() < 1000000);
-    let mut station = MemStation::new(alloc, file, file.len(), 0, &[], None)?;
+fn reason(rt: &impl Abort, alloc: Global, file: &[u8]) -> Option<Reason> {
+    let mut station = holding(rt, alloc, file);
     match opens(alloc, &mut station) {
-        Ok(()) => Ok(None),
-        Err(OpenFault::NotStore(reason)) => Ok(Some(reason)),
-        Err(_) => Err("another fault".into()),
+        Ok(()) => None,
+        Err(OpenFault::NotStore(reason)) => Some(reason),
+        Err(_) => rt.panic("another fault"),
     }
 }
 
@@ -90,42 +88,40 @@ const CHANGES: [(usize, u8, Reason); 19] = [
 ];
 
 #[test]
-fn a_change_is_refused_by_its_reason(rt: HostRuntime) -> Result<(), Fail> {
-    let sound = file_of(&rt, rt.alloc(), LAYOUT, 1, EVEN)?;
+fn a_change_is_refused_by_its_reason(rt: HostRuntime) {
+    let sound = file_of(&rt, rt.alloc(), LAYOUT, 1, EVEN);
     assert_eq!(rt; sound.len() as u64, LENGTH);
-    assert_eq!(rt; reason(&rt, rt.alloc(), &sound)?, None);
+    assert_eq!(rt; reason(&rt, rt.alloc(), &sound), None);
     for (offset, byte, want) in CHANGES {
-        let mut file = sound.to_vec(rt.alloc())?;
+        let mut file = sound.to_vec(rt.alloc()).expect(&rt, "memory");
         lay(&rt, &mut file, offset, &[byte]);
-        assert_eq!(rt; reason(&rt, rt.alloc(), &file)?, Some(want), "at {offset}");
+        assert_eq!(rt; reason(&rt, rt.alloc(), &file), Some(want), "at {offset}");
     }
     for length in [0, 4095, 4096, 57343] {
         assert!(rt; length < sound.len());
         let want = Reason::Length(length as u64);
-        assert_eq!(rt; reason(&rt, rt.alloc(), &sound[..length])?, Some(want));
+        assert_eq!(rt; reason(&rt, rt.alloc(), &sound[..length]), Some(want));
     }
-    let zeros = vec![in rt.alloc(); 0; 57344]?;
-    assert_eq!(rt; reason(&rt, rt.alloc(), &zeros)?, Some(Reason::Identity));
-    Ok(())
+    let zeros = vec![in rt.alloc(); 0; 57344].expect(&rt, "memory");
+    assert_eq!(rt; reason(&rt, rt.alloc(), &zeros), Some(Reason::Identity));
 }
 
 /// Format 2 needs a height below the height limit; what is above the limit is refused first.
 #[test]
-fn heights_of_format_2(rt: HostRuntime) -> Result<(), Fail> {
+fn heights_of_format_2(rt: HostRuntime) {
     for (height, want) in [
         (1, None),
         (2, Some(Reason::Format { copy: 0, found: 2 })),
         (3, Some(Reason::Height { copy: 0, found: 3 })),
     ] {
-        let mut file = file_of(&rt, rt.alloc(), layout_of(2, 1, 4), 1, EVEN)?;
+        let mut file = file_of(&rt, rt.alloc(), layout_of(2, 1, 4), 1, EVEN);
         lay(&rt, &mut file, 1024, &[height]);
-        assert_eq!(rt; reason(&rt, rt.alloc(), &file)?, want);
+        assert_eq!(rt; reason(&rt, rt.alloc(), &file), want);
     }
-    let mut file = file_of(&rt, rt.alloc(), layout_of(1, 0, 4), 0, [0; 8])?;
+    let mut file = file_of(&rt, rt.alloc(), layout_of(1, 0, 4), 0, [0; 8]);
     lay(&rt, &mut file, 1028, &[2]);
     let want = Some(Reason::Format { copy: 0, found: 2 });
-    assert_eq!(rt; reason(&rt, rt.alloc(), &file)?, want);
-    Ok(())
+    assert_eq!(rt; reason(&rt, rt.alloc(), &file), want);
 }
 
 /// Slot format, the count and the first numbers of a journal's table, and the first wrong place, in a store of two segments.
@@ -143,18 +139,17 @@ const TABLES: [(u32, u8, u8, u8, u32); 10] = [
 ];
 
 #[test]
-fn a_table_is_refused_by_its_first_wrong_place(rt: HostRuntime) -> Result<(), Fail> {
+fn a_table_is_refused_by_its_first_wrong_place(rt: HostRuntime) {
     for (format, count, first, second, place) in TABLES {
         assert!(rt; 1 <= format && format <= 2);
-        let mut file = file_of(&rt, rt.alloc(), layout_of(format, 2, 4), 1, EVEN)?;
+        let mut file = file_of(&rt, rt.alloc(), layout_of(format, 2, 4), 1, EVEN);
         lay(&rt, &mut file, 512, &[1]);
         lay(&rt, &mut file, 4096, &[count]);
         lay(&rt, &mut file, 4100, &[first]);
         lay(&rt, &mut file, 4104, &[second]);
         let want = Reason::Journal { place };
-        assert_eq!(rt; reason(&rt, rt.alloc(), &file)?, Some(want));
+        assert_eq!(rt; reason(&rt, rt.alloc(), &file), Some(want));
     }
-    Ok(())
 }
 
 /// The gate's byte in a file with two journals, count and first numbers of the table of each, and the first wrong place: the
@@ -178,20 +173,19 @@ fn lay_table(rt: &impl Abort, file: &mut [u8], at: usize, table: [u8; 3]) {
 }
 
 #[test]
-fn the_live_one_of_two_journals_is_validated(rt: HostRuntime) -> Result<(), Fail> {
+fn the_live_one_of_two_journals_is_validated(rt: HostRuntime) {
     let layout = Layout {
         version: PAIRED,
         ..LAYOUT
     };
     for (gate, first, second, place) in PAIRS {
-        let mut file = file_of(&rt, rt.alloc(), layout, 1, EVEN)?;
+        let mut file = file_of(&rt, rt.alloc(), layout, 1, EVEN);
         lay(&rt, &mut file, 512, &[gate]);
         lay_table(&rt, &mut file, 4096, first);
         lay_table(&rt, &mut file, 24576, second);
         let want = place.map(|place| Reason::Journal { place });
-        assert_eq!(rt; reason(&rt, rt.alloc(), &file)?, want);
+        assert_eq!(rt; reason(&rt, rt.alloc(), &file), want);
     }
-    Ok(())
 }
 
 /// A height, counts and the density that is wrong.
@@ -205,26 +199,25 @@ const DENSITIES: [(u32, Counts, Option<u32>); 6] = [
 ];
 
 #[test]
-fn the_order_and_the_density_of_segments(rt: HostRuntime) -> Result<(), Fail> {
+fn the_order_and_the_density_of_segments(rt: HostRuntime) {
     for format in FORMATS {
         let layout = layout_of(format, 2, 4);
         for (height, counts, refused) in DENSITIES {
-            let file = file_of(&rt, rt.alloc(), layout, height, counts)?;
+            let file = file_of(&rt, rt.alloc(), layout, height, counts);
             let want = refused.map(|count| Reason::Density {
                 height,
                 number: 0,
                 count,
             });
-            assert_eq!(rt; reason(&rt, rt.alloc(), &file)?, want);
+            assert_eq!(rt; reason(&rt, rt.alloc(), &file), want);
         }
         // (segment 1 begins with the last key of segment 0)
-        let mut file = file_of(&rt, rt.alloc(), layout, 1, EVEN)?;
+        let mut file = file_of(&rt, rt.alloc(), layout, 1, EVEN);
         let offset = offset_of(&rt, layout, 0, 1);
-        lay_row(&rt, &mut file, offset, &row(32, format)?);
+        lay_row(&rt, &mut file, offset, &row(&rt, 32, format));
         let want = Some(Reason::Order { segment: 1 });
-        assert_eq!(rt; reason(&rt, rt.alloc(), &file)?, want);
+        assert_eq!(rt; reason(&rt, rt.alloc(), &file), want);
     }
-    Ok(())
 }
 
 /// Counts of four segments, and what an opening makes of them.
@@ -242,35 +235,36 @@ const REPAIRS: [(Counts, Counts, u32); 3] = [
     ([62, 2, 1, 33, 0, 0, 0, 0], [24, 25, 24, 25, 0, 0, 0, 0], 98),
 ];
 
-// Opens files of this format that want a repair, and sees what stops leave of them.
-fn see_repairs(rt: &impl Abort, alloc: Global, format: u32) -> Result<(), Fail>
-    requires { 1 ≤ format × (format ≤ 2) }
-{
-    let layout = layout_of(format, 2, 4);
-    for (before, after, records) in REPAIRS {
-        let file = file_of(rt, alloc, layout, 2, before)?;
-        let mut station = noting(rt, alloc, &file)?;
-        opens(alloc, &mut station)?;
-        let found = see_records(rt, station.inner().held(), layout, 1, records)?;
-        assert_eq!(rt; found, (2, after));
-        see_stops(rt, alloc, &station, layout, records)?;
+// Opens a file that wants a repair, and sees what it then is and what stops leave of it.
+fn see_repaired(
+    rt: &impl Abort,
+    alloc: Global,
+    layout: Layout,
+    file: &[u8],
+    after: Counts,
+    records: u32,
+) {
+    let mut station = noting(rt, alloc, file);
+    opens(alloc, &mut station).expect(rt, "it opens");
+    let found = see_records(rt, station.inner().held(), layout, 1, records);
+    assert_eq!(rt; found, (2, after));
+    see_stops(rt, alloc, &station, layout, records);
+}
+
+#[test]
+fn a_repair_is_stopped_at_every_call(rt: HostRuntime) {
+    for format in FORMATS {
+        let layout = layout_of(format, 2, 4);
+        for (before, after, records) in REPAIRS {
+            let file = file_of(&rt, rt.alloc(), layout, 2, before);
+            see_repaired(&rt, rt.alloc(), layout, &file, after, records);
+        }
     }
-    Ok(())
-}
-
-#[test]
-fn a_repair_is_stopped_at_every_call(rt: HostRuntime) -> Result<(), Fail> {
-    see_repairs(&rt, rt.alloc(), 1)
-}
-
-#[test]
-fn a_repair_of_format_2_is_stopped_at_every_call(rt: HostRuntime) -> Result<(), Fail> {
-    see_repairs(&rt, rt.alloc(), 2)
 }
 
 // A file of four segments, of which 0 and 2 lie in the journal and are torn in place.
-fn torn(rt: &impl Abort, alloc: Global, layout: Layout) -> Result<Vec<u8>, Fail> {
-    let mut file = file_of(rt, alloc, layout, 2, [60, 2, 31, 33, 0, 0, 0, 0])?;
+fn torn(rt: &impl Abort, alloc: Global, layout: Layout) -> Vec<u8> {
+    let mut file = file_of(rt, alloc, layout, 2, [60, 2, 31, 33, 0, 0, 0, 0]);
     lay(rt, &mut file, 512, &[1]);
     let mut image = 0;
     for segment in [0, 2] {
@@ -280,7 +274,9 @@ fn torn(rt: &impl Abort, alloc: Global, layout: Layout) -> Result<Vec<u8>, Fail>
             assert!(rt; first <= 1000000);
             let offset = first + 4096 * page as usize;
             assert!(rt; offset + 4096 <= file.len());
-            let bytes = file[offset..offset + 4096].to_vec(alloc)?;
+            let bytes = file[offset..offset + 4096]
+                .to_vec(alloc)
+                .expect(rt, "memory");
             lay(rt, &mut file, 8192 + 4096 * image as usize, &bytes);
             lay(rt, &mut file, offset + 64, &[255; 200]);
             let number = layout.format * segment + page;
@@ -294,36 +290,39 @@ fn torn(rt: &impl Abort, alloc: Global, layout: Layout) -> Result<Vec<u8>, Fail>
         }
     }
     lay(rt, &mut file, 4096, &[image]);
-    Ok(file)
+    file
 }
 
 /// A batch of segments 0 and 2 lies in the journal, and both are torn in place: a replay, and a repair behind it.
 #[test]
-fn a_replay_is_stopped_at_every_call(rt: HostRuntime) -> Result<(), Fail> {
+fn a_replay_is_stopped_at_every_call(rt: HostRuntime) {
     for format in FORMATS {
         let layout = layout_of(format, 2, 4);
-        let file = torn(&rt, rt.alloc(), layout)?;
-        let mut station = noting(&rt, rt.alloc(), &file)?;
-        opens(rt.alloc(), &mut station)?;
-        let found = see_records(&rt, station.inner().held(), layout, 1, 126)?;
-        assert_eq!(rt; found, (2, [31, 31, 31, 33, 0, 0, 0, 0]));
-        see_stops(&rt, rt.alloc(), &station, layout, 126)?;
+        let file = torn(&rt, rt.alloc(), layout);
+        see_repaired(
+            &rt,
+            rt.alloc(),
+            layout,
+            &file,
+            [31, 31, 31, 33, 0, 0, 0, 0],
+            126,
+        );
     }
-    Ok(())
 }
 
 #[test]
-fn lengths_of_height_limit_4(rt: HostRuntime) -> Result<(), Fail> {
+fn lengths_of_height_limit_4(rt: HostRuntime) {
     for (journal, length) in [(4, 155648), (16, 204800)] {
         let layout = layout_of(1, 4, journal);
-        let mut station = MemStation::new(rt.alloc(), &[], length, 0, &[], None)?;
+        let mut station = MemStation::new(rt.alloc(), &[], length, 0, &[], None).expect(
+            &rt, "memory",
+        );
         assert!(rt; layout.length() == length as u64);
         assert!(rt; create_store(&mut station, layout).is_ok());
         assert_eq!(rt; station.held().len(), length);
         assert_eq!(rt;
-            see_opens(&rt, rt.alloc(), station.held(), layout, 0)?,
+            see_opens(&rt, rt.alloc(), station.held(), layout, 0),
             (0, [0; 8])
         );
     }
-    Ok(())
 }

@@ -4,9 +4,9 @@ ghost use Rattle.std.specs.Prelude.{◌≤◌};
 ghost use Rattle.density_rule.specs.Bounds.{IsInBounds};
 ghost use Rattle.header_gate.specs.InPlace.{IsBare};
 ghost use Rattle.header_gate.specs.Places.{file_length};
-ghost use Rattle.recovery.specs.Parts.{Fits};
+ghost use Rattle.recovery.specs.StoreParts.{Fits};
 ghost use Rattle.redo_journal.specs.Rest.{RestsAt};
-ghost use Rattle.segment_frames.specs.Standing.{StandsFor};
+ghost use Rattle.segment_frames.specs.FrameStanding.{StandsFor};
 ghost use Rattle.station.specs.CrashStation.{crash_view};
 ghost use Rattle.station.specs.View.{Told, EachHeld, NothingPending};
 
@@ -21,7 +21,6 @@ use segment::StoreFault;
 use station::{CrashStation, Pick};
 use std::alloc::Global;
 use std::process::Abort;
-use std::test::Fail;
 
 // Sees that a store of this height may have that many records.
 fn see_fits(rt: &impl Abort, height: u32, records: u32)
@@ -86,20 +85,15 @@ fn shrink_one(
 }
 
 // Opens a store, and grows it by one height or shrinks it by one.
-fn resize_once(
-    rt: &impl Abort,
-    alloc: Global,
-    station: &mut CrashStation,
-    grows: bool,
-) -> Result<(), Fail> {
-    let mut parts = open_cleared(alloc, station)?;
+fn resize_once(rt: &impl Abort, alloc: Global, station: &mut CrashStation, grows: bool) {
+    let mut parts = open_cleared(alloc, station).expect(rt, "it opens");
     let resized = if grows {
         grow_one(rt, station, &mut parts)
     } else {
         shrink_one(rt, station, &mut parts)
     };
     end(parts);
-    Ok(resized?)
+    assert!(rt; resized.is_ok());
 }
 
 /// The greatest height, the journal, the heights and the counts before and after, and the number of records.
@@ -164,35 +158,35 @@ const RESIZES: [Resize; 6] = [
 
 // Resizes a store of this format, and sees what stops leave of it: between the selector's write and its sync, the last call,
 // either region may be the live one.
-fn see_resize(rt: &impl Abort, alloc: Global, format: u32, row: &Resize) -> Result<(), Fail>
+fn see_resize(rt: &impl Abort, alloc: Global, format: u32, row: &Resize)
     requires { 1 ≤ format × (format ≤ 2) }
 {
     let (limit, journal, from, before, to, after, records) = *row;
     assert!(rt; limit <= 4 && from <= 2);
     let layout = layout_of(format, limit, journal);
-    let file = file_of(rt, alloc, layout, from, before)?;
-    let mut station = noting(rt, alloc, &file)?;
-    resize_once(rt, alloc, &mut station, to > from)?;
-    let found = see_records(rt, station.inner().held(), layout, 1, records)?;
+    let file = file_of(rt, alloc, layout, from, before);
+    let mut station = noting(rt, alloc, &file);
+    resize_once(rt, alloc, &mut station, to > from);
+    let found = see_records(rt, station.inner().held(), layout, 1, records);
     assert_eq!(rt; found, (to, after));
-    see_stops(rt, alloc, &station, layout, records)?;
+    see_stops(rt, alloc, &station, layout, records);
     let noted = station.noted();
     assert!(rt; noted >= 1 && noted < 400);
     for (pick, want) in [(Pick::Settled, (from, before)), (Pick::Held, (to, after))] {
-        let image = station.crash_image(alloc, noted as u32 - 1, pick)?;
+        let image = station
+            .crash_image(alloc, noted as u32 - 1, pick)
+            .expect(rt, "memory");
         assert!(rt; image.len() > 0);
         assert_eq!(rt; image[0] as u32, (want.0 == to) as u32, "the selector");
-        assert_eq!(rt; see_opens(rt, alloc, &image, layout, records)?, want);
+        assert_eq!(rt; see_opens(rt, alloc, &image, layout, records), want);
     }
-    Ok(())
 }
 
 #[test]
-fn a_resize_is_stopped_at_every_call(rt: HostRuntime) -> Result<(), Fail> {
+fn a_resize_is_stopped_at_every_call(rt: HostRuntime) {
     for format in FORMATS {
         for row in &RESIZES {
-            see_resize(&rt, rt.alloc(), format, row)?;
+            see_resize(&rt, rt.alloc(), format, row);
         }
     }
-    Ok(())
 }

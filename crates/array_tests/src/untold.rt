@@ -4,7 +4,6 @@ use crate::files::noting;
 use station::{CrashStation, Failed, MemStation, SayFailed, Station, Travel};
 use std::alloc::Global;
 use std::process::Abort;
-use std::test::Fail;
 
 /// A station in memory of which nothing is told, as of the operating system's.
 #[derive(Drop)]
@@ -15,7 +14,7 @@ pub struct UntoldStation {
 
 impl Station for UntoldStation {
     ghost use Rattle.station.specs.CrashStation.{crash_view, crash_lawful};
-    ghost use Rattle.array_tests.specs.Untold.{untell, untold_lawful};
+    ghost use Rattle.array_tests.specs.UntoldStation.{untell, untold_lawful};
 
     ghost view = { λ s. untell (crash_view s.inner) };
 
@@ -55,10 +54,10 @@ impl Station for UntoldStation {
 }
 
 /// A station that holds a file, of which nothing is told.
-pub fn untold(rt: &impl Abort, alloc: Global, file: &[u8]) -> Result<UntoldStation, Fail> {
-    Ok(UntoldStation {
-        inner: noting(rt, alloc, file)?,
-    })
+pub fn untold(rt: &impl Abort, alloc: Global, file: &[u8]) -> UntoldStation {
+    UntoldStation {
+        inner: noting(rt, alloc, file),
+    }
 }
 
 /// One of which besides the call with this number fails, or from it on every call.
@@ -68,14 +67,14 @@ pub fn failing(
     file: &[u8],
     call: u32,
     is_last: bool,
-) -> Result<UntoldStation, Fail> {
+) -> UntoldStation {
     assert!(rt; file.len() < 1000000);
     let inner = if is_last {
-        MemStation::new(alloc, file, file.len(), 0, &[], Some(call))?
+        MemStation::new(alloc, file, file.len(), 0, &[], Some(call)).expect(rt, "memory")
     } else {
-        MemStation::new(alloc, file, file.len(), 0, &[call], None)?
+        MemStation::new(alloc, file, file.len(), 0, &[call], None).expect(rt, "memory")
     };
-    Ok(UntoldStation {
-        inner: CrashStation::new(alloc, inner, 400, 1000000)?,
-    })
+    UntoldStation {
+        inner: CrashStation::new(alloc, inner, 400, 1000000).expect(rt, "memory"),
+    }
 }

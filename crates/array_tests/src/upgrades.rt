@@ -3,9 +3,9 @@
 ghost use Rattle.std.specs.Prelude.{◌≤◌};
 ghost use Rattle.header_gate.specs.InPlace.{IsBare};
 ghost use Rattle.header_gate.specs.Places.{file_length};
-ghost use Rattle.recovery.specs.Parts.{Fits};
+ghost use Rattle.recovery.specs.StoreParts.{Fits};
 ghost use Rattle.redo_journal.specs.Rest.{RestsAt};
-ghost use Rattle.segment_frames.specs.Standing.{StandsFor};
+ghost use Rattle.segment_frames.specs.FrameStanding.{StandsFor};
 ghost use Rattle.station.specs.CrashStation.{crash_view};
 ghost use Rattle.station.specs.View.{Told, EachHeld, NothingPending};
 
@@ -17,7 +17,7 @@ use resize_region::{Upgrade, upgrade};
 use segment::StoreFault;
 use station::CrashStation;
 use std::alloc::Global;
-use std::test::Fail;
+use std::process::Abort;
 
 // Upgrades a store, and answers what came of it.
 fn upgrade_parts(station: &mut CrashStation, parts: &mut Parts) -> Result<Upgrade, StoreFault>
@@ -34,16 +34,17 @@ fn upgrade_parts(station: &mut CrashStation, parts: &mut Parts) -> Result<Upgrad
 // Opens a store and upgrades it, and answers what came of it, with the region and the format that its place names then
 // and the number of calls that it made.
 fn upgrade_once(
+    rt: &impl Abort,
     alloc: Global,
     station: &mut CrashStation,
-) -> Result<(Upgrade, u32, u32, usize), Fail> {
-    let mut parts = open_cleared(alloc, station)?;
+) -> (Upgrade, u32, u32, usize) {
+    let mut parts = open_cleared(alloc, station).expect(rt, "it opens");
     let before = station.noted();
-    let answer = upgrade_parts(station, &mut parts);
+    let answer = upgrade_parts(station, &mut parts).expect(rt, "no fault");
     let calls = station.noted().saturating_sub(before);
     let (region, format) = (parts.place.region, parts.place.layout.format);
     end(parts);
-    Ok((answer?, region, format, calls))
+    (answer, region, format, calls)
 }
 
 /// Height limit, journal, the heights and the counts before and after, and the number of records.
@@ -97,7 +98,7 @@ const UPGRADES: [(u32, u32, u32, Counts, u32, Counts, u32); 5] = [
 
 /// Wherever it stops, the file has all records, at one of the formats.
 #[test]
-fn an_upgrade_is_stopped_at_every_call(rt: HostRuntime) -> Result<(), Fail> {
+fn an_upgrade_is_stopped_at_every_call(rt: HostRuntime) {
     for (hmax, journal, from, before, to, after, records) in UPGRADES {
         let layout = Layout {
             hmax,
@@ -106,17 +107,16 @@ fn an_upgrade_is_stopped_at_every_call(rt: HostRuntime) -> Result<(), Fail> {
             format: 1,
         };
         assert!(rt; from <= 3);
-        let file = file_of(&rt, rt.alloc(), layout, from, before)?;
-        let mut station = noting(&rt, rt.alloc(), &file)?;
-        let done = upgrade_once(rt.alloc(), &mut station)?;
+        let file = file_of(&rt, rt.alloc(), layout, from, before);
+        let mut station = noting(&rt, rt.alloc(), &file);
+        let done = upgrade_once(&rt, rt.alloc(), &mut station);
         assert_eq!(rt; (done.0, done.1, done.2), (Upgrade::Done, 1, 2));
-        let found = see_records(&rt, station.inner().held(), layout, 1, records)?;
+        let found = see_records(&rt, station.inner().held(), layout, 1, records);
         assert_eq!(rt; found, (to, after));
-        see_stops(&rt, rt.alloc(), &station, layout, records)?;
-        let again = upgrade_once(rt.alloc(), &mut station)?;
+        see_stops(&rt, rt.alloc(), &station, layout, records);
+        let again = upgrade_once(&rt, rt.alloc(), &mut station);
         assert_eq!(rt; again, (Upgrade::Already, 1, 2, 0));
     }
-    Ok(())
 }
 
 /// Height limit, height, the counts, and why there is no upgrade.
@@ -138,7 +138,7 @@ const REFUSALS: [(u32, u32, Counts, Upgrade); 3] = [
 
 /// A store that can't go over is left as it is, without a call.
 #[test]
-fn an_upgrade_is_refused(rt: HostRuntime) -> Result<(), Fail> {
+fn an_upgrade_is_refused(rt: HostRuntime) {
     for (hmax, height, counts, want) in REFUSALS {
         let layout = Layout {
             hmax,
@@ -146,10 +146,9 @@ fn an_upgrade_is_refused(rt: HostRuntime) -> Result<(), Fail> {
             version: 1,
             format: 1,
         };
-        let file = file_of(&rt, rt.alloc(), layout, height, counts)?;
-        let mut station = noting(&rt, rt.alloc(), &file)?;
-        let answer = upgrade_once(rt.alloc(), &mut station)?;
+        let file = file_of(&rt, rt.alloc(), layout, height, counts);
+        let mut station = noting(&rt, rt.alloc(), &file);
+        let answer = upgrade_once(&rt, rt.alloc(), &mut station);
         assert_eq!(rt; answer, (want, 0, 1, 0));
     }
-    Ok(())
 }

@@ -8,11 +8,11 @@ use Rattle.std.proofs.lemmas.List.Folds.{length-flat_map-take}
 use Rattle.station.specs.Bytes.{byte}
 use Rattle.batch_intent.specs.declared.places.TheConstants.{INTENT_SIZE}
 use Rattle.map_model.specs.Store.{Update, bind, unbind, key_of}
-use Rattle.map_model.specs.Items.{has_item}
+use Rattle.map_model.specs.ItemWords.{has_item}
 use Rattle.map_model.proofs.Resuming.{none_before}
 use Rattle.batch_intent.specs.Spelling.{item_bytes, fits_item, Spells, key_field, item_at, after_item, items_from, place_from}
 use Rattle.key_slot.specs.Format.{key_room, value_room}
-use Rattle.batch_intent.specs.Validating.{is_kind, is_item, is_wrong_item, first_wrong, wrong_place}
+use Rattle.batch_intent.specs.IntentReasons.{is_kind, is_item, is_wrong_item, first_wrong, wrong_place}
 use Rattle.batch_intent.proofs.ItemsRead.{reads_item, reads_from, reads_intent, key_of-item_at, ReadsAs}
 use Rattle.batch_intent.proofs.Kept.{all_at}
 use Rattle.batch_intent.proofs.Validated.{none_next, counted}

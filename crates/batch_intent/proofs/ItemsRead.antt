@@ -6,7 +6,7 @@ use Rattle.std.specs.Str.{bytes_eq}
 use Rattle.std.specs.List.{flat_map}
 use Rattle.station.specs.Bytes.{byte}
 use Rattle.map_model.specs.Store.{Update, bind, unbind, key_of}
-use Rattle.map_model.specs.Items.{has_item}
+use Rattle.map_model.specs.ItemWords.{has_item}
 use Rattle.batch_intent.specs.Spelling.{item_bytes, intent_bytes, key_field, value_field, item_at, after_item, items_from, place_from}
 use Rattle.batch_intent.proofs.Buffers.{range_is}
 

@@ -12,7 +12,8 @@ use Rattle.key_slot.specs.Padded.{padded}
 use Rattle.key_slot.specs.declared.sizes.TheConstants.{MAX_KEY_LEN, MAX_VALUE_LEN}
 use Rattle.batch_intent.specs.declared.places.TheConstants.{INTENT_SIZE}
 use Rattle.map_model.specs.Store.{Update, unbind, key_of}
-use Rattle.map_model.specs.Items.{has_item, are_distinct}
+use Rattle.map_model.specs.Items.{are_distinct}
+use Rattle.map_model.specs.ItemWords.{has_item}
 use Rattle.batch_intent.specs.declared.intent.IntentFault.TheVariants.{TooMany, Repeated, TooLong}
 use Rattle.batch_intent.specs.declared.intent.TheConstants.{MOST_ITEMS}
 use Rattle.batch_intent.specs.Pushing.{push_fault}

@@ -9,11 +9,12 @@ use Rattle.station.specs.Bytes.{byte}
 use Rattle.station.proofs.Ranges.{byte-slice_range, length-slice_range}
 use Rattle.batch_intent.specs.declared.places.TheConstants.{INTENT_SIZE}
 use Rattle.map_model.specs.Store.{Update, bind, unbind}
-use Rattle.map_model.specs.Items.{has_item, are_distinct}
+use Rattle.map_model.specs.Items.{are_distinct}
+use Rattle.map_model.specs.ItemWords.{has_item}
 use Rattle.batch_intent.specs.declared.intent.TheConstants.{MOST_ITEMS}
 use Rattle.batch_intent.specs.Spelling.{item_bytes, intent_bytes, fits_item, Spells, key_field, value_field, item_at, after_item, items_in, items_from, place_from}
 use Rattle.key_slot.specs.Format.{key_room, value_room}
-use Rattle.batch_intent.specs.Validating.{is_kind, is_item, is_wrong_item, first_wrong, wrong_place}
+use Rattle.batch_intent.specs.IntentReasons.{is_kind, is_item, is_wrong_item, first_wrong, wrong_place}
 use Rattle.batch_intent.proofs.Buffers.{fields_written}
 use Rattle.batch_intent.proofs.ItemsRead.{place_next, items_next, length-items_from, key_of-item_at}
 use Rattle.batch_intent.proofs.Kept.{distinct_more, all_more}

@@ -3,10 +3,10 @@ use Rattle.std.proofs.Common.{◌≡◌, ℕ, zero, suc, ◌+◌, ◌-◌, ◌<�
 use Rattle.std.proofs.lemmas.Bool.Decides.{nat_tests}
 use Rattle.station.specs.Bytes.{byte}
 use Rattle.map_model.specs.Store.{Update}
-use Rattle.map_model.specs.Items.{has_item}
+use Rattle.map_model.specs.ItemWords.{has_item}
 use Rattle.batch_intent.specs.declared.intent.TheConstants.{MOST_ITEMS}
 use Rattle.batch_intent.specs.Spelling.{key_field, items_from, place_from}
-use Rattle.batch_intent.specs.Validating.{is_item, is_wrong_item, first_wrong, wrong_place}
+use Rattle.batch_intent.specs.IntentReasons.{is_item, is_wrong_item, first_wrong, wrong_place}
 
 -- an item by what it was found to be
 pub wrong_by : (a b r : Bool) → r ≡ (a && not b) → r ≡ false → (not a || b) ≡ true

@@ -9,12 +9,13 @@ use Rattle.density_rule.specs.Bounds.{upper_of}
 use Rattle.header_gate.specs.declared.layout.Layout.{Layout}
 use Rattle.header_gate.specs.declared.reason.Reason.{Reason}
 use Rattle.header_gate.specs.declared.reason.Reason.TheVariants.{Intent}
-use Rattle.map_model.specs.Store.{Map, Update, bind, unbind, map_after, effect_by}
+use Rattle.map_model.specs.Store.{Map, Update, bind, unbind, effect_by}
+use Rattle.map_model.specs.After.{map_after}
 use Rattle.map_model.specs.Items.{first_full, is_full}
 use Rattle.map_model.proofs.Resuming.{removal_fits}
 use Rattle.batch_intent.specs.declared.intent.IntentFault.TheVariants.{TooMany, Repeated}
 use Rattle.batch_intent.specs.Spelling.{intent_bytes, items_in, fits_item}
-use Rattle.batch_intent.specs.Validating.{first_wrong, wrong_place}
+use Rattle.batch_intent.specs.IntentReasons.{first_wrong, wrong_place}
 use Rattle.batch_intent.specs.Pushing.{push_fault}
 use Rattle.batch_intent.specs.Gate.{has_intent, reason_at}
 use Rattle.batch_intent.specs.Means.{full_reason}

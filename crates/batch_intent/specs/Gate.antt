@@ -11,7 +11,7 @@ use Rattle.header_gate.specs.declared.reason.Reason.{Reason}
 use Rattle.header_gate.specs.declared.reason.Reason.TheVariants.{Intent}
 use Rattle.map_model.specs.Store.{Update}
 use Rattle.batch_intent.specs.Spelling.{intent_bytes}
-use Rattle.batch_intent.specs.Validating.{wrong_place}
+use Rattle.batch_intent.specs.IntentReasons.{wrong_place}
 
 -- the place of its gate
 abbrev pub IsIntentGatePlace : ℕ → Type 0

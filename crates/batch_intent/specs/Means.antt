@@ -1,4 +1,4 @@
--- What a file means: the map that it represents, with the items of its intent made if its gate is odd.
+-- What a file means: the map that it represents, with the items that wait in its intent made.
 use Rattle.std.specs.Prelude.{◌≡◌, ℕ, ◌+◌, if◌then◌else◌, Bool, true, false, List, [], take, Option, Some, None}
 use Rattle.station.specs.Bytes.{byte, InRange}
 use Rattle.batch_intent.specs.declared.places.TheConstants.{INTENT, INTENT_SIZE}
@@ -10,55 +10,54 @@ use Rattle.header_gate.specs.Header.{intent_gate, layout_in}
 use Rattle.header_gate.specs.Places.{height_limit}
 use Rattle.header_gate.specs.Reasons.{or_else}
 use Rattle.map_model.specs.Store.{Map, State, Update}
-use Rattle.map_model.specs.Items.{map_after_items, state_after_items, first_full}
+use Rattle.map_model.specs.Items.{state_after_items, first_full}
+use Rattle.map_model.specs.After.{map_after_items}
 use Rattle.map_model.specs.Image.{Represents, RepresentsMap, slot_format, map_of}
 use Rattle.map_model.specs.ArrayState.{ArrayState, opened_state, next_states}
-use Rattle.map_model.specs.Reasons.{reason_of}
+use Rattle.map_model.specs.FileReasons.{reason_of}
 use Rattle.batch_intent.specs.Spelling.{Spells, items_in, place_from}
 use Rattle.batch_intent.specs.Gate.{IsIntentPlace, has_intent, intent_area, form_reason}
 
--- whether the items of the intent are to be applied
-abbrev pub has_pending : List ℕ → Bool
-has_pending image = has_intent (layout_in image) image
+-- whether items wait in the intent, to be applied
+abbrev pub has_waiting : List ℕ → Bool
+has_waiting image = has_intent (layout_in image) image
 
--- these items
-unfoldable pub pending : List ℕ → List Update
-pending image = if has_pending image then items_in (intent_area image) else []
+-- the items that wait
+unfoldable pub waiting : List ℕ → List Update
+waiting image = if has_waiting image then items_in (intent_area image) else []
 
--- The image means this map at this height: it represents a map, its intent has items, one or more that fit its slot format if
--- they are to be applied and none else, none of them meets a full store, and this is the map after them. A session on the image
--- begins with the state after them: this map, and the height to which they lead.
-pub record Means (image : List ℕ) (m : Map) (height : ℕ) : Type 0 where
+-- The image has this layout, and means this map: it represents a map at a height, its intent has items, one or more that fit the
+-- slot format if they wait to be applied and none else, none of them meets a full store, and this is the map after them. A session
+-- on the image begins with the state after them: this map, and the height to which they lead.
+pub record Means (l : Layout) (image : List ℕ) (m : Map) : Type 0 where
+  pub layout_is : layout_in image ≡ l
+  pub height : ℕ
   pub base : Map
   pub items : List Update
   pub represents : Represents image base height
-  pub idle : has_intent (layout_in image) image ≡ false → items ≡ []
-  pub form : has_intent (layout_in image) image ≡ true → Spells (slot_format image) items (intent_area image)
-  pub admitted : first_full (height_limit (layout_in image)) base items ≡ None
+  pub idle : has_intent l image ≡ false → items ≡ []
+  pub form : has_intent l image ≡ true → Spells l.format items (intent_area image)
+  pub admitted : first_full (height_limit l) base items ≡ None
   pub begins : State
-  pub begins_is : state_after_items (height_limit (layout_in image)) (record { map = base; height = height }) items ≡ begins
+  pub begins_is : state_after_items (height_limit l) (record { map = base; height = height }) items ≡ begins
   pub map_is : begins.map ≡ m
-
--- the image has this layout, and means this map, at the height that it names
-abbrev pub MeansMap : Layout → List ℕ → Map → Type 0
-MeansMap layout image m = (layout_in image ≡ layout) × ((height : ℕ) × Means image m height)
 
 -- the map that an image means, if it means one
 abbrev pub meant_map : List ℕ → Map
-meant_map image = map_after_items (height_limit (layout_in image)) (map_of image) (pending image)
+meant_map image = map_after_items (height_limit (layout_in image)) (map_of image) (waiting image)
 
--- what opening makes of a file: its array is repaired, no window is rested, and then the items are made
+-- what opening makes of a file: its array is repaired, no window is rested, and then the items that wait are made
 abbrev pub opened_items_state : List ℕ → ArrayState
-opened_items_state image = next_states (height_limit (layout_in image)) (opened_state image) (pending image)
+opened_items_state image = next_states (height_limit (layout_in image)) (opened_state image) (waiting image)
 
 -- the reason of the first item that meets a full store, by its number
 abbrev pub full_reason : List ℕ → Option ℕ → Option Reason
 full_reason area None = None
 full_reason area (Some i) = Some (Intent (INTENT + place_from area i 1))
 
--- an item that is to be applied, and meets a full store
+-- an item that waits, and meets a full store
 abbrev pub fullness_reason : List ℕ → Option Reason
-fullness_reason image = full_reason (intent_area image) (first_full (height_limit (layout_in image)) (map_of image) (pending image))
+fullness_reason image = full_reason (intent_area image) (first_full (height_limit (layout_in image)) (map_of image) (waiting image))
 
 -- the first thing that is wrong with a file that is to be opened: what says that it represents no map, then the form of its
 -- intent, and then an item that meets a full store
@@ -72,15 +71,15 @@ pub record KeepsIntent (old new : List ℕ) : Type 0 where
   pub gate_is : intent_gate new ≡ intent_gate old
   pub same : (k : ℕ) → InRange INTENT INTENT_SIZE k → byte new k ≡ byte old k
 
--- a place at which nothing stands that says which items are to be applied, but for the slot format: none of identity, intent
+-- a place at which nothing stands that says which items wait, but for the slot format: none of identity, intent
 -- and its gate. All that an update of one key may touch is such.
 pub record IsApart (k : ℕ) : Type 0 where
   pub identity : InRange IDENTITY 20 k → ⊥
   pub intent : IsIntentPlace k → ⊥
 
--- k of the items were made: the image represents the map after them, and the intent of all of them is to be applied
+-- k of the items were made: the image represents the map after them, and all of them still wait
 pub record InBatch (layout : Layout) (base : Map) (items : List Update) (k : ℕ) (image : List ℕ) : Type 0 where
-  pub some : has_pending image ≡ true
+  pub some : has_waiting image ≡ true
   pub layout_is : layout_in image ≡ layout
   pub spells : Spells (slot_format image) items (intent_area image)
   pub represents : RepresentsMap image (map_after_items (height_limit layout) base (take k items))

@@ -2,7 +2,7 @@
 use Rattle.std.specs.Prelude.{nat_le, nat_lt, if◌then◌else◌, List, [], ◌∷◌, ◌++◌, length, Option, Some, None}
 use Rattle.batch_intent.specs.declared.places.TheConstants.{INTENT_SIZE}
 use Rattle.map_model.specs.Store.{Update, key_of}
-use Rattle.map_model.specs.Items.{has_item}
+use Rattle.map_model.specs.ItemWords.{has_item}
 use Rattle.batch_intent.specs.declared.intent.IntentFault.{IntentFault}
 use Rattle.batch_intent.specs.declared.intent.IntentFault.TheVariants.{TooMany, Repeated, TooLong}
 use Rattle.batch_intent.specs.declared.intent.TheConstants.{MOST_ITEMS}

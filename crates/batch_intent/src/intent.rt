@@ -3,7 +3,7 @@
 ghost use Rattle.std.specs.Prelude.{◌≡◌, ◌+◌, ◌<◌, [], ◌∷◌, ◌++◌, length, slice_index_or, MatchResult, T, Some, None};
 ghost use Rattle.std.specs.List.{list_all};
 ghost use Rattle.map_model.specs.Store.{Update};
-ghost use Rattle.batch_intent.specs.Items.{update_of};
+ghost use Rattle.batch_intent.specs.ItemView.{update_of};
 ghost use Rattle.batch_intent.specs.Spelling.{IsIntent, intent_bytes, has_sizes};
 ghost use Rattle.batch_intent.specs.Pushing.{push_fault};
 ghost use Rattle.key_slot.specs.declared.sizes.TheConstants.{MAX_KEY_LEN, MAX_VALUE_LEN};
@@ -35,7 +35,7 @@ impl Model for Intent {
 
     ghost Value = { List Update };
 
-    ghost use Rattle.batch_intent.specs.Inside.{view_of, IsKept};
+    ghost use Rattle.batch_intent.specs.IntentFields.{view_of, IsKept};
 
     ghost view = { view_of };
 

@@ -32,18 +32,22 @@ pub fn read_intent<S: Station>(
     requires reach { page_size ≤ (S.view station.old).fixed.reach }
     // On Ok, if the station tells its bytes, the answer is None exactly if the version has no intent or the gate is even, and
     // else the items that the bytes spell.
-    ensures even { IfOk result (λ intent. Told (S.view station.old) → (intent ≡ None) ↔ (has_intent layout (S.view station.old).held ≡ false)) }
+    ensures even { IfOk result (λ intent. Told (S.view station.old) →
+        (intent ≡ None) ↔ (has_intent layout (S.view station.old).held ≡ false)) }
     ensures items { IfOk result (λ intent. Told (S.view station.old) → (items : List model.Update) → intent ≡ Some items →
         items ≡ items_in (intent_area (S.view station.old).held)) }
     // On every station an intent that is answered has at least one item, and all fit the layout's slot format.
-    ensures fits { IfOk result (λ intent. (items : List model.Update) → intent ≡ Some items → (1 ≤ length items) × T (list_all (fits_item layout.format) items)) }
+    ensures fits { IfOk result (λ intent. (items : List model.Update) → intent ≡ Some items → (1 ≤ length items) ×
+        T (list_all (fits_item layout.format) items)) }
     // If the station tells its bytes, and no disk call fails, `NotStore` comes exactly if an intent is to be applied, by version
     // and gate, and its bytes are none of the slot format; it names the first wrong place.
     ensures sound { OnOk result (Told (S.view station.old) → form_reason layout (S.view station.old).held ≡ None) }
-    ensures refused { IfErr result (λ e. Told (S.view station.old) → (r : Reason) → e ≡ HeaderFault.NotStore r → form_reason layout (S.view station.old).held ≡ Some r) }
+    ensures refused { IfErr result (λ e. Told (S.view station.old) → (r : Reason) → e ≡ HeaderFault.NotStore r →
+        form_reason layout (S.view station.old).held ≡ Some r) }
     // The reason of `NotStore` is one of the intent, on every station, and its place one in the intent, or the one behind it.
     ensures reason { IfErr result (λ e. (r : Reason) → e ≡ HeaderFault.NotStore r → (place : ℕ) × (r ≡ Reason.Intent place)) }
-    ensures within { IfErr result (λ e. (place : ℕ) → e ≡ HeaderFault.NotStore (Reason.Intent place) → (INTENT ≤ place) × (place ≤ INTENT + INTENT_SIZE)) }
+    ensures within { IfErr result (λ e. (place : ℕ) → e ≡ HeaderFault.NotStore (Reason.Intent place) → (INTENT ≤ place) ×
+        (place ≤ INTENT + INTENT_SIZE)) }
     // Reading changes nothing, and writes nothing.
     ensures steps { Steps Same (S.view station.old) (S.view station.new) }
     ensures written { (S.view station.new).travel.written ≡ (S.view station.old).travel.written }
@@ -55,7 +59,8 @@ pub fn read_intent<S: Station>(
         (S.view station.new).travel.read ≤ (S.view station.old).travel.read + 1 }
     ensures calls { (S.view station.new).calls ≤ (S.view station.old).calls + 2 }
     ensures no_calls { layout.version < INTENT_VERSION → (S.view station.new).calls ≡ (S.view station.old).calls }
-    ensures one_call { Told (S.view station.old) → has_intent layout (S.view station.old).held ≡ false → (S.view station.new).calls ≤ (S.view station.old).calls + 1 }
+    ensures one_call { Told (S.view station.old) → has_intent layout (S.view station.old).held ≡ false →
+        (S.view station.new).calls ≤ (S.view station.old).calls + 1 }
     // `Failed` comes only if the count of disk faults rose.
     ensures cause { IsErrOf result HeaderFault.Failed → Rose (S.view station.old).disk_faults (S.view station.new).disk_faults }
 {

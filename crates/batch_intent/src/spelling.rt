@@ -6,8 +6,8 @@ ghost use Rattle.station.specs.Bytes.{byte, InRange, SameBut};
 ghost use Rattle.batch_intent.specs.declared.places.TheConstants.{INTENT_SIZE};
 ghost use Rattle.key_slot.specs.declared.sizes.TheConstants.{MAX_KEY_LEN, MAX_VALUE_LEN};
 ghost use Rattle.map_model.specs.Store.{key_of};
-ghost use Rattle.map_model.specs.Items.{has_item};
-ghost use Rattle.batch_intent.specs.Items.{update_of};
+ghost use Rattle.map_model.specs.ItemWords.{has_item};
+ghost use Rattle.batch_intent.specs.ItemView.{update_of};
 ghost use Rattle.batch_intent.specs.Spelling as spelling;
 ghost use Rattle.batch_intent.specs.Spelling.{item_bytes, has_sizes, key_field, after_item, place_from};
 
@@ -99,7 +99,8 @@ pub(crate) fn item_at(bytes: &[u8; INTENT_SIZE], p: usize) -> Item
 // Writes the spelling of an item to a place.
 pub(crate) fn write_item(bytes: &mut [u8; INTENT_SIZE], at: usize, item: &Item)
     requires { at + length (item_bytes (update_of item.now)) ≤ INTENT_SIZE }
-    ensures written { (k : ℕ) → k < length (item_bytes (update_of item.now)) → byte bytes.new (at + k) ≡ byte (item_bytes (update_of item.now)) k }
+    ensures written { (k : ℕ) → k < length (item_bytes (update_of item.now)) →
+        byte bytes.new (at + k) ≡ byte (item_bytes (update_of item.now)) k }
     ensures rest { SameBut (InRange at (length (item_bytes (update_of item.now)))) bytes.old bytes.new }
 {
     match item {
@@ -113,7 +114,8 @@ fn write_fields(bytes: &mut [u8; INTENT_SIZE], at: usize, kind: u8, key: &[u8], 
     requires room { at + (3 + (length key.now + length value.now)) ≤ INTENT_SIZE }
     requires key { length key.now ≤ MAX_KEY_LEN }
     requires value { length value.now ≤ MAX_VALUE_LEN }
-    ensures written { (k : ℕ) → k < 3 + (length key.now + length value.now) → byte bytes.new (at + k) ≡ byte (kind ∷ length key.now ∷ length value.now ∷ (key.now ++ value.now)) k }
+    ensures written { (k : ℕ) → k < 3 + (length key.now + length value.now) →
+        byte bytes.new (at + k) ≡ byte (kind ∷ length key.now ∷ length value.now ∷ (key.now ++ value.now)) k }
     ensures rest { SameBut (InRange at (3 + (length key.now + length value.now))) bytes.old bytes.new }
 {
     let head = [kind, key.len() as u8, value.len() as u8];

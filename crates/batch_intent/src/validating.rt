@@ -3,11 +3,11 @@
 ghost use Rattle.std.specs.Prelude.{◌≡◌, ◌+◌, ◌<◌, ◌≤◌, [], ◌∷◌, ◌++◌, ◌&&◌, not, true, length, IfOk, IfErr, Some, None};
 ghost use Rattle.batch_intent.specs.declared.places.TheConstants.{INTENT_SIZE};
 ghost use Rattle.header_gate.specs.Places.{IsSlotFormat};
-ghost use Rattle.map_model.specs.Items.{has_item};
+ghost use Rattle.map_model.specs.ItemWords.{has_item};
 ghost use Rattle.batch_intent.specs.declared.intent.TheConstants.{MOST_ITEMS};
 ghost use Rattle.batch_intent.specs.Spelling as spelling;
 ghost use Rattle.batch_intent.specs.Spelling.{intent_bytes, key_field, after_item, items_in};
-ghost use Rattle.batch_intent.specs.Validating.{is_item, wrong_place};
+ghost use Rattle.batch_intent.specs.IntentReasons.{is_item, wrong_place};
 
 use crate::intent::{Intent, MOST_ITEMS};
 use crate::places::INTENT_SIZE;

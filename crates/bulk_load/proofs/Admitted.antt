@@ -3,12 +3,12 @@ use Rattle.std.proofs.Common.{inl, inr, ℕ, ◌<◌, ◌≤◌, List, length, s
 use Rattle.key_slot.specs.Record.{Record}
 use Rattle.line_source.specs.Lines.{raw_lines}
 use Rattle.line_source.specs.SourceView.{SourceView, SourceTold}
-use Rattle.line_source.specs.ReaderView.{ReaderView, rest}
+use Rattle.line_source.specs.LineReaderView.{ReaderView, rest}
 use Rattle.bulk_load.specs.declared.fault.LoadFault.{LoadFault}
 use Rattle.bulk_load.specs.declared.fault.LoadFault.TheVariants.{NotEmpty, Line, Full, Disk, Damaged, Script, Spent}
-use Rattle.bulk_load.specs.Faults.{IsLoadFault, IsOutsideFault}
+use Rattle.bulk_load.specs.LoadFaults.{IsLoadFault, IsOutsideFault}
 use Rattle.bulk_load.specs.LoadText.{IsLoadText}
-use Rattle.bulk_load.specs.Loading.{IsWrongLine}
+use Rattle.bulk_load.specs.LoadLines.{IsWrongLine}
 use Rattle.bulk_load.proofs.TextLaws.{text_read, no_wrong, no_full, same_end, true_false}
 
 pub admitted : (format most : ℕ) (r0 : ReaderView) (s0 s : SourceView) (rows : List Record) (fault : LoadFault) → IsLoadText format (raw_lines (rest r0 s0)) rows → length rows ≤ most → SourceTold s0 → length s0.left < r0.room → IsLoadFault format most 0 r0 s0 s fault → IsOutsideFault s0 s fault

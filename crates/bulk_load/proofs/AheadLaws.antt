@@ -14,21 +14,21 @@ use Rattle.key_slot.specs.Segment.{FitsSegment}
 use Rattle.key_slot.proofs.Truth.{first, second, less, is_less, passed as passed_true, passes}
 use Rattle.key_slot.proofs.Ordered.{greater_back, less_back}
 use Rattle.map_model.specs.Array.{Array, rows}
-use Rattle.map_model.specs.Reasons.{last_key, begins_above}
+use Rattle.map_model.specs.FileReasons.{last_key, begins_above}
 use Rattle.map_model.proofs.Ends.{joined, parted}
-use Rattle.range_scan.specs.Reading.{last_behind}
+use Rattle.range_scan.specs.RegionReading.{last_behind}
 use Rattle.range_scan.proofs.Amid.{drop_at}
 use Rattle.redo_journal.specs.declared.place.Place.{Place}
 use Rattle.range_scan.specs.Checking.{LieAbove}
 use Rattle.station.specs.View.{View}
 use Rattle.station.proofs.Composition.{no_steps, same_on, told_on}
 use Rattle.map_model.specs.Image.{array_of}
-use Rattle.range_scan.specs.Faults.{IsDamageAt}
+use Rattle.range_scan.specs.SegmentFaults.{IsDamageAt}
 use Rattle.range_scan.specs.Walk.{after_walk}
 use Rattle.range_scan.proofs.Walks.{walk_none, walk_on}
 use Rattle.resize_region.proofs.OldRowLaws.{failed_as, failed_is, never_failed, rose_on}
 use Rattle.segment.specs.declared.fault.StoreFault.{StoreFault}
-use Rattle.window_tally.specs.View.{TallyView}
+use Rattle.window_tally.specs.TallyView.{TallyView}
 use Rattle.bulk_load.specs.declared.ahead.Ahead.{Ahead}
 use Rattle.bulk_load.specs.Ahead.{IsAhead, IsAbove, ReadsAhead, ReadsLive, StopsAt, at_hand, begins_under, begins_with, left_in, over, passed, under, hand}
 use Rattle.bulk_load.specs.MergeText.{above}

@@ -11,9 +11,9 @@ use Rattle.std.proofs.lemmas.List.{length-append, append-nil, take_at}
 use Rattle.station.specs.View.{View}
 use Rattle.line_source.specs.Lines.{raw_lines}
 use Rattle.line_source.specs.SourceView.{SourceView, SourceTold}
-use Rattle.line_source.specs.ReaderView.{ReaderView, rest}
+use Rattle.line_source.specs.LineReaderView.{ReaderView, rest}
 use Rattle.key_slot.specs.Record.{Bytes, Record}
-use Rattle.map_model.specs.Reasons.{last_key, begins_above}
+use Rattle.map_model.specs.FileReasons.{last_key, begins_above}
 use Rattle.map_model.specs.Store.{Update, bind, unbind, key_of}
 use Rattle.redo_journal.specs.declared.place.Place.{Place}
 use Rattle.command_text.specs.Merge.{merge_line_raw}
@@ -23,12 +23,12 @@ use Rattle.bulk_load.specs.declared.fault.LoadFault.{LoadFault}
 use Rattle.bulk_load.specs.declared.fault.LoadFault.TheVariants as fault
 use Rattle.bulk_load.specs.declared.run.MergeRun.{MergeRun}
 use Rattle.bulk_load.specs.Amid.{HasEdits, IsCopyFault, MayStop, MergesAlone, StaysAtLine, goes_behind, HasKeys, IsDueAlone, IsOverAlone, IsOverKept, counts_in}
-use Rattle.bulk_load.specs.Faults.{IsFileFault}
+use Rattle.bulk_load.specs.LoadFaults.{IsFileFault}
 use Rattle.bulk_load.specs.MergeCauses.{IsLineRefused, IsTextFault, IsTextOver}
 use Rattle.bulk_load.specs.MergeText.{BeginsMerge, front_rows, mark_of, binds_in, bound_by, edit_of_line, edits_in, IsMergeText}
-use Rattle.bulk_load.specs.Merging.{reads, wrong, full, may_follow, after_edit, after_merge_line, merging}
+use Rattle.bulk_load.specs.MergeLines.{reads, wrong, full, may_follow, after_edit, after_merge_line, merging}
 use Rattle.bulk_load.specs.Resulting.{IsPackingFault}
-use Rattle.bulk_load.specs.Updates.{GivesUpdate, HasReadAlone, IsNextUpdate, CountsText, HasText}
+use Rattle.bulk_load.specs.MergeUpdates.{GivesUpdate, HasReadAlone, IsNextUpdate, CountsText, HasText}
 use Rattle.bulk_load.proofs.LineLaws.{both_true}
 use Rattle.bulk_load.proofs.MergeFaults.{begins, first_unmerged, unfinished}
 use Rattle.bulk_load.proofs.MergeReading.{follows, marks_more, reads_all, start, text_of, begun_of}

@@ -29,7 +29,7 @@ use Rattle.bulk_load.specs.Ahead.{ReadsLive, IsAbove, ReadsAhead, passed}
 use Rattle.bulk_load.specs.Amid.{Goes, IsAmid, Tries}
 use Rattle.bulk_load.specs.Loads.{most_records}
 use Rattle.bulk_load.specs.Packing.{room_in}
-use Rattle.bulk_load.specs.Reading.{IsTaking}
+use Rattle.bulk_load.specs.TextReading.{IsTaking}
 use Rattle.bulk_load.specs.Resulting.{PacksRow}
 use Rattle.bulk_load.proofs.AheadLaws.{above_passed}
 use Rattle.bulk_load.proofs.Calls.{fill_on, fill_same, none_spares, same_spares, spares_on}

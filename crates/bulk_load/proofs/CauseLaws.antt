@@ -2,13 +2,13 @@
 use Rattle.std.proofs.Common.{◌≡◌, inl, inr, ℕ, Ok, is_err, ap, IsErrOf}
 use Rattle.std.proofs.lemmas.Bool.{false≢true}
 use Rattle.line_source.specs.SourceView.{SourceView}
-use Rattle.line_source.specs.ReaderView.{ReaderView}
+use Rattle.line_source.specs.LineReaderView.{ReaderView}
 use Rattle.redo_journal.specs.Frames.{Batch}
 use Rattle.segment.specs.declared.fault.StoreFault.{StoreFault}
 use Rattle.segment.specs.declared.fault.StoreFault.TheVariants as store
 use Rattle.bulk_load.specs.declared.fault.LoadFault.{LoadFault}
 use Rattle.bulk_load.specs.declared.fault.LoadFault.TheVariants.{NotEmpty, Line, Full, Disk, Damaged, Script, Spent}
-use Rattle.bulk_load.specs.Faults.{IsReadingFault, IsShownBy, load_fault_of}
+use Rattle.bulk_load.specs.LoadFaults.{IsReadingFault, IsShownBy, load_fault_of}
 use Rattle.bulk_load.specs.Spreading.{HasCause}
 
 pub file_shown : (format n : ℕ) (b : Batch) (fault : StoreFault) → HasCause format n b fault → IsShownBy format b (load_fault_of fault)

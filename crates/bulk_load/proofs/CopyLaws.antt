@@ -10,19 +10,19 @@ use Rattle.std.proofs.lemmas.List.{length-append}
 use Rattle.station.specs.View.{View, Told, Rose}
 use Rattle.key_slot.specs.Record.{Bytes, Record}
 use Rattle.map_model.specs.Image.{array_of}
-use Rattle.range_scan.specs.Faults.{IsDamageAt}
+use Rattle.range_scan.specs.SegmentFaults.{IsDamageAt}
 use Rattle.redo_journal.specs.declared.place.Place.{Place}
 use Rattle.redo_journal.specs.Frames.{Batch}
 use Rattle.segment.specs.declared.fault.StoreFault.{StoreFault}
 use Rattle.segment.specs.declared.fault.StoreFault.TheVariants as store
-use Rattle.window_tally.specs.View.{TallyView}
+use Rattle.window_tally.specs.TallyView.{TallyView}
 use Rattle.bulk_load.specs.declared.ahead.Ahead.{Ahead}
 use Rattle.bulk_load.specs.declared.fault.LoadFault.{LoadFault}
 use Rattle.bulk_load.specs.declared.fault.LoadFault.TheVariants.{NotEmpty, Line, Full, Disk, Damaged, Script, Spent}
 use Rattle.bulk_load.specs.declared.run.MergeRun.{MergeRun}
 use Rattle.bulk_load.specs.Ahead.{ReadsAhead, begins_under, left_in, under, hand, read_by}
 use Rattle.bulk_load.specs.Amid.{CopiesUnder, IsCopyFault, IsLiveDamage, Tries, IsOverKept, Goes}
-use Rattle.bulk_load.specs.Faults.{load_fault_of}
+use Rattle.bulk_load.specs.LoadFaults.{load_fault_of}
 use Rattle.bulk_load.specs.Loads.{most_records}
 use Rattle.bulk_load.specs.Resulting.{IsPackingFault}
 use Rattle.bulk_load.proofs.AheadLaws.{under_hit}

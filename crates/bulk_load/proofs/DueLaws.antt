@@ -10,7 +10,7 @@ use Rattle.command_text.specs.Load.{load_line_raw}
 use Rattle.command_text.specs.declared.load.LoadLine.{LoadLine}
 use Rattle.command_text.specs.declared.load.LoadLine.TheVariants.{Nothing}
 use Rattle.bulk_load.specs.LoadText.{BeginsText, IsLoadText, IsOneTooMany, IsRefusedAt, MayGoOn, record_of_line, records_in}
-use Rattle.bulk_load.specs.Loading.{IsWrongLine, loading, reads}
+use Rattle.bulk_load.specs.LoadLines.{IsWrongLine, loading, reads}
 use Rattle.bulk_load.proofs.TextFaults.{begins, few_rows, first_wrong, stops_at, unfinished}
 use Rattle.bulk_load.proofs.TextLaws.{entries_of, reads_all, start, text_of}
 

@@ -2,11 +2,11 @@
 use Rattle.segment.specs.declared.fault.StoreFault.{StoreFault}
 use Rattle.segment.specs.declared.fault.StoreFault.TheVariants as store
 use Rattle.std.proofs.Common.{ℕ}
-use Rattle.line_source.specs.ReaderView.{ReaderView}
+use Rattle.line_source.specs.LineReaderView.{ReaderView}
 use Rattle.line_source.specs.SourceView.{SourceView}
 use Rattle.bulk_load.specs.declared.fault.LoadFault.{LoadFault}
 use Rattle.bulk_load.specs.declared.fault.LoadFault.TheVariants.{NotEmpty, Line, Full, Disk, Damaged, Script, Spent}
-use Rattle.bulk_load.specs.Faults.{IsFileFault, IsWritingFault, load_fault_of}
+use Rattle.bulk_load.specs.LoadFaults.{IsFileFault, IsWritingFault, load_fault_of}
 
 pub file_fault_is : (fault : StoreFault) → IsFileFault (load_fault_of fault)
 file_fault_is store.Failed = record {}

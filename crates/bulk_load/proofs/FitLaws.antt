@@ -13,7 +13,7 @@ use Rattle.command_text.specs.Load.{row_of, record_line, end_line, if_number, lo
 use Rattle.command_text.specs.declared.load.LoadLine.{LoadLine}
 use Rattle.command_text.specs.declared.load.LoadLine.TheVariants.{Nothing, Row, Bad}
 use Rattle.command_text.proofs.WordLaws.{AreWords, words_are}
-use Rattle.bulk_load.specs.Reading.{FitsLine}
+use Rattle.bulk_load.specs.TextReading.{FitsLine}
 
 module _ (f : ℕ) where
   either : (b : Bool) (x y : LoadLine) → FitsLine f x → FitsLine f y → FitsLine f (if b then x else y)

@@ -4,16 +4,16 @@ use Rattle.std.proofs.lemmas.Bool.Decides.{nat_tests}
 use Rattle.key_slot.specs.Record.{Record}
 use Rattle.key_slot.specs.Row.{record_of}
 use Rattle.key_slot.specs.declared.row.Row.{Row as RowData}
-use Rattle.map_model.specs.Reasons.{last_key, begins_above}
+use Rattle.map_model.specs.FileReasons.{last_key, begins_above}
 use Rattle.header_gate.specs.declared.layout.Layout.{Layout}
 use Rattle.redo_journal.specs.Frames.{Batch}
 use Rattle.command_text.specs.declared.load.LoadLine.TheVariants.{Nothing, Row, End, Bad}
 use Rattle.bulk_load.specs.declared.fault.LoadFault.{LoadFault}
 use Rattle.bulk_load.specs.declared.fault.LoadFault.TheVariants as fault
 use Rattle.bulk_load.specs.declared.packing.Taken.{Taken}
-use Rattle.bulk_load.specs.Faults.{IsLineFault}
+use Rattle.bulk_load.specs.LoadFaults.{IsLineFault}
 use Rattle.bulk_load.specs.Resulting.{IsPackingFault}
-use Rattle.bulk_load.specs.Loading.{reads, wrong, full, after_line}
+use Rattle.bulk_load.specs.LoadLines.{reads, wrong, full, after_line}
 use Rattle.bulk_load.specs.Loads.{most_records}
 use Rattle.bulk_load.specs.Packing.{IsTaken, goes_on_by}
 

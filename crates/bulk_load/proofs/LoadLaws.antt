@@ -20,14 +20,14 @@ use Rattle.map_model.proofs.Entries.{length-rows}
 use Rattle.map_model.proofs.Recovering.{represents_own}
 use Rattle.map_model.proofs.Spreading.{rows-spread_over, length-spread_over}
 use Rattle.redo_journal.specs.declared.place.Place.{Place}
-use Rattle.window_tally.specs.View.{TallyView}
-use Rattle.segment_frames.specs.Standing.{IsSettledAt, StandsFor}
+use Rattle.window_tally.specs.TallyView.{TallyView}
+use Rattle.segment_frames.specs.FrameStanding.{IsSettledAt, StandsFor}
 use Rattle.map_model.specs.Regions.{Spares, IsSparePlace, HoldsArray}
 use Rattle.resize_region.specs.Spare.{HasWritten}
 use Rattle.map_model.proofs.OtherRegion.{still_represents, layout_same, flipped_represents, flipped_array, flipped_bare, layout_new, tall}
 use Rattle.resize_region.proofs.SettledLaws.{settled_kept, bare_kept, gate_kept}
 use Rattle.line_source.specs.SourceView.{SourceView}
-use Rattle.line_source.specs.ReaderView.{ReaderView}
+use Rattle.line_source.specs.LineReaderView.{ReaderView}
 use Rattle.segment.specs.declared.fault.StoreFault.{StoreFault}
 use Rattle.segment.specs.declared.fault.StoreFault.TheVariants as store
 use Rattle.redo_journal.specs.Commit.{IsAt}
@@ -35,7 +35,7 @@ use Rattle.resize_region.proofs.FreeRuns.{free_same}
 use Rattle.resize_region.proofs.SourceLaws.{at_place}
 use Rattle.bulk_load.specs.declared.fault.LoadFault.{LoadFault}
 use Rattle.bulk_load.specs.declared.fault.LoadFault.TheVariants.{NotEmpty, Line, Full, Disk, Damaged, Script, Spent}
-use Rattle.bulk_load.specs.Faults.{IsReadingFault, IsWritingFault, IsLoadFault, IsNoDamage, load_fault_of}
+use Rattle.bulk_load.specs.LoadFaults.{IsReadingFault, IsWritingFault, IsLoadFault, IsNoDamage, load_fault_of}
 use Rattle.bulk_load.specs.Packing.{AreRows}
 use Rattle.bulk_load.specs.Loads.{Loads, IsLeastHeight}
 

@@ -3,14 +3,14 @@ use Rattle.std.proofs.Common.{◌≡◌, inl, inr, ℕ, ◌<◌, ◌≤◌, true
 use Rattle.std.specs.FinMap.{entries, len}
 use Rattle.line_source.specs.Lines.{raw_lines}
 use Rattle.line_source.specs.SourceView.{SourceView, SourceTold}
-use Rattle.line_source.specs.ReaderView.{ReaderView, rest}
+use Rattle.line_source.specs.LineReaderView.{ReaderView, rest}
 use Rattle.map_model.specs.Store.{Map, Update}
 use Rattle.bulk_load.specs.declared.fault.LoadFault.{LoadFault}
 use Rattle.bulk_load.specs.declared.fault.LoadFault.TheVariants.{NotEmpty, Line, Full, Disk, Damaged, Script, Spent}
-use Rattle.bulk_load.specs.Faults.{IsOutsideFault}
+use Rattle.bulk_load.specs.LoadFaults.{IsOutsideFault}
 use Rattle.bulk_load.specs.MergeCauses.{IsUpdatingFault}
 use Rattle.bulk_load.specs.MergeText.{IsMergeText, map_after_edits}
-use Rattle.bulk_load.specs.Merging.{IsOverfull, IsUnmergedLine}
+use Rattle.bulk_load.specs.MergeLines.{IsOverfull, IsUnmergedLine}
 use Rattle.bulk_load.proofs.MergeFaults.{map_read}
 use Rattle.bulk_load.proofs.MergeReading.{full_no_wrong, no_full, no_wrong, same_edits, same_end}
 

@@ -11,7 +11,7 @@ use Rattle.command_text.specs.Merge.{merge_line_raw}
 use Rattle.command_text.specs.declared.merge.MergeLine.{MergeLine}
 use Rattle.command_text.specs.declared.merge.MergeLine.TheVariants.{Nothing, Bind, Remove, End, Bad}
 use Rattle.bulk_load.specs.MergeText.{edit_of_line, edits_in, IsEdit, AreAscending, IsMergeText, BeginsMerge, IsFirstUnmerged, IsMergeUnfinished, IsMergedFull, front_rows, rest_rows, map_after_edits}
-use Rattle.bulk_load.specs.Merging.{Merging, reads, wrong, full, may_follow, after_merge_line, merge_step, merge_from, merging, IsOverfull}
+use Rattle.bulk_load.specs.MergeLines.{Merging, reads, wrong, full, may_follow, after_merge_line, merge_step, merge_from, merging, IsOverfull}
 use Rattle.bulk_load.proofs.MergeLaws.{merged_are}
 use Rattle.bulk_load.proofs.MergeLines.{end_read}
 use Rattle.bulk_load.proofs.MergeReading.{no_wrong, no_full, full_no_wrong, same_edits, same_end, number_of, stays_wrong, stays_full, merging_append, AreEdits, Reads, reads_all, start, taken, ended_by, begun_of, text_read}

@@ -13,7 +13,7 @@ use Rattle.key_slot.specs.Record.{Bytes, Record, key_cmp, IsAscending}
 use Rattle.key_slot.proofs.Truth.{both, first, second, less, is_less}
 use Rattle.key_slot.proofs.Ordered.{greater_back, less_back, is_sorted-append, below_all_less, without_none}
 use Rattle.map_model.specs.ArrayUpdates.{edited}
-use Rattle.map_model.specs.Reasons.{last_key, begins_above}
+use Rattle.map_model.specs.FileReasons.{last_key, begins_above}
 use Rattle.map_model.specs.Store.{Map, Update, bind, unbind, key_of}
 use Rattle.map_model.proofs.Ends.{joined}
 use Rattle.map_model.proofs.Entries.{put-rows, without-rows}

@@ -6,14 +6,14 @@ use Rattle.std.proofs.lemmas.Bool.Decides.{nat_tests}
 use Rattle.std.proofs.lemmas.List.{append-nil, length-append, map-append}
 use Rattle.std.proofs.lemmas.List.Elements.{All-append, filter_map-append}
 use Rattle.key_slot.specs.Record.{Bytes, Record, IsAscending}
-use Rattle.map_model.specs.Reasons.{last_key, begins_above}
+use Rattle.map_model.specs.FileReasons.{last_key, begins_above}
 use Rattle.map_model.specs.Store.{Update, bind, unbind}
 use Rattle.map_model.proofs.Ends.{joined, parted}
 use Rattle.command_text.specs.Merge.{merge_line_raw}
 use Rattle.command_text.specs.declared.merge.MergeLine.{MergeLine}
 use Rattle.command_text.specs.declared.merge.MergeLine.TheVariants.{Nothing, Bind, Remove, End, Bad}
 use Rattle.bulk_load.specs.MergeText.{edit_of_line, edits_in, IsEdit, mark_of, AreAscending, IsMergeText, front_rows}
-use Rattle.bulk_load.specs.Merging.{Merging, reads, wrong, full, may_follow, after_edit, after_merge_line, merge_step, merge_from, merging}
+use Rattle.bulk_load.specs.MergeLines.{Merging, reads, wrong, full, may_follow, after_edit, after_merge_line, merge_step, merge_from, merging}
 use Rattle.bulk_load.proofs.MergeLaws.{front_longer}
 
 -- Answers apart.

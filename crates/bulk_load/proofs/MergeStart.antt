@@ -4,17 +4,17 @@ use Rattle.std.proofs.Common.{◌≡◌, inl, inr, ℕ, ◌+◌, ◌^◌, ◌≤
 use Rattle.station.specs.View.{View, Told, EachHeld}
 use Rattle.header_gate.specs.Places.{IsLayout, height_limit}
 use Rattle.key_slot.specs.Record.{Record}
-use Rattle.line_source.specs.ReaderView.{ReaderView}
+use Rattle.line_source.specs.LineReaderView.{ReaderView}
 use Rattle.line_source.specs.SourceView.{SourceView}
 use Rattle.map_model.specs.Array.{Array, rows}
 use Rattle.map_model.specs.Image.{array_of, height_of, map_of}
-use Rattle.map_model.specs.Reasons.{begins_above}
+use Rattle.map_model.specs.FileReasons.{begins_above}
 use Rattle.map_model.proofs.Reasonings.{own_rows}
 use Rattle.range_scan.specs.Checking.{LieAbove}
 use Rattle.redo_journal.specs.declared.place.Place.{Place}
 use Rattle.redo_journal.specs.Frames.{Batch}
 use Rattle.resize_region.specs.Shares.{StandsBare}
-use Rattle.window_tally.specs.View.{TallyView}
+use Rattle.window_tally.specs.TallyView.{TallyView}
 use Rattle.bulk_load.specs.declared.fault.LoadFault.{LoadFault}
 use Rattle.bulk_load.specs.declared.fault.LoadFault.TheVariants.{NotEmpty, Line, Full, Disk, Damaged, Script, Spent}
 use Rattle.bulk_load.specs.declared.packing.Taken.{Taken}
@@ -22,13 +22,13 @@ use Rattle.bulk_load.specs.declared.run.Found.{Found}
 use Rattle.bulk_load.specs.declared.run.MergeRun.{MergeRun}
 use Rattle.bulk_load.specs.Ahead.{IsAbove, IsAhead, left_in}
 use Rattle.bulk_load.specs.Amid.{Goes, HasMerged, IsBetween, IsLiveDamage, Tries, counts_in, HasEdits}
-use Rattle.bulk_load.specs.Faults.{IsFileFault, IsNoDamage, IsShownBy}
+use Rattle.bulk_load.specs.LoadFaults.{IsFileFault, IsNoDamage, IsShownBy}
 use Rattle.bulk_load.specs.Loads.{most_records}
 use Rattle.bulk_load.specs.MergeCauses.{IsMergeDamage, IsMergeFault, IsLastSeen}
 use Rattle.bulk_load.specs.Packing.{CanFill, HasPacked, IsTaken, WritesRuns, room_in}
-use Rattle.bulk_load.specs.Reading.{IsTaking}
+use Rattle.bulk_load.specs.TextReading.{IsTaking}
 use Rattle.bulk_load.specs.Spreading.{load_calls, used_by}
-use Rattle.bulk_load.specs.Updates.{HasAll, IsMergeOut}
+use Rattle.bulk_load.specs.MergeUpdates.{HasAll, IsMergeOut}
 use Rattle.bulk_load.proofs.PackLaws.{room_some, runs_parts}
 
 -- Before the first line.

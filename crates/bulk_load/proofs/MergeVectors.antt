@@ -7,7 +7,7 @@ use Rattle.line_source.specs.Lines.{raw_lines}
 use Rattle.map_model.specs.Store.{bind, unbind}
 use Rattle.command_text.specs.Number.{number_of}
 use Rattle.bulk_load.specs.MergeText.{front_rows, rest_rows, merged_rows}
-use Rattle.bulk_load.specs.Merging.{merging, reads, wrong, full, IsUnmergedLine}
+use Rattle.bulk_load.specs.MergeLines.{merging, reads, wrong, full, IsUnmergedLine}
 
 -- a record is added, one replaced, one removed, and one isn't there
 four_edits : merged_rows (bind (codes "a") [] ∷ bind (codes "b") (codes "9") ∷ unbind (codes "c") ∷ unbind (codes "d") ∷ []) ((codes "b", codes "1") ∷ (codes "c", codes "2") ∷ (codes "e", codes "3") ∷ [])

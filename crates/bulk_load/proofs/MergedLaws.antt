@@ -10,8 +10,8 @@ use Rattle.station.specs.View.{View, Told}
 use Rattle.key_slot.specs.Record.{Bytes, Record, key_cmp, IsAscending}
 use Rattle.map_model.specs.Array.{Array}
 use Rattle.map_model.specs.Image.{array_of}
-use Rattle.map_model.specs.Items.{effect_count}
-use Rattle.map_model.specs.Reasons.{last_key, begins_above}
+use Rattle.map_model.specs.ItemWords.{effect_count}
+use Rattle.map_model.specs.FileReasons.{last_key, begins_above}
 use Rattle.map_model.specs.Store.{Map, Update, bind, unbind, key_of, effect_by}
 use Rattle.map_model.proofs.Ends.{joined}
 use Rattle.redo_journal.specs.declared.place.Place.{Place}
@@ -25,7 +25,7 @@ use Rattle.bulk_load.specs.Ahead.{begins_under, begins_with, left_in, over, unde
 use Rattle.bulk_load.specs.Amid.{HasMerged, IsCopyFault, IsUpdateFault, MayStop, counts_in, goes_behind}
 use Rattle.bulk_load.specs.Loads.{most_records}
 use Rattle.bulk_load.specs.MergeText.{above, below, bound_by, front_rows, mark_of, rest_rows}
-use Rattle.bulk_load.specs.Merging.{reads, wrong, full, may_follow, after_edit, after_merge_line}
+use Rattle.bulk_load.specs.MergeLines.{reads, wrong, full, may_follow, after_edit, after_merge_line}
 use Rattle.bulk_load.specs.Packing.{IsTaken, HasPacked}
 use Rattle.bulk_load.specs.Resulting.{IsPackingFault}
 use Rattle.key_slot.proofs.Truth.{less, passes}

@@ -5,7 +5,7 @@ use Rattle.header_gate.specs.declared.layout.Layout.{Layout}
 use Rattle.density_rule.proofs.Quotients.{div_rises}
 use Rattle.key_slot.specs.declared.sizes.TheConstants.{SEGMENT_SLOTS}
 use Rattle.key_slot.proofs.SegmentLaws.{times_up}
-use Rattle.segment_frames.specs.Parts.{GoesInParts, parts}
+use Rattle.segment_frames.specs.SegmentParts.{GoesInParts, parts}
 use Rattle.bulk_load.specs.Loads.{most_records}
 use Rattle.bulk_load.specs.Packing.{HasPlace, WritesRuns, room_in}
 use Rattle.bulk_load.specs.Spreading.{load_calls, used_by}

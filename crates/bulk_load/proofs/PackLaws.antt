@@ -13,13 +13,13 @@ use Rattle.std.proofs.Math.Nat.{pow-le-pow_right, le-div_iff_mul-le}
 use Rattle.redo_journal.specs.Frames.{Batch}
 use Rattle.resize_region.specs.Shares.{places}
 use Rattle.map_model.specs.Array.{Array, rows}
-use Rattle.map_model.specs.Reasons.{last_key, begins_above}
+use Rattle.map_model.specs.FileReasons.{last_key, begins_above}
 use Rattle.map_model.proofs.Ends.{joined}
 use Rattle.map_model.proofs.Replacing.{segments_fit}
 use Rattle.segment_frames.proofs.Rows.{records-append}
 use Rattle.bulk_load.specs.declared.room.TheConstants.{MOST_FRAMES}
 use Rattle.bulk_load.specs.Packing.{room_in, AreRows, packed_at, WritesRuns}
-use Rattle.segment_frames.specs.Parts.{InParts}
+use Rattle.segment_frames.specs.SegmentParts.{InParts}
 
 -- the places that are used are there
 pub room_fits : (l : Layout) (b : Batch) → IsLayout l → b.journal ≡ l.journal → room_in l ≤ places l.format b

@@ -18,9 +18,9 @@ use Rattle.redo_journal.specs.declared.place.Place.{Place}
 use Rattle.segment.specs.declared.fault.Damage.{Damage}
 use Rattle.segment.specs.declared.fault.StoreFault.{StoreFault}
 use Rattle.segment.specs.declared.fault.StoreFault.TheVariants.{Damaged, Failed}
-use Rattle.segment_frames.specs.Held.{grouped, HoldsRows}
+use Rattle.segment_frames.specs.HeldRecords.{grouped, HoldsRows}
 use Rattle.segment_frames.specs.Lists.{segments_in, held_lists, page_at, rows_at}
-use Rattle.segment_frames.specs.Reading.{IsPageFault}
+use Rattle.segment_frames.specs.FrameReading.{IsPageFault}
 use Rattle.segment_frames.proofs.Grouped.{grouped_same}
 use Rattle.segment_frames.proofs.LoadLaws.{good_page}
 use Rattle.segment_frames.proofs.Moves.{set_from, set_to, set_other}

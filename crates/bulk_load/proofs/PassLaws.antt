@@ -8,7 +8,7 @@ use Rattle.key_slot.specs.Record.{Bytes, Record, key_cmp, IsAscending}
 use Rattle.key_slot.proofs.Truth.{equal, passes}
 use Rattle.key_slot.proofs.Ordered.{less_back}
 use Rattle.map_model.specs.Array.{Array}
-use Rattle.map_model.specs.Reasons.{begins_above}
+use Rattle.map_model.specs.FileReasons.{begins_above}
 use Rattle.range_scan.proofs.Amid.{drop_at}
 use Rattle.redo_journal.specs.declared.place.Place.{Place}
 use Rattle.bulk_load.specs.declared.ahead.Ahead.{Ahead}

@@ -6,15 +6,15 @@ use Rattle.line_source.specs.Lines.{raw_lines, line_limit}
 use Rattle.line_source.specs.SourceView.{SourceView, SourceTold}
 use Rattle.line_source.specs.LineStep.{Takes}
 use Rattle.line_source.specs.Progress.{HasGiven}
-use Rattle.line_source.specs.ReaderView.{ReaderView, rest}
+use Rattle.line_source.specs.LineReaderView.{ReaderView, rest}
 use Rattle.line_source.proofs.Reading.{took_on}
 use Rattle.key_slot.specs.Record.{Record}
 use Rattle.command_text.specs.Load.{load_line, load_line_raw}
 use Rattle.command_text.specs.declared.load.LoadLine.{LoadLine}
 use Rattle.command_text.specs.declared.load.LoadLine.TheVariants.{Bad}
-use Rattle.bulk_load.specs.Loading.{Loading, TakesAtMost, reads, wrong, full, after_line, load_step, load_from, loading}
-use Rattle.bulk_load.specs.Faults.{IsLineFault, IsReadingFault}
-use Rattle.bulk_load.specs.Reading.{IsNextEntry, GivesEntry}
+use Rattle.bulk_load.specs.LoadLines.{Loading, TakesAtMost, reads, wrong, full, after_line, load_step, load_from, loading}
+use Rattle.bulk_load.specs.LoadFaults.{IsLineFault, IsReadingFault}
+use Rattle.bulk_load.specs.TextReading.{IsNextEntry, GivesEntry}
 use Rattle.bulk_load.specs.declared.fault.LoadFault.{LoadFault}
 use Rattle.bulk_load.specs.declared.fault.LoadFault.TheVariants.{NotEmpty, Line, Full, Disk, Damaged, Script, Spent}
 

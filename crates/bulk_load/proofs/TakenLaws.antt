@@ -5,7 +5,7 @@ use Rattle.std.proofs.lemmas.List.{length-append}
 use Rattle.key_slot.specs.Record.{Record, is_record}
 use Rattle.key_slot.specs.Segment.{FitsSegment, IsSegment}
 use Rattle.key_slot.specs.declared.sizes.TheConstants.{SEGMENT_SLOTS}
-use Rattle.map_model.specs.Reasons.{begins_above}
+use Rattle.map_model.specs.FileReasons.{begins_above}
 use Rattle.header_gate.specs.declared.layout.Layout.{Layout}
 use Rattle.redo_journal.specs.declared.place.Place.{Place}
 use Rattle.redo_journal.specs.Frames.{Batch}

@@ -15,7 +15,7 @@ use Rattle.bulk_load.specs.declared.run.MergeRun.{MergeRun}
 use Rattle.bulk_load.specs.Amid.{IsAmid, IsBetween, TakesUpdate, Tries, HasKeys}
 use Rattle.bulk_load.specs.Loads.{most_records}
 use Rattle.bulk_load.specs.MergeText.{front_rows}
-use Rattle.bulk_load.specs.Merging.{reads, wrong, after_merge_line}
+use Rattle.bulk_load.specs.MergeLines.{reads, wrong, after_merge_line}
 use Rattle.bulk_load.proofs.AmidLaws.{goes_none, goes_tries, taking_inside}
 use Rattle.bulk_load.proofs.CopyLaws.{disk_is, never_disk}
 use Rattle.bulk_load.proofs.LineLaws.{both_true, ended_taken}

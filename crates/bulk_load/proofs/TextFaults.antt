@@ -10,7 +10,7 @@ use Rattle.line_source.proofs.LineLaws.{raw_lines-line}
 use Rattle.key_slot.specs.Record.{Record, IsAscending}
 use Rattle.key_slot.specs.Row.{record_of}
 use Rattle.key_slot.specs.declared.row.Row.{Row as RowData}
-use Rattle.map_model.specs.Reasons.{last_key, begins_above}
+use Rattle.map_model.specs.FileReasons.{last_key, begins_above}
 use Rattle.command_text.specs.Answers.{range_lines, row_line}
 use Rattle.command_text.specs.Reply.{reply_text, reply_body}
 use Rattle.command_text.specs.declared.reply.Reply.TheVariants as reply
@@ -21,7 +21,7 @@ use Rattle.command_text.specs.declared.load.LoadLine.{LoadLine}
 use Rattle.command_text.specs.declared.load.LoadLine.TheVariants.{Nothing, Row, End, Bad}
 use Rattle.command_text.proofs.LoadLaws.{dump_reads_back}
 use Rattle.bulk_load.specs.LoadText.{record_of_line, records_in, IsEntry, IsLoadText, BeginsText, IsFirstWrong, IsUnfinished, IsOneTooMany}
-use Rattle.bulk_load.specs.Loading.{Loading, reads, wrong, full, after_line, load_step, load_from, loading}
+use Rattle.bulk_load.specs.LoadLines.{Loading, reads, wrong, full, after_line, load_step, load_from, loading}
 use Rattle.bulk_load.proofs.ReadLaws.{stays_wrong, stays_full, loading_append}
 use Rattle.bulk_load.proofs.TextLaws.{no_wrong, no_full, full_no_wrong, true_false, same_rows, same_end, number_of, AreEntries, Reads, none, start, reads_all, taken, ended_by, entries_of, text_read}
 

@@ -7,13 +7,13 @@ use Rattle.std.proofs.lemmas.List.Elements.{All-append, filter_map-append}
 use Rattle.key_slot.specs.Record.{Bytes, Record, IsAscending}
 use Rattle.key_slot.specs.Row.{record_of}
 use Rattle.key_slot.specs.declared.row.Row.{Row as RowData}
-use Rattle.map_model.specs.Reasons.{last_key, begins_above}
+use Rattle.map_model.specs.FileReasons.{last_key, begins_above}
 use Rattle.map_model.proofs.Ends.{joined, parted}
 use Rattle.command_text.specs.Load.{load_line_raw}
 use Rattle.command_text.specs.declared.load.LoadLine.{LoadLine}
 use Rattle.command_text.specs.declared.load.LoadLine.TheVariants.{Nothing, Row, End, Bad}
 use Rattle.bulk_load.specs.LoadText.{record_of_line, records_in, IsEntry, IsLoadText}
-use Rattle.bulk_load.specs.Loading.{Loading, reads, wrong, full, after_line, load_step, load_from, loading}
+use Rattle.bulk_load.specs.LoadLines.{Loading, reads, wrong, full, after_line, load_step, load_from, loading}
 use Rattle.bulk_load.proofs.ReadLaws.{stays_wrong, stays_full, loading_append}
 
 -- Answers apart.

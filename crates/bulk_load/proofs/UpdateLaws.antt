@@ -9,7 +9,7 @@ use Rattle.std.specs.FinMap.Entries.{below_all, find-where_key}
 use Rattle.key_slot.specs.Record.{Bytes, Record, key_cmp, IsAscending}
 use Rattle.key_slot.proofs.Truth.{first, second, less}
 use Rattle.key_slot.proofs.Ordered.{greater_back, less_back, below_all_less}
-use Rattle.map_model.specs.Items.{ItemCounts, effect_count}
+use Rattle.map_model.specs.ItemWords.{ItemCounts, effect_count}
 use Rattle.map_model.specs.Store.{Map, Update, key_of, effect_by}
 use Rattle.map_model.proofs.Entries.{find-rows}
 use Rattle.bulk_load.specs.Ahead.{begins_under, begins_with, over}

@@ -10,14 +10,14 @@ use Rattle.station.specs.View.{View, Told}
 use Rattle.percent_encoding.specs.Percent.{percent_decode}
 use Rattle.line_source.specs.Lines.{raw_lines, line_limit}
 use Rattle.line_source.specs.SourceView.{SourceView, SourceTold}
-use Rattle.line_source.specs.ReaderView.{ReaderView, rest}
+use Rattle.line_source.specs.LineReaderView.{ReaderView, rest}
 use Rattle.key_slot.specs.Format.{key_room}
 use Rattle.key_slot.specs.Record.{Record}
 use Rattle.map_model.specs.Image.{map_of}
 use Rattle.map_model.specs.Store.{Map, Update}
 use Rattle.redo_journal.specs.declared.place.Place.{Place}
 use Rattle.redo_journal.specs.Frames.{Batch}
-use Rattle.window_tally.specs.View.{TallyView}
+use Rattle.window_tally.specs.TallyView.{TallyView}
 use Rattle.command_text.specs.Words.{words}
 use Rattle.command_text.specs.Load.{load_named}
 use Rattle.command_text.specs.Merge.{merge_line, merge_line_of, merge_line_raw, merge_words, removal_line}
@@ -32,9 +32,9 @@ use Rattle.bulk_load.specs.declared.run.MergeRun.{MergeRun}
 use Rattle.bulk_load.specs.Amid.{FitsMergeLine, IsCopyFault, IsLiveDamage, IsUpdateFault, MayStop}
 use Rattle.bulk_load.specs.Loads.{most_records}
 use Rattle.bulk_load.specs.MergeCauses.{IsMergeFault}
-use Rattle.bulk_load.specs.Merging.{Merging, reads, wrong, full, after_merge_line, merge_from, merging}
-use Rattle.bulk_load.specs.Reading.{FitsLine}
-use Rattle.bulk_load.specs.Updates.{GivesUpdate, HasRead, HasReadLines, IsNextUpdate}
+use Rattle.bulk_load.specs.MergeLines.{Merging, reads, wrong, full, after_merge_line, merge_from, merging}
+use Rattle.bulk_load.specs.TextReading.{FitsLine}
+use Rattle.bulk_load.specs.MergeUpdates.{GivesUpdate, HasRead, HasReadLines, IsNextUpdate}
 use Rattle.bulk_load.proofs.FitLaws.{words_fit}
 use Rattle.bulk_load.proofs.MergeFaults.{size_after}
 use Rattle.bulk_load.proofs.MergeReading.{merging_append, stays_full, stays_wrong}

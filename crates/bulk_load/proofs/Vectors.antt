@@ -8,7 +8,7 @@ use Rattle.line_source.specs.Lines.{raw_lines}
 use Rattle.command_text.specs.Number.{number_of}
 use Rattle.density_rule.specs.Bounds.{upper_of}
 use Rattle.bulk_load.specs.Loads.{IsLeastHeight}
-use Rattle.bulk_load.specs.Loading.{loading, reads, wrong, full, IsWrongLine}
+use Rattle.bulk_load.specs.LoadLines.{loading, reads, wrong, full, IsWrongLine}
 
 -- two records, and none
 two_records : loading 1 64 (raw_lines (codes "record a 1\nrecord b\nend 2\n")) ≡ reads ((codes "a", codes "1") ∷ (codes "b", []) ∷ []) true

@@ -11,10 +11,10 @@ use Rattle.key_slot.specs.Record.{Bytes, Record, key_cmp}
 use Rattle.key_slot.specs.Segment.{FitsSegment}
 use Rattle.map_model.specs.Array.{Array, rows}
 use Rattle.map_model.specs.Image.{array_of}
-use Rattle.map_model.specs.Reasons.{begins_above}
+use Rattle.map_model.specs.FileReasons.{begins_above}
 use Rattle.range_scan.specs.Checking.{LieAbove}
-use Rattle.range_scan.specs.Faults.{IsDamageAt}
-use Rattle.range_scan.specs.Reading.{last_behind}
+use Rattle.range_scan.specs.SegmentFaults.{IsDamageAt}
+use Rattle.range_scan.specs.RegionReading.{last_behind}
 use Rattle.range_scan.specs.Walk.{after_walk}
 use Rattle.redo_journal.specs.declared.place.Place.{Place}
 use Rattle.resize_region.specs.Shares.{StandsBare}

@@ -9,16 +9,16 @@ use Rattle.key_slot.specs.Record.{Bytes, Record, is_record}
 use Rattle.key_slot.specs.Row.{record_of}
 use Rattle.key_slot.specs.declared.sizes.TheConstants.{SEGMENT_SLOTS}
 use Rattle.map_model.specs.Image.{array_of}
-use Rattle.map_model.specs.Items.{ItemCounts}
-use Rattle.map_model.specs.Reasons.{last_key, begins_above}
+use Rattle.map_model.specs.ItemWords.{ItemCounts}
+use Rattle.map_model.specs.FileReasons.{last_key, begins_above}
 use Rattle.map_model.specs.Regions.{Spares}
 use Rattle.map_model.specs.Store.{Map, Update}
-use Rattle.range_scan.specs.Faults.{IsDamageAt}
+use Rattle.range_scan.specs.SegmentFaults.{IsDamageAt}
 use Rattle.redo_journal.specs.declared.place.Place.{Place}
 use Rattle.redo_journal.specs.Frames.{Batch}
 use Rattle.resize_region.specs.Source.{Walks}
 use Rattle.segment.specs.declared.fault.StoreFault.TheVariants as store
-use Rattle.window_tally.specs.View.{TallyView}
+use Rattle.window_tally.specs.TallyView.{TallyView}
 use Rattle.command_text.specs.declared.merge.MergeLine.{MergeLine}
 use Rattle.command_text.specs.declared.merge.MergeLine.TheVariants.{Nothing, Bind, Remove, End, Bad}
 use Rattle.bulk_load.specs.declared.fault.LoadFault.{LoadFault}
@@ -28,9 +28,9 @@ use Rattle.bulk_load.specs.declared.run.MergeRun.{MergeRun}
 use Rattle.bulk_load.specs.Ahead.{ReadsLive, IsAbove, StopsAt, left_in, begins_with, under, over, hand, read_by}
 use Rattle.bulk_load.specs.Loads.{most_records}
 use Rattle.bulk_load.specs.MergeText.{AreAscending, count_edits, front_rows, mark_of, rest_rows, above, binds_in}
-use Rattle.bulk_load.specs.Merging.{Merging, reads, wrong, full, after_merge_line}
+use Rattle.bulk_load.specs.MergeLines.{Merging, reads, wrong, full, after_merge_line}
 use Rattle.bulk_load.specs.Packing.{CanFill, IsTaken, HasPacked, room_in}
-use Rattle.bulk_load.specs.Reading.{IsTaking}
+use Rattle.bulk_load.specs.TextReading.{IsTaking}
 
 -- what updates found, as it is counted
 abbrev pub counts_in : Found → ItemCounts

@@ -8,7 +8,7 @@ use Rattle.density_rule.specs.Bounds.{upper_of}
 use Rattle.header_gate.specs.declared.layout.Layout.{Layout}
 use Rattle.header_gate.specs.Header.{gate, layout_in}
 use Rattle.header_gate.specs.Places.{height_limit}
-use Rattle.line_source.specs.ReaderView.{ReaderView}
+use Rattle.line_source.specs.LineReaderView.{ReaderView}
 use Rattle.line_source.specs.SourceView.{SourceView}
 use Rattle.map_model.specs.Array.{spread_over}
 use Rattle.map_model.specs.Holding.{IsBalancedArray}
@@ -17,8 +17,8 @@ use Rattle.map_model.specs.Store.{Map}
 use Rattle.redo_journal.specs.declared.place.Place.{Place}
 use Rattle.resize_region.specs.Spare.{HasWritten}
 use Rattle.map_model.specs.Regions.{IsSparePlace}
-use Rattle.segment_frames.specs.Standing.{IsSettledAt}
-use Rattle.bulk_load.specs.Loading.{IsTextOf}
+use Rattle.segment_frames.specs.FrameStanding.{IsSettledAt}
+use Rattle.bulk_load.specs.LoadLines.{IsTextOf}
 use Rattle.bulk_load.specs.Packing.{AreRows}
 
 -- the most records that a store in a file may hold

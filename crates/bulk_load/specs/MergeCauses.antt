@@ -7,18 +7,18 @@ use Rattle.std.specs.FinMap.{entries}
 use Rattle.station.specs.View.{View}
 use Rattle.line_source.specs.Lines.{raw_lines}
 use Rattle.line_source.specs.Progress.{IsCutShort}
-use Rattle.line_source.specs.ReaderView.{ReaderView, rest}
+use Rattle.line_source.specs.LineReaderView.{ReaderView, rest}
 use Rattle.line_source.specs.SourceView.{SourceView, SourceTold, SourceRose}
 use Rattle.map_model.specs.Image.{map_of}
 use Rattle.map_model.specs.Store.{Map, Update}
-use Rattle.range_scan.specs.Faults.{IsDamageAt}
+use Rattle.range_scan.specs.SegmentFaults.{IsDamageAt}
 use Rattle.redo_journal.specs.Frames.{Batch}
 use Rattle.segment.specs.declared.fault.StoreFault.TheVariants as store
-use Rattle.window_tally.specs.View.{TallyView}
+use Rattle.window_tally.specs.TallyView.{TallyView}
 use Rattle.bulk_load.specs.declared.fault.LoadFault.{LoadFault}
 use Rattle.bulk_load.specs.declared.fault.LoadFault.TheVariants.{NotEmpty, Line, Full, Disk, Damaged, Script, Spent}
 use Rattle.bulk_load.specs.MergeText.{BeginsMerge, IsFirstUnmerged, IsMergeUnfinished, binds_in, edits_in}
-use Rattle.bulk_load.specs.Merging.{merging, reads, IsUnmergedLine, IsOverfull}
+use Rattle.bulk_load.specs.MergeLines.{merging, reads, IsUnmergedLine, IsOverfull}
 use Rattle.bulk_load.specs.Spreading.{ShowsPacked}
 
 -- the complete lines among the bytes that were taken make no refusal due beside the records of a map

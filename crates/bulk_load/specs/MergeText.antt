@@ -6,7 +6,7 @@ use Rattle.std.specs.Ordering.{is_lt}
 use Rattle.std.specs.FinMap.{entries, insert, remove, contains_key, len}
 use Rattle.std.specs.FinMap.Entries.{where_key}
 use Rattle.key_slot.specs.Record.{Bytes, Record, key_cmp, IsAscending}
-use Rattle.map_model.specs.Items.{ItemCounts, effect_count, no_items}
+use Rattle.map_model.specs.ItemWords.{ItemCounts, effect_count, no_items}
 use Rattle.map_model.specs.Store.{Map, Update, bind, unbind, key_of, effect_by}
 use Rattle.command_text.specs.Merge.{merge_line_raw}
 use Rattle.command_text.specs.declared.merge.MergeLine.{MergeLine}

@@ -8,7 +8,7 @@ use Rattle.header_gate.specs.Places.{IsLayout, file_length}
 use Rattle.key_slot.specs.Record.{Record, is_record, IsAscending}
 use Rattle.key_slot.specs.Segment.{IsSegment}
 use Rattle.key_slot.specs.declared.sizes.TheConstants.{SEGMENT_SLOTS}
-use Rattle.map_model.specs.Reasons.{last_key, begins_above}
+use Rattle.map_model.specs.FileReasons.{last_key, begins_above}
 use Rattle.redo_journal.specs.Commit.{IsAt}
 use Rattle.redo_journal.specs.declared.place.Place.{Place}
 use Rattle.redo_journal.specs.Frames.{Batch}

@@ -13,7 +13,7 @@ use Rattle.bulk_load.specs.declared.fault.LoadFault.TheVariants.{NotEmpty, Line,
 use Rattle.bulk_load.specs.declared.packing.Taken.{Taken}
 use Rattle.bulk_load.specs.Loads.{most_records}
 use Rattle.bulk_load.specs.Packing.{IsTaken, HasPacked, WritesRuns, room_in}
-use Rattle.bulk_load.specs.Reading.{IsTaking}
+use Rattle.bulk_load.specs.TextReading.{IsTaking}
 
 -- why a record isn't packed behind that many: there are as many as may be, or a disk call failed
 abbrev pub IsPackingFault : ℕ → ℕ → LoadFault → Type 0

@@ -13,10 +13,10 @@ use Rattle.resize_region.specs.Shares.{places, HasShares, share_in}
 use Rattle.segment.specs.declared.fault.StoreFault.{StoreFault}
 use Rattle.segment.specs.declared.fault.StoreFault.TheVariants.{Failed}
 use Rattle.segment_frames.specs.Lists.{page_at}
-use Rattle.segment_frames.specs.Reading.{IsPageFault}
+use Rattle.segment_frames.specs.FrameReading.{IsPageFault}
 use Rattle.bulk_load.specs.Packing.{AreRows, HasPacked, room_in}
 use Rattle.bulk_load.specs.declared.packed.Packed.{Packed}
-use Rattle.segment_frames.specs.Parts.{parts, GoesInParts}
+use Rattle.segment_frames.specs.SegmentParts.{parts, GoesInParts}
 use Rattle.resize_region.specs.Source.{copy_calls}
 use Rattle.header_gate.specs.declared.layout.Layout.{Layout}
 

@@ -10,21 +10,21 @@ ghost use Rattle.key_slot.specs.Record.{Bytes, Record};
 ghost use Rattle.key_slot.specs.Row.{record_of};
 ghost use Rattle.key_slot.specs.Segment.{FitsSegment, IsSegment, segment_of};
 ghost use Rattle.map_model.specs.Array.{Array, rows};
-ghost use Rattle.map_model.specs.Reasons.{begins_above};
+ghost use Rattle.map_model.specs.FileReasons.{begins_above};
 ghost use Rattle.map_model.specs.Image.{array_of};
 ghost use Rattle.range_scan.specs.Checking.{LieAbove};
-ghost use Rattle.range_scan.specs.Faults.{fault_of, IsDamageAt};
-ghost use Rattle.range_scan.specs.ReaderView.{IsReader, StepsOver};
-ghost use Rattle.range_scan.specs.Reading.{next_page, next_fault, after_reading};
+ghost use Rattle.range_scan.specs.SegmentFaults.{IsDamageAt};
+ghost use Rattle.range_scan.specs.RegionReaderView.{IsReader, StepsOver};
+ghost use Rattle.range_scan.specs.RegionReading.{next_page, next_fault, after_reading};
 ghost use Rattle.range_scan.specs.Walk.{after_walk};
 ghost use Rattle.resize_region.specs.Shares.{StandsBare};
-ghost use Rattle.window_tally.specs.View.{IsTally};
+ghost use Rattle.window_tally.specs.TallyView.{IsTally};
 ghost use Rattle.bulk_load.specs.Ahead.{IsAhead, ReadsLive, ReadsAhead, IsAbove, StopsAt, at_hand, left_in, begins_under, begins_with, passed};
 
 use crate::loading::segments_at;
 use density_rule::Window;
 use key_slot::{Key, Row};
-use range_scan::{RegionFault, RegionReader, SegmentBuffer};
+use range_scan::{RegionReader, SegmentBuffer};
 use redo_journal::Place;
 use segment::{Damage, StoreFault, validate_count};
 use station::Station;
@@ -219,32 +219,12 @@ fn next_segment<S: Station>(
         ≡ after_walk reader.old.layout reader.old.region reader.old.next reader.new.next (S.view station.old).travel }
     ensures calls { (S.view station.new).calls ≤ (S.view station.old).calls + (reader.new.next - reader.old.next) }
 {
-    match reader.read_next(station, page) {
-        Ok(true) => {}
-        Ok(false) => return Ok(false),
-        Err(fault) => return Err(of_region(fault)),
+    let more = reader.read_next(station, page)?;
+    if !more {
+        return Ok(false);
     }
-    match validate_count(segment, page.rows().len(), kept_count(tally, segment)) {
-        Ok(()) => Ok(true),
-        Err(fault) => Err(fault),
-    }
-}
-
-// The fault of a reader, as a store's.
-fn of_region(fault: RegionFault) -> StoreFault
-    ensures { result ≡ fault_of fault }
-{
-    match fault {
-        RegionFault::Failed => StoreFault::Failed,
-        RegionFault::NotSegment { segment, slot } => StoreFault::Damaged {
-            segment,
-            why: Damage::NotSegment { slot },
-        },
-        RegionFault::OutOfOrder { segment } => StoreFault::Damaged {
-            segment,
-            why: Damage::OutOfOrder,
-        },
-    }
+    validate_count(segment, page.rows().len(), kept_count(tally, segment))?;
+    Ok(true)
 }
 
 // The number of records that the tally keeps for a segment.

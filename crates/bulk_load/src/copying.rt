@@ -4,12 +4,12 @@ ghost use Rattle.std.specs.Prelude.{◌≡◌, ◌+◌, ◌<◌, ◌^◌, ◌∷
 ghost use Rattle.key_slot.specs.Row.{record_of};
 ghost use Rattle.segment.specs.declared.fault.StoreFault.{StoreFault};
 ghost use Rattle.bulk_load.specs.Ahead.{ReadsLive, ReadsNext, StopsAt, begins_under};
-ghost use Rattle.bulk_load.specs.Faults.{load_fault_of};
-ghost use Rattle.map_model.specs.Reasons.{begins_above};
+ghost use Rattle.bulk_load.specs.LoadFaults.{load_fault_of};
+ghost use Rattle.map_model.specs.FileReasons.{begins_above};
 ghost use Rattle.bulk_load.specs.Amid.{IsAmid, CopiesUnder, MeetsKey};
 
 use crate::ahead::{next_below, pass, pass_key};
-use crate::fault::{LoadFault, of_file};
+use crate::fault::LoadFault;
 use crate::resulting::take_result;
 use crate::run::MergeRun;
 use key_slot::{Key, Row};
@@ -73,8 +73,6 @@ fn next_of<S: Station>(
     ensures fault { IfErr result (λ fault. (x : StoreFault) × (fault ≡ load_fault_of x)
         × ReadsNext place.now (Some x) run.old.ahead run.new.ahead (S.view station.old) (S.view station.new)) }
 {
-    match next_below(station, place, &mut run.ahead, key) {
-        Ok(row) => Ok(row),
-        Err(fault) => Err(of_file(fault)),
-    }
+    let row = next_below(station, place, &mut run.ahead, key)?;
+    Ok(row)
 }

@@ -31,7 +31,8 @@ pub fn sweep_all<'a>(place: &Place, tally: &'a Tally, page: &'a mut SegmentBuffe
     ensures is_sweep { IsSweep result }
     // If the image is a valid file at this place, with this height and these counts and every window within its bounds, the sweep
     // sweeps over its records, from the segment on in which the scan begins, and the scan is all records of its map, in order.
-    ensures sweeping { (image : List ℕ) → StandsBalanced place.now.layout place.now.region tally.now.height tally.now.counts image → IsSweeping result image }
+    ensures sweeping { (image : List ℕ) → StandsBalanced place.now.layout place.now.region tally.now.height tally.now.counts
+        image → IsSweeping result image }
     ensures begins { (image : List ℕ) → StandsBalanced place.now.layout place.now.region tally.now.height tally.now.counts image →
         BeginsThere result (entries (map_of image)) }
     ensures all { (image : List ℕ) → StandsBalanced place.now.layout place.now.region tally.now.height tally.now.counts image →

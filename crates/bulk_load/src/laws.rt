@@ -5,7 +5,7 @@ ghost use Rattle.key_slot.specs.Format.{wide};
 ghost use Rattle.std.specs.List.{flat_map};
 ghost use Rattle.std.specs.FinMap.{entries, from_sorted, len};
 ghost use Rattle.line_source.specs.Lines.{raw_lines};
-ghost use Rattle.line_source.specs.ReaderView.{ReaderView, rest};
+ghost use Rattle.line_source.specs.LineReaderView.{ReaderView, rest};
 ghost use Rattle.line_source.specs.SourceView.{SourceView, SourceTold};
 ghost use Rattle.key_slot.specs.Record.{Record};
 ghost use Rattle.map_model.specs.Store.{Map};
@@ -13,9 +13,9 @@ ghost use Rattle.command_text.specs.Answers.{range_lines};
 ghost use Rattle.command_text.specs.Reply.{reply_text};
 ghost use Rattle.command_text.specs.ReadsBack.{MayBeRecord};
 ghost use Rattle.bulk_load.specs.declared.fault.LoadFault.{LoadFault};
-ghost use Rattle.bulk_load.specs.Faults.{IsLoadFault, IsOutsideFault};
+ghost use Rattle.bulk_load.specs.LoadFaults.{IsLoadFault, IsOutsideFault};
 ghost use Rattle.bulk_load.specs.LoadText.{IsLoadText, IsFirstWrong, IsUnfinished, IsOneTooMany, IsRefusedAt, MayGoOn};
-ghost use Rattle.bulk_load.specs.Loading.{IsWrongLine, loading, reads, wrong, full};
+ghost use Rattle.bulk_load.specs.LoadLines.{IsWrongLine, loading, reads, wrong, full};
 
 /// A law: what comes of lines that are read one at a time is what they are as a load text. Those that are read whole are a
 /// text with these records, and a text is read whole if the store may hold as many. A wrong line is the first that no
@@ -25,24 +25,29 @@ ghost use Rattle.bulk_load.specs.Loading.{IsWrongLine, loading, reads, wrong, fu
 pub fn texts_are_read_by_lines()
     // Lines that are read whole are a load text with these records. A load text is read whole if the store may hold as many
     // records as it has.
-    ensures text { (format most : ℕ) (lines : List (List ℕ)) (rows : List Record) → loading format most lines ≡ reads rows true → IsLoadText format lines rows }
+    ensures text { (format most : ℕ) (lines : List (List ℕ)) (rows : List Record) → loading format most lines ≡ reads rows true →
+        IsLoadText format lines rows }
     ensures read { (format most : ℕ) (lines : List (List ℕ)) (rows : List Record) → IsLoadText format lines rows →
         length rows ≤ most → loading format most lines ≡ reads rows true }
     // If the store may hold fewer than `2^32` records: a wrong line is the first that no load text can have there.
-    ensures wrong { (format most n : ℕ) (lines : List (List ℕ)) → most < 2 ^ 32 → loading format most lines ≡ wrong n → IsFirstWrong format lines n }
+    ensures wrong { (format most n : ℕ) (lines : List (List ℕ)) → most < 2 ^ 32 → loading format most lines ≡ wrong n →
+        IsFirstWrong format lines n }
     // If the store may hold fewer than `2^32` records, and the lines end before the one with the number of records: some load
     // text begins with them, and they are none.
     ensures unfinished { (format most : ℕ) (lines : List (List ℕ)) (rows : List Record) → most < 2 ^ 32 →
         loading format most lines ≡ reads rows false → IsUnfinished format lines }
     // If the store may hold fewer than `2^32 - 1` records, and the records are too many: some load text begins with lines that
     // have one record more than it may hold.
-    ensures full { (format most : ℕ) (lines : List (List ℕ)) → most + 1 < 2 ^ 32 → loading format most lines ≡ full → IsOneTooMany format most lines }
+    ensures full { (format most : ℕ) (lines : List (List ℕ)) → most + 1 < 2 ^ 32 → loading format most lines ≡ full →
+        IsOneTooMany format most lines }
     // Lines that are read whole have no more records than the store may hold.
-    ensures few { (format most : ℕ) (lines : List (List ℕ)) (rows : List Record) → loading format most lines ≡ reads rows true → length rows ≤ most }
+    ensures few { (format most : ℕ) (lines : List (List ℕ)) (rows : List Record) → loading format most lines ≡ reads rows true →
+        length rows ≤ most }
     // If the store may hold fewer than `2^32` records: a line that is named as wrong is the first that no load text can have
     // there, or one more than there are if these end before the one with the number of records; and before it are no more records
     // than the store may hold.
-    ensures refused { (format most n : ℕ) (lines : List (List ℕ)) → most < 2 ^ 32 → IsWrongLine format most lines n → IsRefusedAt format most lines n }
+    ensures refused { (format most n : ℕ) (lines : List (List ℕ)) → most < 2 ^ 32 → IsWrongLine format most lines n →
+        IsRefusedAt format most lines n }
     // If the store may hold fewer than `2^32` records: lines with which reading goes on make no refusal due, that is, some load
     // text begins with them, and they have no more records than it may hold.
     ensures going { (format most : ℕ) (lines : List (List ℕ)) (rows : List Record) (ended : Bool) → most < 2 ^ 32 →

@@ -1,6 +1,6 @@
 //! A load text is read into a store without records.
 
-ghost use Rattle.std.specs.Prelude.{◌≡◌, ℕ, ◌+◌, ◌-◌, ◌*◌, ◌^◌, ◌<◌, ◌≤◌, List, [], length, sum, OnOk, OnErr, IfOk, IfErr, IsErrOf};
+ghost use Rattle.std.specs.Prelude.{◌≡◌, ◌+◌, ◌-◌, ◌*◌, ◌^◌, ◌<◌, ◌≤◌, List, [], length, sum, OnOk, OnErr, IfOk, IfErr, IsErrOf};
 ghost use Rattle.station.specs.View.{Told, EachHeld, NothingPending, Rose};
 ghost use Rattle.station.specs.Steps.{Steps};
 ghost use Rattle.header_gate.specs.InPlace.{IsBare};
@@ -10,14 +10,15 @@ ghost use Rattle.key_slot.specs.Record.{Record};
 ghost use Rattle.line_source.specs.SourceView.{SourceTold, Went};
 ghost use Rattle.map_model.specs.Regions.{Spares};
 ghost use Rattle.redo_journal.specs.Rest.{RestsAt};
-ghost use Rattle.segment_frames.specs.Standing.{StandsFor};
-ghost use Rattle.bulk_load.specs.Faults.{IsLoadFault, IsWritingFault, IsNoDamage, IsNoDisk, IsShownBy};
-ghost use Rattle.bulk_load.specs.Loading.{IsUnread, TakesAtMost};
+ghost use Rattle.segment_frames.specs.FrameStanding.{StandsFor};
+ghost use Rattle.bulk_load.specs.LoadFaults.{IsLoadFault, IsWritingFault, IsNoDamage, IsNoDisk, IsShownBy};
+ghost use Rattle.bulk_load.specs.LoadLines.{IsUnread, TakesAtMost};
 ghost use Rattle.bulk_load.specs.Loads.{most_records, TextFor, Loads, IsLeastHeight, IsWrittenOut, IsLoaded};
 ghost use Rattle.bulk_load.specs.Packing.{CanFill};
+ghost use Rattle.bulk_load.specs.TextReading.{ReadsText};
 ghost use Rattle.bulk_load.specs.Spreading.{load_calls};
 
-use crate::fault::{LoadFault, Loaded, of_file};
+use crate::fault::{LoadFault, Loaded};
 use crate::reading::read_text;
 use crate::settling::spread_taken;
 use density_rule::{Window, upper};
@@ -62,7 +63,8 @@ pub fn load_rows<I: Source, S: Station>(
         × IsLoaded place.old rows loaded.records loaded.height (TextFor place.old.layout reader.old (I.view source.old)) (S.view station.new)) }
     ensures empty { OnOk result (sum tally.now.counts ≡ 0) }
     // On Ok the source is at its end, and gave fewer bytes than might be taken.
-    ensures whole { OnOk result (SourceTold (I.view source.old) → ((I.view source.new).left ≡ []) × (length (I.view source.old).left < reader.old.room)) }
+    ensures whole { OnOk result (SourceTold (I.view source.old) → ((I.view source.new).left ≡ []) ×
+        (length (I.view source.old).left < reader.old.room)) }
     // On Ok the station is at rest with nothing pending, and the place is that of the other region. A fault leaves the place.
     ensures settled { OnOk result (NothingPending (S.view station.new)) }
     ensures rests { OnOk result (RestsAt place.new.layout frames.new.turn (S.view station.new)) }
@@ -75,7 +77,8 @@ pub fn load_rows<I: Source, S: Station>(
     // At every moment, and in the held bytes whatever is answered, the file represents the map that it did, at its height, or
     // that of the whole text at the least height. Gate and layout stay, and so does each byte but those of the selector, the
     // other copy and the other region.
-    ensures steps { Steps (Loads place.old (TextFor place.old.layout reader.old (I.view source.old))) (S.view station.old) (S.view station.new) }
+    ensures steps { Steps (Loads place.old (TextFor place.old.layout reader.old (I.view source.old))) (S.view station.old)
+        (S.view station.new) }
     // If the store has records, station and source are left as they were, without a call of the station and with nothing taken.
     ensures untouched { 0 < sum tally.now.counts → (station.new ≡ station.old) × (source.new ≡ source.old) }
     // Costs: on Ok at most `8192 * F * 2^h + 9` bytes written in slots of format F, h the height.
@@ -84,11 +87,13 @@ pub fn load_rows<I: Source, S: Station>(
     // Costs: with room for n segments in the frames, of which at most 256 pages are used, on Ok at most one call for each n
     // packed segments written, one for each `n / 2` of them read again, one for each `n - n / 2` segments of the new array, each
     // number rounded up, and four for the flip.
-    ensures calls { IfOk result (λ loaded. (S.view station.new).calls ≤ (S.view station.old).calls + load_calls place.old.layout loaded.records (2 ^ loaded.height)) }
+    ensures calls { IfOk result (λ loaded. (S.view station.new).calls ≤ (S.view station.old).calls +
+        load_calls place.old.layout loaded.records (2 ^ loaded.height)) }
 
     // Whatever is answered, no more is written, and no more calls are made, than the load of the most records that the store may
     // hold may write and make.
-    ensures most_cost { (S.view station.new).travel.written ≤ (S.view station.old).travel.written + (2 * segment_size place.old.layout * 2 ^ height_limit place.old.layout + 9) }
+    ensures most_cost { (S.view station.new).travel.written ≤ (S.view station.old).travel.written +
+        (2 * segment_size place.old.layout * 2 ^ height_limit place.old.layout + 9) }
     ensures most_calls { (S.view station.new).calls ≤ (S.view station.old).calls
         + load_calls place.old.layout (most_records place.old.layout) (2 ^ height_limit place.old.layout) }
 
@@ -99,7 +104,8 @@ pub fn load_rows<I: Source, S: Station>(
     // first line that can't stand there, with no record too many before it, or the one behind an unfinished text; `Full` a record
     // too many, with the most that there may be; `Script` comes only if the source's count of failed reads rose, and `Spent` only
     // if all bytes were taken that may be, both only if the complete lines among the bytes taken make no refusal due.
-    ensures fault { IfErr result (IsLoadFault place.old.layout.format (most_records place.old.layout) (sum tally.now.counts) reader.old (I.view source.old) (I.view source.new)) }
+    ensures fault { IfErr result (IsLoadFault place.old.layout.format (most_records place.old.layout) (sum tally.now.counts)
+        reader.old (I.view source.old) (I.view source.new)) }
     // After every fault but the disk's the file stands for the place and the counts of before, whatever a crash leaves then.
     ensures kept { IfErr result (λ fault. IsNoDisk fault → EachHeld (StandsFor place.old tally.now) (S.view station.new)) }
     // If the station tells its bytes, no segment is found damaged. Else a frame shows the damage that is named.
@@ -119,13 +125,9 @@ pub fn load_rows<I: Source, S: Station>(
     }
     let loaded = write_text(source, station, reader, place, frames)?;
     let other = 1 - place.region;
-    match make_live(station, other, loaded.height, place.layout.format) {
-        Ok(()) => {
-            place.region = other;
-            Ok(loaded)
-        }
-        Err(fault) => Err(of_file(fault)),
-    }
+    make_live(station, other, loaded.height, place.layout.format)?;
+    place.region = other;
+    Ok(loaded)
 }
 
 // Reads a text to its end, and writes its records into the region that isn't live, spread over the segments of the least
@@ -139,28 +141,31 @@ fn write_text<I: Source, S: Station>(
 ) -> Result<Loaded, LoadFault>
     requires can { CanFill place.now frames.old (S.view station.old) }
     requires unread { IsUnread reader.old }
-    ensures written { IfOk result (λ loaded. (rows : List Record) × IsWrittenOut place.now rows loaded.records loaded.height (TextFor place.now.layout reader.old (I.view source.old)) (S.view station.new)) }
-    ensures whole { OnOk result (SourceTold (I.view source.old) → ((I.view source.new).left ≡ []) × (length (I.view source.old).left < reader.old.room)) }
-    ensures fault { IfErr result (IsWritingFault place.now.layout.format (most_records place.now.layout) reader.old (I.view source.old) (I.view source.new)) }
-    ensures takes { SourceTold (I.view source.old) → TakesAtMost reader.old.room (I.view source.old) (I.view source.new) }
+    ensures written { IfOk result (λ loaded. (rows : List Record) ×
+        IsWrittenOut place.now rows loaded.records loaded.height (TextFor place.now.layout reader.old (I.view source.old))
+        (S.view station.new)) }
+    ensures reading { ReadsText reader.old result (I.view source.old) (I.view source.new) (S.view station.old)
+        (S.view station.new) }
+    ensures fault { IfErr result (IsWritingFault place.now.layout.format (most_records place.now.layout) reader.old
+        (I.view source.old) (I.view source.new)) }
     ensures steps { Steps (Spares place.now.layout place.now.region) (S.view station.old) (S.view station.new) }
-    ensures cost { IfOk result (λ loaded. (S.view station.new).travel.written ≤ (S.view station.old).travel.written + 2 * segment_size place.now.layout * 2 ^ loaded.height) }
-    ensures calls { IfOk result (λ loaded. (S.view station.new).calls + 4 ≤ (S.view station.old).calls + load_calls place.now.layout loaded.records (2 ^ loaded.height)) }
-    ensures most_cost { (S.view station.new).travel.written ≤ (S.view station.old).travel.written + 2 * segment_size place.now.layout * 2 ^ height_limit place.now.layout }
-    ensures most_calls { (S.view station.new).calls + 4 ≤ (S.view station.old).calls + load_calls place.now.layout (most_records place.now.layout) (2 ^ height_limit place.now.layout) }
+    ensures cost { IfOk result (λ loaded. (S.view station.new).travel.written ≤ (S.view station.old).travel.written +
+        2 * segment_size place.now.layout * 2 ^ loaded.height) }
+    ensures calls { IfOk result (λ loaded. (S.view station.new).calls + 4 ≤ (S.view station.old).calls +
+        load_calls place.now.layout loaded.records (2 ^ loaded.height)) }
+    ensures most_cost { (S.view station.new).travel.written ≤ (S.view station.old).travel.written +
+        2 * segment_size place.now.layout * 2 ^ height_limit place.now.layout }
+    ensures most_calls { (S.view station.new).calls + 4 ≤ (S.view station.old).calls +
+        load_calls place.now.layout (most_records place.now.layout) (2 ^ height_limit place.now.layout) }
     ensures damaged { IfErr result (λ fault. Told (S.view station.old) → IsNoDamage fault) }
     ensures shown { IfErr result (IsShownBy place.now.layout.format frames.new) }
     ensures journal { frames.new.journal ≡ frames.old.journal }
     ensures turn { frames.new.turn ≡ frames.old.turn }
-    ensures failed { IsErrOf result LoadFault.Disk → Rose (S.view station.old).disk_faults (S.view station.new).disk_faults }
-    ensures went { Went (I.view source.old) (I.view source.new) }
 {
     let mut taken = read_text(source, station, reader, place, frames)?;
     let records = taken.records;
-    match spread_taken(station, place, frames, &mut taken) {
-        Ok(height) => Ok(Loaded { records, height }),
-        Err(fault) => Err(fault),
-    }
+    let height = spread_taken(station, place, frames, &mut taken)?;
+    Ok(Loaded { records, height })
 }
 
 // The least height of a store that holds that many records.

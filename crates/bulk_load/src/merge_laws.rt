@@ -7,12 +7,12 @@ ghost use Rattle.map_model.specs.Store.{Map, Update};
 ghost use Rattle.bulk_load.specs.LoadText.{IsLoadText};
 ghost use Rattle.bulk_load.specs.MergeText.{bind_of, AreAscending, merged_rows, map_after_edits, IsMergeText, IsFirstUnmerged, IsMergeUnfinished, IsMergedFull};
 ghost use Rattle.line_source.specs.Lines.{raw_lines};
-ghost use Rattle.line_source.specs.ReaderView.{ReaderView, rest};
+ghost use Rattle.line_source.specs.LineReaderView.{ReaderView, rest};
 ghost use Rattle.line_source.specs.SourceView.{SourceView, SourceTold};
 ghost use Rattle.bulk_load.specs.declared.fault.LoadFault.{LoadFault};
-ghost use Rattle.bulk_load.specs.Faults.{IsOutsideFault};
+ghost use Rattle.bulk_load.specs.LoadFaults.{IsOutsideFault};
 ghost use Rattle.bulk_load.specs.MergeCauses.{IsUpdatingFault};
-ghost use Rattle.bulk_load.specs.Merging.{merging, reads, wrong, full, IsOverfull, IsUnmergedLine};
+ghost use Rattle.bulk_load.specs.MergeLines.{merging, reads, wrong, full, IsOverfull, IsUnmergedLine};
 
 /// A law: the records of a map, merged with updates in ascending order of their keys, are ascending, and those of the map after
 /// the updates, made one after the other.

@@ -1,6 +1,6 @@
 //! A merge text is made of a store: its updates are made in the order of their keys, or none is.
 
-ghost use Rattle.line_source.specs.ReaderView.{rest};
+ghost use Rattle.line_source.specs.LineReaderView.{rest};
 ghost use Rattle.line_source.specs.Lines.{raw_lines};
 ghost use Rattle.std.specs.Prelude.{◌≡◌, ℕ, ◌+◌, ◌-◌, ◌*◌, ◌^◌, ◌<◌, ◌≤◌, List, [], length, OnOk, OnErr, IfOk, IfErr, IsErrOf, sum};
 ghost use Rattle.station.specs.View.{Told, EachHeld, NothingPending, Rose};
@@ -12,16 +12,17 @@ ghost use Rattle.line_source.specs.SourceView.{SourceTold, Went};
 ghost use Rattle.map_model.specs.Regions.{Spares};
 ghost use Rattle.redo_journal.specs.Rest.{RestsAt};
 ghost use Rattle.resize_region.specs.Shares.{StandsBare};
-ghost use Rattle.segment_frames.specs.Standing.{StandsFor};
-ghost use Rattle.bulk_load.specs.Faults.{IsNoDisk};
-ghost use Rattle.bulk_load.specs.Loading.{IsUnread, TakesAtMost};
+ghost use Rattle.segment_frames.specs.FrameStanding.{StandsFor};
+ghost use Rattle.bulk_load.specs.LoadFaults.{IsNoDisk};
+ghost use Rattle.bulk_load.specs.LoadLines.{IsUnread, TakesAtMost};
 ghost use Rattle.bulk_load.specs.Loads.{most_records, Loads, IsWrittenOut, IsLoaded};
 ghost use Rattle.bulk_load.specs.MergeCauses.{IsMergeFault, IsMergeDamage, IsTextFault, IsLastSeen};
 ghost use Rattle.bulk_load.specs.Packing.{CanFill};
+ghost use Rattle.bulk_load.specs.TextReading.{ReadsText};
 ghost use Rattle.bulk_load.specs.Spreading.{load_calls, used_by};
-ghost use Rattle.bulk_load.specs.Updates.{MergeFor, MergeTo, ReadsBeside, counts_by, CountsText};
+ghost use Rattle.bulk_load.specs.MergeUpdates.{MergeFor, MergeTo, ReadsBeside, counts_by, CountsText};
 
-use crate::fault::{LoadFault, of_file};
+use crate::fault::LoadFault;
 use crate::merging::merge_text;
 use crate::run::start_run;
 use crate::settling::spread_taken;
@@ -162,13 +163,9 @@ pub fn merge_rows<I: Source, S: Station>(
 {
     let merged = write_merged(source, station, reader, place, frames, tally)?;
     let other = 1 - place.region;
-    match make_live(station, other, merged.height, place.layout.format) {
-        Ok(()) => {
-            place.region = other;
-            Ok(merged)
-        }
-        Err(fault) => Err(of_file(fault)),
-    }
+    make_live(station, other, merged.height, place.layout.format)?;
+    place.region = other;
+    Ok(merged)
 }
 
 // Reads a text to its end beside the records of the live region, and writes what results into the other region, spread over
@@ -190,13 +187,12 @@ fn write_merged<I: Source, S: Station>(
     ensures count { IfOk result (λ merged. merged.records + merged.removed ≡ sum tally.now.counts + merged.stored) }
     ensures counted { IfOk result (λ merged. SourceTold (I.view source.old) →
         CountsText place.now.layout.format (raw_lines (rest reader.old (I.view source.old))) (counts_by merged)) }
-    ensures whole { OnOk result (SourceTold (I.view source.old) →
-        ((I.view source.new).left ≡ []) × (length (I.view source.old).left < reader.old.room)) }
+    ensures reading { ReadsText reader.old result (I.view source.old) (I.view source.new) (S.view station.old)
+        (S.view station.new) }
     ensures fault { IfErr result (IsMergeFault place.now.layout.format (most_records place.now.layout)
         (S.view station.old) reader.old (I.view source.old) (I.view source.new)) }
     ensures text { IfErr result (IsTextFault place.now.layout.format (most_records place.now.layout) (sum tally.now.counts)
         reader.old (I.view source.old) (I.view source.new)) }
-    ensures takes { SourceTold (I.view source.old) → TakesAtMost reader.old.room (I.view source.old) (I.view source.new) }
     ensures steps { Steps (Spares place.now.layout place.now.region) (S.view station.old) (S.view station.new) }
     ensures cost { IfOk result (λ merged. (S.view station.new).travel.written ≤ (S.view station.old).travel.written
         + 2 * segment_size place.now.layout * 2 ^ merged.height) }
@@ -216,22 +212,18 @@ fn write_merged<I: Source, S: Station>(
         (S.view station.new).travel) }
     ensures journal { frames.new.journal ≡ frames.old.journal }
     ensures turn { frames.new.turn ≡ frames.old.turn }
-    ensures failed { IsErrOf result LoadFault.Disk → Rose (S.view station.old).disk_faults (S.view station.new).disk_faults }
-    ensures went { Went (I.view source.old) (I.view source.new) }
 {
     let mut run = start_run(place, frames, tally);
     merge_text(source, station, reader, place, frames, &mut run)?;
     let records = run.taken.records;
     let found = run.found;
-    match spread_taken(station, place, frames, &mut run.taken) {
-        Ok(height) => Ok(Merged {
-            stored: found.stored,
-            replaced: found.replaced,
-            removed: found.removed,
-            absent: found.absent,
-            records,
-            height,
-        }),
-        Err(fault) => Err(fault),
-    }
+    let height = spread_taken(station, place, frames, &mut run.taken)?;
+    Ok(Merged {
+        stored: found.stored,
+        replaced: found.replaced,
+        removed: found.removed,
+        absent: found.absent,
+        records,
+        height,
+    })
 }

@@ -1,22 +1,20 @@
 //! A merge text is read to its end beside the records of a store, and what results is packed into the region that isn't live.
 
 ghost use Rattle.line_source.specs.Lines.{raw_lines};
-ghost use Rattle.std.specs.Prelude.{◌≡◌, ◌+◌, ◌<◌, ◌≤◌, ◌^◌, ◌==◌, ◌&&◌, not, true, false, ℕ, List, [], length, OnOk, IfOk, IfErr, IsErrOf, IsSome, IfSome, sum};
-ghost use Rattle.station.specs.View.{Told, Rose};
+ghost use Rattle.std.specs.Prelude.{◌≡◌, ◌+◌, ◌<◌, ◌≤◌, ◌^◌, ◌==◌, ◌&&◌, not, true, false, ℕ, List, length, OnOk, IfOk, IfErr, IsSome, IfSome, sum};
+ghost use Rattle.station.specs.View.{Told};
 ghost use Rattle.key_slot.specs.Format.{wide};
 ghost use Rattle.key_slot.specs.Row.{record_of};
 ghost use Rattle.line_source.specs.LineStep.{Takes};
 ghost use Rattle.line_source.specs.Progress.{HasGiven};
-ghost use Rattle.line_source.specs.ReaderView.{ReaderView, rest};
+ghost use Rattle.line_source.specs.LineReaderView.{ReaderView, rest};
 ghost use Rattle.line_source.specs.SourceView.{SourceView, SourceTold, Went};
-ghost use Rattle.map_model.specs.Image.{map_of};
 ghost use Rattle.command_text.specs.declared.merge.MergeLine.TheVariants as merge;
-ghost use Rattle.bulk_load.specs.Amid.{FitsMergeLine, Goes, HasEdits, HasMerged, IsBetween, IsLiveDamage, TakesUpdate, Tries, goes_behind, counts_in};
-ghost use Rattle.bulk_load.specs.Loading.{IsUnread, TakesAtMost};
+ghost use Rattle.bulk_load.specs.Amid.{FitsMergeLine, Goes, IsBetween, IsLiveDamage, TakesUpdate, Tries, goes_behind, counts_in};
 ghost use Rattle.bulk_load.specs.Loads.{most_records};
 ghost use Rattle.bulk_load.specs.MergeCauses.{IsMergeFault, IsTextFault};
-ghost use Rattle.bulk_load.specs.Reading.{IsTaking};
-ghost use Rattle.bulk_load.specs.Updates.{HasAll, HasRead, IsNextUpdate, CountsText, HasText};
+ghost use Rattle.bulk_load.specs.TextReading.{IsTaking, ReadsText};
+ghost use Rattle.bulk_load.specs.MergeUpdates.{StartsMerge, HasAll, HasRead, IsNextUpdate, CountsText, HasText};
 
 use crate::copying::{copy_below, meet_key};
 use crate::fault::LoadFault;
@@ -37,12 +35,7 @@ pub(crate) fn merge_text<I: Source, S: Station>(
     frames: &mut Frames,
     run: &mut MergeRun<'_>,
 ) -> Result<(), LoadFault>
-    requires between { IsBetween place.now run.old frames.old (S.view station.old) }
-    requires unread { IsUnread reader.old }
-    requires going { run.old.taken.ended ≡ false }
-    requires alone { HasEdits [] run.old }
-    requires start { Told (S.view station.old) →
-        HasMerged place.now (map_of (S.view station.old).held) [] run.old frames.old (S.view station.old) }
+    requires starts { StartsMerge place.now reader.old run.old frames.old (S.view station.old) }
     ensures taking { OnOk result (IsTaking place.now.layout run.new.taken frames.new) }
     ensures all { OnOk result (Told (S.view station.old) →
         HasAll place.now reader.old (I.view source.old) (S.view station.old) run.new frames.new (S.view station.new)) }
@@ -51,27 +44,22 @@ pub(crate) fn merge_text<I: Source, S: Station>(
         ≡ sum run.old.ahead.tally.now.counts + run.new.found.stored) }
     ensures counted { OnOk result (SourceTold (I.view source.old) →
         CountsText place.now.layout.format (raw_lines (rest reader.old (I.view source.old))) (counts_in run.new.found)) }
-    ensures whole { OnOk result (SourceTold (I.view source.old) →
-        ((I.view source.new).left ≡ []) × (length (I.view source.old).left < reader.old.room)) }
+    ensures reading { ReadsText reader.old result (I.view source.old) (I.view source.new) (S.view station.old)
+        (S.view station.new) }
     ensures faulty { IfErr result (IsMergeFault place.now.layout.format (most_records place.now.layout)
         (S.view station.old) reader.old (I.view source.old) (I.view source.new)) }
     ensures text { IfErr result (IsTextFault place.now.layout.format (most_records place.now.layout)
         (sum run.old.ahead.tally.now.counts) reader.old (I.view source.old) (I.view source.new)) }
     ensures damage { IfErr result (IsLiveDamage place.now run.old.ahead.reader.next (S.view station.old).travel
         (S.view station.new).travel run.old.ahead.tally.now) }
-    ensures takes { SourceTold (I.view source.old) → TakesAtMost reader.old.room (I.view source.old) (I.view source.new) }
     ensures goes { OnOk result (Goes place.now run.old.taken.written run.new.taken.written run.old.ahead.reader.next
         run.new.ahead.reader.next frames.old frames.new (S.view station.old) (S.view station.new)) }
     ensures tries { Tries place.now (2 ^ run.old.ahead.tally.now.height) run.old.taken.written run.old.ahead.reader.next
         frames.old frames.new (S.view station.old) (S.view station.new) }
-    ensures failed { IsErrOf result LoadFault.Disk → Rose (S.view station.old).disk_faults (S.view station.new).disk_faults }
-    ensures went { Went (I.view source.old) (I.view source.new) }
 {
     merge_lines(source, station, reader, place, frames, run)?;
-    match copy_below(station, place, frames, run, &None) {
-        Ok(()) => Ok(()),
-        Err(fault) => Err(fault),
-    }
+    copy_below(station, place, frames, run, &None)?;
+    Ok(())
 }
 
 // Reads the lines of a text to its end, and packs what results up to the key of the last update.
@@ -83,43 +71,32 @@ fn merge_lines<I: Source, S: Station>(
     frames: &mut Frames,
     run: &mut MergeRun<'_>,
 ) -> Result<(), LoadFault>
-    requires between { IsBetween place.now run.old frames.old (S.view station.old) }
-    requires unread { IsUnread reader.old }
-    requires going { run.old.taken.ended ≡ false }
-    requires alone { HasEdits [] run.old }
-    requires start { Told (S.view station.old) →
-        HasMerged place.now (map_of (S.view station.old).held) [] run.old frames.old (S.view station.old) }
+    requires starts { StartsMerge place.now reader.old run.old frames.old (S.view station.old) }
     ensures between { OnOk result (IsBetween place.now run.new frames.new (S.view station.new)) }
     ensures alone { OnOk result (SourceTold (I.view source.old) →
         HasText place.now.layout.format (raw_lines (rest reader.old (I.view source.old))) run.new) }
     ensures read { OnOk result (Told (S.view station.old) →
         HasRead place.now reader.old (I.view source.old) (S.view station.old) run.new frames.new (S.view station.new)) }
-    ensures whole { OnOk result (SourceTold (I.view source.old) →
-        ((I.view source.new).left ≡ []) × (length (I.view source.old).left < reader.old.room)) }
+    ensures reading { ReadsText reader.old result (I.view source.old) (I.view source.new) (S.view station.old)
+        (S.view station.new) }
     ensures faulty { IfErr result (IsMergeFault place.now.layout.format (most_records place.now.layout)
         (S.view station.old) reader.old (I.view source.old) (I.view source.new)) }
     ensures text { IfErr result (IsTextFault place.now.layout.format (most_records place.now.layout)
         (sum run.old.ahead.tally.now.counts) reader.old (I.view source.old) (I.view source.new)) }
     ensures damage { IfErr result (IsLiveDamage place.now run.old.ahead.reader.next (S.view station.old).travel
         (S.view station.new).travel run.old.ahead.tally.now) }
-    ensures takes { SourceTold (I.view source.old) → TakesAtMost reader.old.room (I.view source.old) (I.view source.new) }
     ensures tally { run.new.ahead.tally.now ≡ run.old.ahead.tally.now }
     ensures goes { OnOk result (Goes place.now run.old.taken.written run.new.taken.written run.old.ahead.reader.next
         run.new.ahead.reader.next frames.old frames.new (S.view station.old) (S.view station.new)) }
     ensures tries { Tries place.now (2 ^ run.old.ahead.tally.now.height) run.old.taken.written run.old.ahead.reader.next
         frames.old frames.new (S.view station.old) (S.view station.new) }
-    ensures failed { IsErrOf result LoadFault.Disk → Rose (S.view station.old).disk_faults (S.view station.new).disk_faults }
-    ensures went { Went (I.view source.old) (I.view source.new) }
 {
     // Each line has a byte at least, so their number is no greater.
     let _most = reader.room();
     let mut lines: u64 = 0;
     while let Some(line) = next_line(reader, source, place.layout.format)? {
         lines += 1;
-        match take_line(station, place, frames, run, &line, lines) {
-            Ok(()) => {}
-            Err(fault) => return Err(fault),
-        }
+        take_line(station, place, frames, run, &line, lines)?;
     }
     if run.taken.ended {
         Ok(())
@@ -232,10 +209,8 @@ fn take_bound<S: Station>(
 {
     let met = meet_key(station, place, frames, run, &row.key)?;
     note_bound(&mut run.found, met);
-    match take_result(station, place, frames, &mut run.taken, row) {
-        Ok(()) => Ok(()),
-        Err(fault) => Err(fault),
-    }
+    take_result(station, place, frames, &mut run.taken, row)?;
+    Ok(())
 }
 
 // Takes an update that removes a key: no record with it results.

@@ -6,12 +6,12 @@ ghost use Rattle.header_gate.specs.Places.{IsSlotFormat, height_limit};
 ghost use Rattle.key_slot.specs.Record.{Record};
 ghost use Rattle.redo_journal.specs.Frames.{IsFrames};
 ghost use Rattle.resize_region.specs.Shares.{places, HasShares, share_in};
-ghost use Rattle.segment_frames.specs.Held.{grouped, HoldsRows};
+ghost use Rattle.segment_frames.specs.HeldRecords.{grouped, HoldsRows};
 ghost use Rattle.segment_frames.specs.Lists.{page_at, rows_at};
-ghost use Rattle.segment_frames.specs.Reading.{IsPageFault};
+ghost use Rattle.segment_frames.specs.FrameReading.{IsPageFault};
 ghost use Rattle.bulk_load.specs.Packing.{CanFill};
 ghost use Rattle.bulk_load.specs.Spreading.{used_by, packed_count, IsPacked, HoldsPacked, ReadsPacked, TriesParts};
-ghost use Rattle.segment_frames.specs.Parts.{GoesInParts};
+ghost use Rattle.segment_frames.specs.SegmentParts.{GoesInParts};
 
 use crate::spare::read_spare;
 use density_rule::SEGMENT_RECORDS;
@@ -53,9 +53,12 @@ pub(crate) fn read_packed<S: Station>(
     requires packed { IsPacked place.now.layout.format records frames.old packed.old }
     requires none { packed.old.rest ≤ SEGMENT_RECORDS * packed.old.unread }
     requires some { 0 < packed.old.rest }
-    ensures reads { ReadsPacked place.now records result packed.old packed.new frames.old frames.new (S.view station.old) (S.view station.new) }
-    ensures calls { OnOk result (GoesInParts packed.old.room (used_by records) (used_by records - packed.old.unread) (used_by records - packed.new.unread) (S.view station.old).calls (S.view station.new).calls) }
-    ensures tried { TriesParts packed.old.room (used_by records) (used_by records - packed.old.unread) (S.view station.old).calls (S.view station.new).calls }
+    ensures reads { ReadsPacked place.now records result packed.old packed.new frames.old frames.new (S.view station.old)
+        (S.view station.new) }
+    ensures calls { OnOk result (GoesInParts packed.old.room (used_by records) (used_by records - packed.old.unread)
+        (used_by records - packed.new.unread) (S.view station.old).calls (S.view station.new).calls) }
+    ensures tried { TriesParts packed.old.room (used_by records) (used_by records - packed.old.unread) (S.view station.old).calls
+        (S.view station.new).calls }
     ensures onward { OnOk result (packed.new.unread < packed.old.unread) }
     ensures same { packed.new.rest ≡ packed.old.rest }
     ensures others { OnOk result ((i : ℕ) → packed.old.room ≤ i → i < places place.now.layout.format frames.old →
@@ -81,8 +84,10 @@ fn validate_packed(
     requires format { IsSlotFormat format }
     requires within { count ≤ places format frames.now }
     requires small { first + count ≤ 2 ^ 16 }
-    ensures held { OnOk result ((i : ℕ) → i < count → HoldsRows format (rows_at format frames.now.slots i) i (grouped format frames.now.slots)) }
-    ensures counts { OnOk result ((i : ℕ) → i < count → length (rows_at format frames.now.slots i) ≡ packed_count records (first + i)) }
+    ensures held { OnOk result ((i : ℕ) → i < count →
+        HoldsRows format (rows_at format frames.now.slots i) i (grouped format frames.now.slots)) }
+    ensures counts { OnOk result ((i : ℕ) → i < count →
+        length (rows_at format frames.now.slots i) ≡ packed_count records (first + i)) }
     ensures fault { IfErr result (λ fault. (i : ℕ) × (i < count) ×
         IsPageFault format (page_at format frames.now.slots i) (first + i) (packed_count records (first + i)) fault) }
 {
@@ -130,7 +135,8 @@ pub(crate) fn take_last(
     ensures most { result ≤ most }
     ensures rest { packed.new ≡ record packed.old { rest = packed.old.rest - result } }
     ensures taken { result ≤ packed.old.rest }
-    ensures held { (rows : List Record) → packed.old.rest ≤ length rows → HoldsPacked format rows frames.old packed.old → HoldsPacked format rows frames.new packed.new }
+    ensures held { (rows : List Record) → packed.old.rest ≤ length rows → HoldsPacked format rows frames.old packed.old →
+        HoldsPacked format rows frames.new packed.new }
     ensures share { (rows : List Record) → packed.old.rest ≤ length rows → HoldsPacked format rows frames.old packed.old →
         share_in format f frames.new ≡ slice_range rows packed.new.rest packed.old.rest ++ share_in format f frames.old }
     ensures long { length (share_in format f frames.new) ≡ have + result }

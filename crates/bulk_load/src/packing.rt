@@ -7,11 +7,11 @@ ghost use Rattle.header_gate.specs.Places.{height_limit, segment_size};
 ghost use Rattle.density_rule.specs.declared.TheConstants.{SEGMENT_RECORDS};
 ghost use Rattle.key_slot.specs.Record.{Record, is_record};
 ghost use Rattle.key_slot.specs.Row.{record_of};
-ghost use Rattle.map_model.specs.Reasons.{begins_above};
+ghost use Rattle.map_model.specs.FileReasons.{begins_above};
 ghost use Rattle.map_model.specs.Regions.{Spares};
 ghost use Rattle.bulk_load.specs.Packing.{room_in, CanFill, IsTaken, HasPlace, HasPacked, TriesRun, WritesPacked, WritesRuns};
 ghost use Rattle.bulk_load.specs.Spreading.{used_by};
-ghost use Rattle.segment_frames.specs.Parts.{GoesInParts};
+ghost use Rattle.segment_frames.specs.SegmentParts.{GoesInParts};
 
 use crate::packed::used_by;
 use crate::room::room_of;
@@ -49,8 +49,10 @@ pub(crate) fn pack<S: Station>(
     requires room { taken.old.records < SEGMENT_RECORDS * 2 ^ height_limit place.now.layout }
     requires above { begins_above taken.old.last (record_of row.now ∷ []) ≡ true }
     requires fits { T (is_record place.now.layout.format (record_of row.now)) }
-    ensures taken { OnOk result ((rows : List Record) → IsTaken place.now.layout taken.old frames.old rows → IsTaken place.now.layout taken.new frames.new (rows ++ record_of row.now ∷ [])) }
-    ensures packed { OnOk result (Told (S.view station.old) → (rows : List Record) → IsTaken place.now.layout taken.old frames.old rows →
+    ensures taken { OnOk result ((rows : List Record) → IsTaken place.now.layout taken.old frames.old rows →
+        IsTaken place.now.layout taken.new frames.new (rows ++ record_of row.now ∷ [])) }
+    ensures packed { OnOk result (Told (S.view station.old) → (rows : List Record) →
+        IsTaken place.now.layout taken.old frames.old rows →
         HasPacked place.now rows taken.old.written (S.view station.old).held → HasPacked place.now (rows ++ record_of row.now ∷ []) taken.new.written (S.view station.new).held) }
     ensures place { OnOk result (HasPlace place.now.layout taken.new) }
     ensures count { OnOk result (taken.new.records ≡ taken.old.records + 1) }
@@ -59,11 +61,15 @@ pub(crate) fn pack<S: Station>(
     ensures journal { frames.new.journal ≡ frames.old.journal }
     ensures turn { frames.new.turn ≡ frames.old.turn }
     ensures steps { Steps (Spares place.now.layout place.now.region) (S.view station.old) (S.view station.new) }
-    ensures cost { OnOk result ((S.view station.new).travel.written ≤ (S.view station.old).travel.written + segment_size place.now.layout * (taken.new.written - taken.old.written)) }
-    ensures calls { OnOk result (WritesRuns (room_in place.now.layout) taken.old.written taken.new.written (S.view station.old).calls (S.view station.new).calls) }
-    ensures most_cost { (S.view station.new).travel.written ≤ (S.view station.old).travel.written + segment_size place.now.layout * (2 ^ height_limit place.now.layout - taken.old.written) }
+    ensures cost { OnOk result ((S.view station.new).travel.written ≤ (S.view station.old).travel.written +
+        segment_size place.now.layout * (taken.new.written - taken.old.written)) }
+    ensures calls { OnOk result (WritesRuns (room_in place.now.layout) taken.old.written taken.new.written
+        (S.view station.old).calls (S.view station.new).calls) }
+    ensures most_cost { (S.view station.new).travel.written ≤ (S.view station.old).travel.written +
+        segment_size place.now.layout * (2 ^ height_limit place.now.layout - taken.old.written) }
     ensures tried { TriesRun place.now.layout taken.old (S.view station.old).calls (S.view station.new).calls }
-    ensures no_reads { (S.view station.new).travel ≡ record (S.view station.old).travel { written = (S.view station.new).travel.written } }
+    ensures no_reads { (S.view station.new).travel ≡
+        record (S.view station.old).travel { written = (S.view station.new).travel.written } }
     ensures fault { IfErr result (λ fault. fault ≡ StoreFault.Failed) }
     ensures failed { IsErrOf result StoreFault.Failed → Rose (S.view station.old).disk_faults (S.view station.new).disk_faults }
 {
@@ -98,10 +104,12 @@ fn flush<S: Station>(
     requires few { count ≤ room_in place.now.layout }
     requires inside { taken.old.written + count ≤ 2 ^ height_limit place.now.layout }
     requires all { taken.old.records ≤ SEGMENT_RECORDS * (taken.old.written + count) }
-    ensures writes { WritesPacked place.now result taken.old taken.new frames.old frames.new (S.view station.old) (S.view station.new) }
+    ensures writes { WritesPacked place.now result taken.old taken.new frames.old frames.new (S.view station.old)
+        (S.view station.new) }
     ensures written { OnOk result (taken.new.written ≡ taken.old.written + count) }
     ensures calls { (S.view station.new).calls ≤ (S.view station.old).calls + 1 }
-    ensures cost { (S.view station.new).travel.written ≤ (S.view station.old).travel.written + segment_size place.now.layout * count }
+    ensures cost { (S.view station.new).travel.written ≤ (S.view station.old).travel.written +
+        segment_size place.now.layout * count }
 {
     write_shares(station, place, frames, taken.written, count)?;
     clear_shares(frames, place.layout.format, count);
@@ -120,10 +128,13 @@ pub(crate) fn flush_rest<S: Station>(
     requires taken { (rows : List Record) × IsTaken place.now.layout taken.old frames.old rows }
     requires behind { SEGMENT_RECORDS * taken.old.written ≤ taken.old.records }
     requires room { taken.old.records ≤ SEGMENT_RECORDS * 2 ^ height_limit place.now.layout }
-    ensures writes { WritesPacked place.now result taken.old taken.new frames.old frames.new (S.view station.old) (S.view station.new) }
+    ensures writes { WritesPacked place.now result taken.old taken.new frames.old frames.new (S.view station.old)
+        (S.view station.new) }
     ensures written { OnOk result (taken.new.written ≡ used_by taken.old.records) }
-    ensures calls { GoesInParts (room_in place.now.layout) (used_by taken.old.records) taken.old.written (used_by taken.old.records) (S.view station.old).calls (S.view station.new).calls }
-    ensures cost { (S.view station.new).travel.written ≤ (S.view station.old).travel.written + segment_size place.now.layout * (used_by taken.old.records - taken.old.written) }
+    ensures calls { GoesInParts (room_in place.now.layout) (used_by taken.old.records) taken.old.written
+        (used_by taken.old.records) (S.view station.old).calls (S.view station.new).calls }
+    ensures cost { (S.view station.new).travel.written ≤ (S.view station.old).travel.written +
+        segment_size place.now.layout * (used_by taken.old.records - taken.old.written) }
 {
     let rest = taken.records - SEGMENT_RECORDS * taken.written;
     if rest == 0 {

@@ -1,7 +1,6 @@
 //! A text is read to its end, and its records are packed into the region that isn't live.
 
-ghost use Rattle.std.specs.Prelude.{◌≡◌, ℕ, ◌+◌, ◌*◌, ◌^◌, ◌<◌, ◌≤◌, ◌==◌, ◌&&◌, not, true, false, List, [], length, OnOk, IfOk, IfErr, IsErrOf, IsSome, IfSome};
-ghost use Rattle.station.specs.View.{Rose};
+ghost use Rattle.std.specs.Prelude.{◌≡◌, ℕ, ◌+◌, ◌*◌, ◌^◌, ◌<◌, ◌≤◌, ◌==◌, ◌&&◌, not, true, false, List, length, IfOk, IfErr, IsSome, IfSome};
 ghost use Rattle.station.specs.Steps.{Steps};
 ghost use Rattle.header_gate.specs.Places.{height_limit, segment_size};
 ghost use Rattle.key_slot.specs.Format.{wide};
@@ -11,15 +10,15 @@ ghost use Rattle.command_text.specs.declared.load.LoadLine.TheVariants as load;
 ghost use Rattle.map_model.specs.Regions.{Spares};
 ghost use Rattle.line_source.specs.SourceView.{SourceView, SourceTold, Went};
 ghost use Rattle.line_source.specs.LineStep.{Takes};
-ghost use Rattle.line_source.specs.ReaderView.{ReaderView};
+ghost use Rattle.line_source.specs.LineReaderView.{ReaderView};
 ghost use Rattle.line_source.specs.Progress.{HasGiven};
-ghost use Rattle.bulk_load.specs.Faults.{IsReadingFault};
-ghost use Rattle.bulk_load.specs.Loading.{IsUnread, TakesAtMost};
+ghost use Rattle.bulk_load.specs.LoadFaults.{IsReadingFault};
+ghost use Rattle.bulk_load.specs.LoadLines.{IsUnread};
 ghost use Rattle.bulk_load.specs.Loads.{most_records};
 ghost use Rattle.bulk_load.specs.Packing.{CanFill, goes_on_by, WritesRuns, room_in};
-ghost use Rattle.segment_frames.specs.Parts.{parts};
+ghost use Rattle.segment_frames.specs.SegmentParts.{parts};
 ghost use Rattle.bulk_load.specs.Spreading.{used_by};
-ghost use Rattle.bulk_load.specs.Reading.{IsNextEntry, FitsLine, IsTaking, TakesOn, IsRead};
+ghost use Rattle.bulk_load.specs.TextReading.{IsNextEntry, FitsLine, IsTaking, TakesOn, IsRead, ReadsText};
 
 use crate::fault::LoadFault;
 use crate::packing::Taken;
@@ -43,19 +42,23 @@ pub(crate) fn read_text<I: Source, S: Station>(
 ) -> Result<Taken, LoadFault>
     requires can { CanFill place.now frames.old (S.view station.old) }
     requires unread { IsUnread reader.old }
-    ensures read { IfOk result (λ taken. (rows : List Record) × IsRead place.now reader.old (I.view source.old) rows taken frames.new (S.view station.new)) }
-    ensures whole { OnOk result (SourceTold (I.view source.old) → ((I.view source.new).left ≡ []) × (length (I.view source.old).left < reader.old.room)) }
-    ensures faulty { IfErr result (IsReadingFault place.now.layout.format (most_records place.now.layout) reader.old (I.view source.old) (I.view source.new)) }
-    ensures takes { SourceTold (I.view source.old) → TakesAtMost reader.old.room (I.view source.old) (I.view source.new) }
+    ensures read { IfOk result (λ taken. (rows : List Record) ×
+        IsRead place.now reader.old (I.view source.old) rows taken frames.new (S.view station.new)) }
+    ensures reading { ReadsText reader.old result (I.view source.old) (I.view source.new) (S.view station.old)
+        (S.view station.new) }
+    ensures faulty { IfErr result (IsReadingFault place.now.layout.format (most_records place.now.layout) reader.old
+        (I.view source.old) (I.view source.new)) }
     ensures journal { frames.new.journal ≡ frames.old.journal }
     ensures turn { frames.new.turn ≡ frames.old.turn }
     ensures steps { Steps (Spares place.now.layout place.now.region) (S.view station.old) (S.view station.new) }
-    ensures cost { IfOk result (λ taken. (S.view station.new).travel.written ≤ (S.view station.old).travel.written + segment_size place.now.layout * taken.written) }
-    ensures calls { IfOk result (λ taken. WritesRuns (room_in place.now.layout) 0 taken.written (S.view station.old).calls (S.view station.new).calls) }
-    ensures most_cost { (S.view station.new).travel.written ≤ (S.view station.old).travel.written + segment_size place.now.layout * 2 ^ height_limit place.now.layout }
-    ensures most_calls { (S.view station.new).calls ≤ (S.view station.old).calls + parts (room_in place.now.layout) (used_by (most_records place.now.layout)) }
-    ensures failed { IsErrOf result LoadFault.Disk → Rose (S.view station.old).disk_faults (S.view station.new).disk_faults }
-    ensures went { Went (I.view source.old) (I.view source.new) }
+    ensures cost { IfOk result (λ taken. (S.view station.new).travel.written ≤ (S.view station.old).travel.written +
+        segment_size place.now.layout * taken.written) }
+    ensures calls { IfOk result (λ taken. WritesRuns (room_in place.now.layout) 0 taken.written (S.view station.old).calls
+        (S.view station.new).calls) }
+    ensures most_cost { (S.view station.new).travel.written ≤ (S.view station.old).travel.written +
+        segment_size place.now.layout * 2 ^ height_limit place.now.layout }
+    ensures most_calls { (S.view station.new).calls ≤ (S.view station.old).calls +
+        parts (room_in place.now.layout) (used_by (most_records place.now.layout)) }
 {
     start_shares(frames, place.layout.format, batch_room(&place.layout));
     // Each line has a byte at least, so their number is no greater.
@@ -69,10 +72,7 @@ pub(crate) fn read_text<I: Source, S: Station>(
     let mut lines: u64 = 0;
     while let Some(line) = next_entry(reader, source, place.layout.format)? {
         lines += 1;
-        match take_line(station, place, frames, &mut taken, &line, lines) {
-            Ok(()) => {}
-            Err(fault) => return Err(fault),
-        }
+        take_line(station, place, frames, &mut taken, &line, lines)?;
     }
     if taken.ended {
         Ok(taken)
@@ -91,10 +91,13 @@ fn next_entry<I: Source>(
 ) -> Result<Option<LoadLine>, LoadFault>
     requires fresh { reader.old.done ≡ false }
     requires format { format ≤ wide }
-    ensures next { (r0 : ReaderView) (s0 : SourceView) (given : List (List ℕ)) → HasGiven r0 s0 given reader.old (I.view source.old) → IsNextEntry format result r0 s0 given reader.new (I.view source.new) }
+    ensures next { (r0 : ReaderView) (s0 : SourceView) (given : List (List ℕ)) →
+        HasGiven r0 s0 given reader.old (I.view source.old) →
+        IsNextEntry format result r0 s0 given reader.new (I.view source.new) }
     ensures takes { SourceTold (I.view source.old) → Takes reader.old (I.view source.old) reader.new (I.view source.new) }
     ensures fits { IfOk result (λ next. IfSome next (FitsLine format)) }
-    ensures falls { IfOk result (λ next. IsSome next → reader.new.room + length reader.new.held < reader.old.room + length reader.old.held) }
+    ensures falls { IfOk result (λ next. IsSome next →
+        reader.new.room + length reader.new.held < reader.old.room + length reader.old.held) }
     ensures fresh { IfOk result (λ next. IsSome next → reader.new.done ≡ false) }
     ensures went { Went (I.view source.old) (I.view source.new) }
 {
@@ -119,7 +122,8 @@ fn take_line<S: Station>(
     requires can { CanFill place.now frames.old (S.view station.old) }
     requires taking { IsTaking place.now.layout taken.old frames.old }
     requires fits { FitsLine place.now.layout.format line.now }
-    ensures { TakesOn place.now number line.now result taken.old taken.new frames.old frames.new (S.view station.old) (S.view station.new) }
+    ensures { TakesOn place.now number line.now result taken.old taken.new frames.old frames.new (S.view station.old)
+        (S.view station.new) }
 {
     match line {
         LoadLine::Nothing => Ok(()),
@@ -172,10 +176,9 @@ fn take_row<S: Station>(
     requires taking { IsTaking place.now.layout taken.old frames.old }
     requires goes_on { goes_on_by taken.old (record_of row.now) ≡ true }
     requires fits { FitsLine place.now.layout.format (load.Row row.now) }
-    ensures { (k : ℕ) → TakesOn place.now k (load.Row row.now) result taken.old taken.new frames.old frames.new (S.view station.old) (S.view station.new) }
+    ensures { (k : ℕ) → TakesOn place.now k (load.Row row.now) result taken.old taken.new frames.old frames.new
+        (S.view station.old) (S.view station.new) }
 {
-    match take_result(station, place, frames, taken, row) {
-        Ok(()) => Ok(()),
-        Err(fault) => Err(fault),
-    }
+    take_result(station, place, frames, taken, row)?;
+    Ok(())
 }

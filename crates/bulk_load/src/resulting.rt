@@ -4,12 +4,12 @@
 ghost use Rattle.std.specs.Prelude.{◌≡◌, ◌∷◌, [], T, true};
 ghost use Rattle.key_slot.specs.Record.{is_record};
 ghost use Rattle.key_slot.specs.Row.{record_of};
-ghost use Rattle.map_model.specs.Reasons.{begins_above};
+ghost use Rattle.map_model.specs.FileReasons.{begins_above};
 ghost use Rattle.bulk_load.specs.Packing.{CanFill};
-ghost use Rattle.bulk_load.specs.Reading.{IsTaking};
+ghost use Rattle.bulk_load.specs.TextReading.{IsTaking};
 ghost use Rattle.bulk_load.specs.Resulting.{PacksRow};
 
-use crate::fault::{LoadFault, of_file};
+use crate::fault::LoadFault;
 use crate::packing::{Taken, pack};
 use density_rule::upper;
 use key_slot::Row;
@@ -28,14 +28,13 @@ pub(crate) fn take_result<S: Station>(
     requires taking { IsTaking place.now.layout taken.old frames.old }
     requires above { begins_above taken.old.last (record_of row.now ∷ []) ≡ true }
     requires fits { T (is_record place.now.layout.format (record_of row.now)) }
-    ensures { PacksRow place.now (record_of row.now) result taken.old taken.new frames.old frames.new (S.view station.old) (S.view station.new) }
+    ensures { PacksRow place.now (record_of row.now) result taken.old taken.new frames.old frames.new (S.view station.old)
+        (S.view station.new) }
 {
     let most = upper(place.layout.height_limit());
     if taken.records == most {
         return Err(LoadFault::Full { most });
     }
-    match pack(station, place, frames, taken, row) {
-        Ok(()) => Ok(()),
-        Err(fault) => Err(of_file(fault)),
-    }
+    pack(station, place, frames, taken, row)?;
+    Ok(())
 }

@@ -9,12 +9,12 @@ ghost use Rattle.key_slot.specs.Record.{Record};
 ghost use Rattle.map_model.specs.Array.{spread_over};
 ghost use Rattle.map_model.specs.Regions.{Spares};
 ghost use Rattle.resize_region.specs.Spare.{HasWritten};
-ghost use Rattle.bulk_load.specs.Faults.{IsFileFault, IsNoDamage, IsShownBy};
+ghost use Rattle.bulk_load.specs.LoadFaults.{IsFileFault, IsNoDamage, IsShownBy};
 ghost use Rattle.bulk_load.specs.Loads.{most_records, IsLeastHeight};
 ghost use Rattle.bulk_load.specs.Packing.{CanFill, IsTaken, HasPacked, WritesRuns, room_in};
 ghost use Rattle.bulk_load.specs.Spreading.{load_calls, used_by};
 
-use crate::fault::{LoadFault, of_file};
+use crate::fault::LoadFault;
 use crate::loading::{least_height, segments_at};
 use crate::packing::{Taken, flush_rest};
 use crate::spreading::spread_spare;
@@ -67,11 +67,7 @@ pub(crate) fn spread_taken<S: Station>(
     let records = taken.records;
     let height = least_height(records, place.layout.height_limit());
     let segments = segments_at(height);
-    match flush_rest(station, place, frames, taken) {
-        Ok(()) => match spread_spare(station, place, frames, records, segments) {
-            Ok(()) => Ok(height),
-            Err(fault) => Err(of_file(fault)),
-        },
-        Err(fault) => Err(of_file(fault)),
-    }
+    flush_rest(station, place, frames, taken)?;
+    spread_spare(station, place, frames, records, segments)?;
+    Ok(height)
 }

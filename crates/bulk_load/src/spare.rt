@@ -34,12 +34,14 @@ pub(crate) fn read_spare<S: Station>(
     requires inside { segment + count ≤ 2 ^ height_limit place.now.layout }
     ensures read { OnOk result (Told (S.view station.old) → (i : ℕ) → i < count →
         page_at place.now.layout.format frames.new.slots i ≡ spare_bytes place.now (segment + i) (S.view station.old).held) }
-    ensures behind { (p : ℕ) → SEGMENT_SLOTS * place.now.layout.format * count ≤ p → get_or frames.new.slots p [] ≡ get_or frames.old.slots p [] }
+    ensures behind { (p : ℕ) → SEGMENT_SLOTS * place.now.layout.format * count ≤ p →
+        get_or frames.new.slots p [] ≡ get_or frames.old.slots p [] }
     ensures frames { IsFrames frames.new }
     ensures rest { frames.new ≡ record frames.old { slots = frames.new.slots } }
     ensures steps { Steps Same (S.view station.old) (S.view station.new) }
     ensures unwritten { (S.view station.new).travel.written ≡ (S.view station.old).travel.written }
-    ensures read_bytes { (S.view station.new).travel.read ≤ (S.view station.old).travel.read + segment_size place.now.layout * count }
+    ensures read_bytes { (S.view station.new).travel.read ≤ (S.view station.old).travel.read +
+        segment_size place.now.layout * count }
     ensures calls { (S.view station.new).calls ≤ (S.view station.old).calls + 1 }
     ensures fault { IfErr result (λ fault. fault ≡ StoreFault.Failed) }
     ensures failed { IsErrOf result StoreFault.Failed → Rose (S.view station.old).disk_faults (S.view station.new).disk_faults }
@@ -67,12 +69,15 @@ pub(crate) fn write_spare<S: Station>(
     requires room { f + count ≤ places place.now.layout.format frames.now }
     requires some { 1 ≤ count }
     requires inside { segment + count ≤ 2 ^ height_limit place.now.layout }
-    ensures written { OnOk result (Told (S.view station.old) → (i : ℕ) → i < count → FitsSegment place.now.layout.format (share_in place.now.layout.format (f + i) frames.now) →
+    ensures written { OnOk result (Told (S.view station.old) → (i : ℕ) → i < count →
+        FitsSegment place.now.layout.format (share_in place.now.layout.format (f + i) frames.now) →
         IsSegment place.now.layout.format (share_in place.now.layout.format (f + i) frames.now) (spare_bytes place.now (segment + i) (S.view station.new).held)) }
-    ensures others { Told (S.view station.old) → (i : ℕ) → i < 2 ^ height_limit place.now.layout → (i < segment) ⊎ (segment + count ≤ i) →
+    ensures others { Told (S.view station.old) → (i : ℕ) → i < 2 ^ height_limit place.now.layout → (i < segment) ⊎
+        (segment + count ≤ i) →
         spare_bytes place.now i (S.view station.new).held ≡ spare_bytes place.now i (S.view station.old).held }
     ensures steps { Steps (Spares place.now.layout place.now.region) (S.view station.old) (S.view station.new) }
-    ensures cost { (S.view station.new).travel.written ≤ (S.view station.old).travel.written + segment_size place.now.layout * count }
+    ensures cost { (S.view station.new).travel.written ≤ (S.view station.old).travel.written +
+        segment_size place.now.layout * count }
     ensures no_reads { (S.view station.new).travel.read ≡ (S.view station.old).travel.read }
     ensures calls { (S.view station.new).calls ≤ (S.view station.old).calls + 1 }
     ensures fault { IfErr result (λ fault. fault ≡ StoreFault.Failed) }

@@ -17,7 +17,7 @@ ghost use Rattle.resize_region.specs.Spare.{HasWritten};
 ghost use Rattle.resize_region.specs.Shares.{places, HasShares, share_in};
 ghost use Rattle.bulk_load.specs.Packing.{CanFill, AreRows, HasPacked, room_in};
 ghost use Rattle.bulk_load.specs.Spreading.{used_by, IsPacked, ArePacked, ReadsPacked, HasCause, TriesParts};
-ghost use Rattle.segment_frames.specs.Parts.{GoesInParts};
+ghost use Rattle.segment_frames.specs.SegmentParts.{GoesInParts};
 ghost use Rattle.resize_region.specs.Source.{copy_calls};
 
 use crate::packed::{Packed, read_packed, take_last, used_by};
@@ -59,19 +59,25 @@ pub(crate) fn spread_spare<S: Station>(
 ) -> Result<(), StoreFault>
     requires can { CanFill place.now frames.old (S.view station.old) }
     requires shares { HasShares place.now.layout.format frames.old }
-    requires empty { (i : ℕ) → i < places place.now.layout.format frames.old → share_in place.now.layout.format i frames.old ≡ [] }
+    requires empty { (i : ℕ) → i < places place.now.layout.format frames.old →
+        share_in place.now.layout.format i frames.old ≡ [] }
     requires some { 1 ≤ segments }
     requires inside { segments ≤ 2 ^ height_limit place.now.layout }
     requires room { records ≤ SEGMENT_RECORDS * segments }
-    ensures spread { OnOk result (Told (S.view station.old) → (rows : List Record) → AreRows place.now.layout.format rows → length rows ≡ records →
+    ensures spread { OnOk result (Told (S.view station.old) → (rows : List Record) → AreRows place.now.layout.format rows →
+        length rows ≡ records →
         HasPacked place.now rows (used_by records) (S.view station.old).held → HasWritten place.now (spread_over segments rows) segments (S.view station.new).held) }
     ensures journal { frames.new.journal ≡ frames.old.journal }
     ensures turn { frames.new.turn ≡ frames.old.turn }
     ensures steps { Steps (Spares place.now.layout place.now.region) (S.view station.old) (S.view station.new) }
-    ensures cost { (S.view station.new).travel.written ≤ (S.view station.old).travel.written + segment_size place.now.layout * segments }
-    ensures read_bytes { (S.view station.new).travel.read ≤ (S.view station.old).travel.read + segment_size place.now.layout * used_by records }
-    ensures calls { (S.view station.new).calls ≤ (S.view station.old).calls + copy_calls (room_in place.now.layout) (used_by records) segments }
-    ensures damaged { IfErr result (λ fault. Told (S.view station.old) → (rows : List Record) → AreRows place.now.layout.format rows → length rows ≡ records →
+    ensures cost { (S.view station.new).travel.written ≤ (S.view station.old).travel.written +
+        segment_size place.now.layout * segments }
+    ensures read_bytes { (S.view station.new).travel.read ≤ (S.view station.old).travel.read +
+        segment_size place.now.layout * used_by records }
+    ensures calls { (S.view station.new).calls ≤ (S.view station.old).calls +
+        copy_calls (room_in place.now.layout) (used_by records) segments }
+    ensures damaged { IfErr result (λ fault. Told (S.view station.old) → (rows : List Record) →
+        AreRows place.now.layout.format rows → length rows ≡ records →
         HasPacked place.now rows (used_by records) (S.view station.old).held → fault ≡ StoreFault.Failed) }
     ensures cause { IfErr result (HasCause place.now.layout.format records frames.new) }
     ensures failed { IsErrOf result StoreFault.Failed → Rose (S.view station.old).disk_faults (S.view station.new).disk_faults }
@@ -116,11 +122,15 @@ fn fill_places<S: Station>(
     requires rest { packed.old.rest ≡ (part.low + part.count) * part.records / part.segments }
     requires frames { packed.old.room + part.count ≤ places place.now.layout.format frames.old }
     requires empty { (i : ℕ) → i < part.count → share_in place.now.layout.format (packed.old.room + i) frames.old ≡ [] }
-    ensures reads { ReadsPacked place.now part.records result packed.old packed.new frames.old frames.new (S.view station.old) (S.view station.new) }
-    ensures calls { OnOk result (GoesInParts packed.old.room (used_by part.records) (used_by part.records - packed.old.unread) (used_by part.records - packed.new.unread) (S.view station.old).calls (S.view station.new).calls) }
-    ensures tried { TriesParts packed.old.room (used_by part.records) (used_by part.records - packed.old.unread) (S.view station.old).calls (S.view station.new).calls }
+    ensures reads { ReadsPacked place.now part.records result packed.old packed.new frames.old frames.new (S.view station.old)
+        (S.view station.new) }
+    ensures calls { OnOk result (GoesInParts packed.old.room (used_by part.records) (used_by part.records - packed.old.unread)
+        (used_by part.records - packed.new.unread) (S.view station.old).calls (S.view station.new).calls) }
+    ensures tried { TriesParts packed.old.room (used_by part.records) (used_by part.records - packed.old.unread)
+        (S.view station.old).calls (S.view station.new).calls }
     ensures rest { OnOk result (packed.new.rest ≡ part.low * part.records / part.segments) }
-    ensures filled { OnOk result (Told (S.view station.old) → (rows : List Record) → ArePacked place.now part.records rows packed.old frames.old (S.view station.old).held →
+    ensures filled { OnOk result (Told (S.view station.old) → (rows : List Record) →
+        ArePacked place.now part.records rows packed.old frames.old (S.view station.old).held →
         (i : ℕ) → i < part.count → share_in place.now.layout.format (packed.old.room + i) frames.new ≡ segment_at (spread_over part.segments rows) (part.low + i)) }
 {
     let mut f = part.count;
@@ -153,11 +163,15 @@ fn fill_share<S: Station>(
     requires none { share_in place.now.layout.format to.index frames.old ≡ [] }
     requires few { to.size ≤ SEGMENT_RECORDS }
     requires enough { to.size ≤ packed.old.rest }
-    ensures reads { ReadsPacked place.now records result packed.old packed.new frames.old frames.new (S.view station.old) (S.view station.new) }
-    ensures calls { OnOk result (GoesInParts packed.old.room (used_by records) (used_by records - packed.old.unread) (used_by records - packed.new.unread) (S.view station.old).calls (S.view station.new).calls) }
-    ensures tried { TriesParts packed.old.room (used_by records) (used_by records - packed.old.unread) (S.view station.old).calls (S.view station.new).calls }
+    ensures reads { ReadsPacked place.now records result packed.old packed.new frames.old frames.new (S.view station.old)
+        (S.view station.new) }
+    ensures calls { OnOk result (GoesInParts packed.old.room (used_by records) (used_by records - packed.old.unread)
+        (used_by records - packed.new.unread) (S.view station.old).calls (S.view station.new).calls) }
+    ensures tried { TriesParts packed.old.room (used_by records) (used_by records - packed.old.unread) (S.view station.old).calls
+        (S.view station.new).calls }
     ensures rest { OnOk result (packed.new.rest + to.size ≡ packed.old.rest) }
-    ensures filled { OnOk result (Told (S.view station.old) → (rows : List Record) → ArePacked place.now records rows packed.old frames.old (S.view station.old).held →
+    ensures filled { OnOk result (Told (S.view station.old) → (rows : List Record) →
+        ArePacked place.now records rows packed.old frames.old (S.view station.old).held →
         share_in place.now.layout.format to.index frames.new ≡ slice_range rows packed.new.rest packed.old.rest) }
     ensures others { OnOk result ((i : ℕ) → packed.old.room ≤ i → i < places place.now.layout.format frames.old → i ≢ to.index →
         share_in place.now.layout.format i frames.new ≡ share_in place.now.layout.format i frames.old) }

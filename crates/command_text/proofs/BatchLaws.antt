@@ -14,7 +14,7 @@ use Rattle.batch_intent.specs.declared.intent.TheConstants.{MOST_ITEMS}
 use Rattle.batch_intent.specs.declared.places.TheConstants.{INTENT_SIZE}
 use Rattle.batch_intent.specs.Spelling.{intent_bytes, bound_value, fits_item}
 use Rattle.command_text.specs.declared.command.Command.TheVariants.{OversizedKey, OversizedValue}
-use Rattle.command_text.specs.Batch.{is_separator, parts, is_item_form, item_of, items_of, is_batch_form, first_oversized}
+use Rattle.command_text.specs.BatchForm.{is_separator, parts, is_item_form, item_of, items_of, is_batch_form, first_oversized}
 use Rattle.command_text.proofs.WordLaws.{AreWords}
 
 -- two tests that hold

@@ -12,7 +12,7 @@ use Rattle.batch_intent.specs.declared.intent.TheConstants.{MOST_ITEMS}
 use Rattle.batch_intent.specs.declared.places.TheConstants.{INTENT_SIZE}
 use Rattle.batch_intent.specs.Spelling.{item_bytes, intent_bytes}
 use Rattle.command_text.specs.Words.{words}
-use Rattle.command_text.specs.Batch.{is_separator, parts, is_item_form, item_of, items_of, is_batch_form}
+use Rattle.command_text.specs.BatchForm.{is_separator, parts, is_item_form, item_of, items_of, is_batch_form}
 use Rattle.command_text.specs.BatchWords.{item_read, parts_behind, BeginsWith, BeginsWithValue, IsItemWord, IsItemEnd, EndsItem}
 
 -- The first part of words.

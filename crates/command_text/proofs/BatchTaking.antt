@@ -7,7 +7,8 @@ use Rattle.std.proofs.lemmas.List.Concat.{flat_map-append}
 use Rattle.std.proofs.lemmas.List.Splits.{length-slice_split}
 use Rattle.std.proofs.Math.Seq.{take-append_seam, get_or-append_seam}
 use Rattle.map_model.specs.Store.{Update, key_of}
-use Rattle.map_model.specs.Items.{has_item, are_distinct}
+use Rattle.map_model.specs.Items.{are_distinct}
+use Rattle.map_model.specs.ItemWords.{has_item}
 use Rattle.map_model.proofs.Resuming.{none_before}
 use Rattle.batch_intent.specs.declared.intent.IntentFault.{IntentFault}
 use Rattle.batch_intent.specs.declared.intent.IntentFault.TheVariants.{TooMany, Repeated, TooLong}
@@ -18,7 +19,7 @@ use Rattle.batch_intent.specs.Spelling.{item_bytes, intent_bytes}
 use Rattle.command_text.specs.Words.{words}
 use Rattle.command_text.specs.declared.command.Command.{Command}
 use Rattle.command_text.specs.declared.command.Command.TheVariants.{Batch, RepeatedKey}
-use Rattle.command_text.specs.Batch.{is_separator, parts, is_item_form, item_of, items_of, is_batch_form, first_oversized, if_sized}
+use Rattle.command_text.specs.BatchForm.{is_separator, parts, is_item_form, item_of, items_of, is_batch_form, first_oversized, if_sized}
 use Rattle.command_text.specs.BatchWords.{item_read, parts_behind, BeginsWith}
 use Rattle.command_text.proofs.BatchLaws.{forms_of}
 

@@ -1,5 +1,5 @@
 -- What whole batches are answered, and what a session is charged for one, as they are known from outside.
-use Rattle.std.proofs.Common.{◌≡◌, ℕ, suc, ◌+◌, false, cond, nat_lt, List, [], ◌∷◌, Some, None, Option, is_none, is_some, map, length, refl, ap, ◌∙◌}
+use Rattle.std.proofs.Common.{◌≡◌, ℕ, suc, ◌+◌, Bool, false, cond, nat_lt, List, [], ◌∷◌, Some, None, Option, is_none, is_some, map, length, refl, ap, ◌∙◌}
 use Rattle.std.specs.Prelude.{codes}
 use Rattle.std.specs.FinMap.{empty, contains_key, insert, len, get-empty, get-insert, len-empty, len-insert}
 use Rattle.std.specs.Cmp.Lexicographic.{nat_list_cmp_total}
@@ -14,8 +14,11 @@ use Rattle.map_model.specs.Array.{Array, spread, spread_over, segment_for}
 use Rattle.map_model.specs.ArrayState.{ArrayState}
 use Rattle.map_model.specs.ArrayUpdates.{broken_for, ready_for, array_after}
 use Rattle.map_model.specs.Charges.{charge_after}
-use Rattle.map_model.specs.Items.{no_items, count_items, charge_after_items, first_full, is_full}
-use Rattle.map_model.specs.Store.{Map, State, Update, bind, unbind, map_after, height_after, effect_by, effect_map, effect_height}
+use Rattle.map_model.specs.Items.{first_full, is_full}
+use Rattle.map_model.specs.ItemWords.{no_items, count_items, charge_after_items}
+use Rattle.map_model.specs.Store.{Map, State, Update, bind, unbind, effect_by, effect_map, effect_height}
+use Rattle.map_model.specs.After.{map_after, height_after}
+use Rattle.map_model.proofs.ItemEffects.{accepts_by}
 use Rattle.map_model.proofs.Resuming.{meets_full, removal_fits}
 use Rattle.cost_ledger.specs.Ledger.{LedgerView, empty_ledger, noted, cost_of}
 use Rattle.command_text.specs.Answers.{map_answers, batch_or_full}
@@ -67,7 +70,8 @@ module _ (m : Map) (no_x : contains_key m (codes "x") ≡ false) (no_y : contain
   -- and its items are in no ledger
   no_update : (array : Array) (marks : Marks) (ledger : LedgerView) → ledger_step (of_version 2) (record { map = m; height = 0; array = array; marks = marks }) (Batch (put_x ∷ put_y ∷ [])) ledger ≡ noted 0 0 ledger
   no_update array marks ledger =
-      ap (λ (i : Option ℕ). let made = cond (is_none i) (put_x ∷ put_y ∷ []) [] in noted (length made) (charge_after_items 0 (record { map = m; height = 0; array = array; marks = marks }) made) ledger) second_is_full
+      ap (λ (b : Bool). let made = cond b (put_x ∷ put_y ∷ []) [] in noted (length made) (charge_after_items 0 (record { map = m; height = 0; array = array; marks = marks }) made) ledger)
+      (accepts_by 2 0 m (put_x ∷ put_y ∷ []) ∙ ap (λ (i : Option ℕ). is_none i) second_is_full)
 
 -- An empty store, and a batch of two puts and of a removal that finds nothing.
 
@@ -126,5 +130,6 @@ charges =
 -- three updates of which two are charged, in a session that begins with the empty store
 session_cost : session_answers (of_version 2) (session_step (of_version 2) (session_from fresh) (Batch items)) Cost ≡ reply.Cost (record { updates = 3; charge = 4; bound = 1574 }) ∷ []
 session_cost =
-    ap (λ (i : Option ℕ). let made = cond (is_none i) items [] in reply.Cost (cost_of (noted (length made) (charge_after_items 0 fresh made) (empty_ledger 0))) ∷ []) admitted
+    ap (λ (b : Bool). let made = cond b items [] in reply.Cost (cost_of (noted (length made) (charge_after_items 0 fresh made) (empty_ledger 0))) ∷ [])
+    (accepts_by 2 0 nothing items ∙ ap (λ (i : Option ℕ). is_none i) admitted)
     ∙ ap (λ (n : ℕ). reply.Cost (cost_of (noted 3 n (empty_ledger 0))) ∷ []) charges

@@ -1,6 +1,6 @@
 -- What holds of each command that a line may ask for: of each kind of command, with records, keys and bounds that fit the
 -- slot format.
-use Rattle.std.proofs.Common.{◌≡◌, ℕ, suc, ◌+◌, ◌*◌, ◌<◌, ◌≤◌, Bool, true, false, cond, List, [], ◌∷◌, T, length, nat_lt, ◌==◌, Option, Some, None, refl, sym, ap, ◌∙◌, arith, ne_eqb}
+use Rattle.std.proofs.Common.{◌≡◌, ℕ, suc, ◌+◌, ◌*◌, ◌<◌, ◌≤◌, Bool, true, false, cond, List, [], ◌∷◌, T, length, nat_lt, ◌==◌, Option, Some, None, refl, sym, ap, subst, ◌∙◌, arith, ne_eqb}
 use Rattle.std.specs.Prelude.{if◌then◌else◌, slice_index, codes}
 use Rattle.std.specs.List.{list_all}
 use Rattle.std.specs.Str.{bytes_eq}
@@ -15,18 +15,20 @@ use Rattle.header_gate.specs.declared.layout.Layout.{Layout}
 use Rattle.header_gate.specs.Places.{height_limit}
 use Rattle.map_model.specs.Items.{are_distinct, accepts}
 use Rattle.batch_intent.specs.Spelling.{IsIntent, fits_item, bound_value}
-use Rattle.command_text.specs.Batch.{parts, items_of, is_batch_form, first_oversized, if_sized, batch_of}
+use Rattle.command_text.specs.BatchForm.{parts, items_of, is_batch_form, first_oversized, if_sized, batch_by_form}
 use Rattle.command_text.specs.Updates.{updates_asked, updates_made}
 use Rattle.command_text.specs.Words.{words}
 use Rattle.command_text.specs.Number.{number_of, if_positive}
-use Rattle.command_text.specs.Command.{IsKey, IsBound, with_key, with_value, with_bound, with_number, put_read, keyed, range_of, alone, probe_of, open_of, cursor_named, command_of_words, command_of}
-use Rattle.command_text.specs.Reading.{bounded, opened_between}
+use Rattle.command_text.specs.Command.{IsKey, IsBound, with_bound, command_of}
+use Rattle.command_text.specs.ByName.{key_then, value_then, number_then, put_read, keyed, range_of, alone, probe_of, open_of, cursor_named, command_by_name}
+use Rattle.command_text.specs.LineReading.{bounded, opened_between}
 use Rattle.command_text.specs.declared.command.Command.{Command}
 use Rattle.command_text.specs.declared.command.Command.TheVariants.{Nothing, Put, Remove, Batch, Get, Range, Check, Probe, Cost, Open, Next, Prev, Close, OversizedKey, OversizedValue, RepeatedKey, Bad}
 use Rattle.command_text.specs.declared.command.Why.TheVariants as why
 use Rattle.command_text.proofs.WordLaws.{AreWords, words_are}
 use Rattle.command_text.proofs.Spans.{span, words_span, batch_span}
 use Rattle.command_text.proofs.BatchLaws.{forms_of, some_items, all_words, keys_are, all_fit}
+use Rattle.command_text.proofs.ByNameLaws.{by_name}
 
 -- a property that each kind of command has, in a line of n bytes
 pub record OfEachKind (f n : ℕ) (P : Command → Type 0) : Type 0 where
@@ -62,23 +64,23 @@ module _ (f n : ℕ) (P : Command → Type 0) (each : OfEachKind f n P) where
   either true x y first second = first refl
   either false x y first second = second refl
 
-  of_key : (word : List ℕ) (next : List ℕ → Command) → 0 < length word → ((key : List ℕ) → IsKey f key → P (next key)) → P (with_key f word next)
+  of_key : (word : List ℕ) (next : List ℕ → Command) → 0 < length word → ((key : List ℕ) → IsKey f key → P (next key)) → P (key_then f word next)
   of_key word next some holds =
       let key = percent_decode word in
       either (nat_lt (key_room f) (length key)) OversizedKey (next key) (λ e. each.oversized_key)
       (λ e. holds key (omega (arith, (length-percent_decode word).1, some), ltb-false (key_room f) (length key) e))
 
-  of_value : (word : List ℕ) (next : List ℕ → Command) → ((value : List ℕ) → length value ≤ value_room f → P (next value)) → P (with_value f word next)
+  of_value : (word : List ℕ) (next : List ℕ → Command) → ((value : List ℕ) → length value ≤ value_room f → P (next value)) → P (value_then f word next)
   of_value word next holds =
       let value = percent_decode word in
       either (nat_lt (value_room f) (length value)) OversizedValue (next value) (λ e. each.oversized_value) (λ e. holds value (ltb-false (value_room f) (length value) e))
 
   of_bound : (word : List ℕ) (next : Option (List ℕ) → Command) → 0 < length word → ((bound : Option (List ℕ)) → IsBound f bound → P (next bound)) → P (with_bound f word next)
   of_bound word next some holds =
-      either (bytes_eq word (codes "*")) (next None) (with_key f word (λ key. next (Some key))) (λ e. holds None tt)
+      either (bytes_eq word (codes "*")) (next None) (key_then f word (λ key. next (Some key))) (λ e. holds None tt)
       (λ e. of_key word (λ key. next (Some key)) some (λ key is. holds (Some key) is))
 
-  of_number : (n : Option ℕ) (next : ℕ → Command) → ((m : ℕ) → n ≡ Some m → P (next m)) → P (with_number n next)
+  of_number : (n : Option ℕ) (next : ℕ → Command) → ((m : ℕ) → n ≡ Some m → P (next m)) → P (number_then n next)
   of_number None next holds = each.bad_number
   of_number (Some n) next holds = holds n refl
 
@@ -89,7 +91,7 @@ module _ (f n : ℕ) (P : Command → Type 0) (each : OfEachKind f n P) where
   put_holds [] are short = each.bad_words
   put_holds (k ∷ []) are short = of_key k (λ key. Put key []) are.0 (λ key is. each.puts key [] (record_is key [] is (omega arith)) (omega (arith, short, are.0)))
   put_holds (k ∷ v ∷ []) are short =
-      of_key k (λ key. with_value f v (λ value. Put key value)) are.0 (λ key is.
+      of_key k (λ key. value_then f v (λ value. Put key value)) are.0 (λ key is.
       of_value v (λ value. Put key value) (λ value fits. each.puts key value (record_is key value is fits) (omega (arith, short, are.0))))
   put_holds (k ∷ v ∷ w ∷ rest) are short = each.bad_words
 
@@ -105,8 +107,8 @@ module _ (f n : ℕ) (P : Command → Type 0) (each : OfEachKind f n P) where
 
   bounded_holds : (low high : List ℕ) (limit : Option ℕ) → 0 < length low → 0 < length high → P (bounded f low high limit)
   bounded_holds low high limit some_low some_high =
-      of_bound low (λ l. with_bound f high (λ h. with_number limit (λ n. Range l h n))) some_low (λ l l_is.
-      of_bound high (λ h. with_number limit (λ n. Range l h n)) some_high (λ h h_is.
+      of_bound low (λ l. with_bound f high (λ h. number_then limit (λ n. Range l h n))) some_low (λ l l_is.
+      of_bound high (λ h. number_then limit (λ n. Range l h n)) some_high (λ h h_is.
       of_number limit (λ n. Range l h n) (λ n e. each.ranges l h n l_is h_is)))
 
   range_holds : (rest : List (List ℕ)) → AreWords rest → P (range_of f rest)
@@ -124,7 +126,7 @@ module _ (f n : ℕ) (P : Command → Type 0) (each : OfEachKind f n P) where
   probe_holds [] are = each.bad_words
   probe_holds (k ∷ []) are = each.bad_words
   probe_holds (k ∷ b ∷ []) are =
-      of_key k (λ key. with_number (if_positive (number_of b)) (λ n. Probe key n)) are.0 (λ key is.
+      of_key k (λ key. number_then (if_positive (number_of b)) (λ n. Probe key n)) are.0 (λ key is.
       of_number (if_positive (number_of b)) (λ n. Probe key n) (λ n e. each.probes key n is (positive (number_of b) n e)))
   probe_holds (k ∷ b ∷ c ∷ rest) are = each.bad_words
 
@@ -162,7 +164,7 @@ module _ (f n : ℕ) (P : Command → Type 0) (each : OfEachKind f n P) where
   sized_holds (Some refused) us holds batch = holds
   sized_holds None us holds batch = either (are_distinct us) (Batch us) RepeatedKey (batch refl) (λ e. each.repeated_key)
 
-  batch_holds : (rest : List (List ℕ)) → AreWords rest → span rest ≤ n → P (batch_of f rest)
+  batch_holds : (rest : List (List ℕ)) → AreWords rest → span rest ≤ n → P (batch_by_form f rest)
   batch_holds rest are short =
       either (is_batch_form rest) (if_sized (first_oversized f (items_of rest)) (items_of rest)) (Bad why.Words)
       (λ e.
@@ -172,7 +174,7 @@ module _ (f n : ℕ) (P : Command → Type 0) (each : OfEachKind f n P) where
       (all_fit f (items_of rest) (keys_are (parts rest) (all_words rest are) form.items) sized) (omega (arith, short, (batch_span rest are form.items).1))))
       (λ e. each.bad_words)
 
-  words_hold : (ws : List (List ℕ)) → AreWords ws → span ws ≤ n + 1 → P (command_of_words f ws)
+  words_hold : (ws : List (List ℕ)) → AreWords ws → span ws ≤ n + 1 → P (command_by_name f ws)
   words_hold [] are short = each.nothing
   words_hold (name ∷ rest) are short =
       let behind : span rest ≤ n = omega (arith, short) in
@@ -187,7 +189,7 @@ module _ (f n : ℕ) (P : Command → Type 0) (each : OfEachKind f n P) where
       either (bytes_eq name (codes "cost")) _ _ (λ e. alone_holds Cost each.costs rest) (λ e. cursor_holds name rest are.1)))))))))
 
 pub line_holds : (f : ℕ) (P : Command → Type 0) (line : List ℕ) → OfEachKind f (length line) P → P (command_of f line)
-line_holds f P line each = words_hold f (length line) P each (words line) (words_are line) (words_span line)
+line_holds f P line each = subst P (by_name f line) (words_hold f (length line) P each (words line) (words_are line) (words_span line))
 
 -- a line asks for at most half as many updates as it has bytes
 pub few_asked : (f : ℕ) (line : List ℕ) → 2 * length (updates_asked (command_of f line)) ≤ length line

@@ -6,16 +6,17 @@ use Rattle.std.proofs.lemmas.Nat.{pow_pos}
 use Rattle.density_rule.specs.Bounds.{upper_of}
 use Rattle.density_rule.specs.Marks.{marks_step}
 use Rattle.density_rule.specs.Ready.{ready_counts}
-use Rattle.density_rule.specs.Updates.{counts_after, charge_of}
+use Rattle.density_rule.specs.CountUpdates.{counts_after, charge_of}
 use Rattle.header_gate.specs.declared.layout.Layout.{Layout}
 use Rattle.header_gate.specs.Places.{height_limit}
-use Rattle.map_model.specs.Store.{Update, bind, unbind, height_after, key_of, effect_by}
+use Rattle.map_model.specs.Store.{Update, bind, unbind, key_of, effect_by}
+use Rattle.map_model.specs.After.{height_after}
 use Rattle.map_model.specs.Array.{Array, rows, counts_of, segment_for}
 use Rattle.map_model.specs.ArrayState.{ArrayState, IsSoundState, next_state, next_states}
 use Rattle.map_model.specs.ArrayUpdates.{has_key, change_of, broken_for, place_for, array_after, marks_by_change, marks_after, effect_in, effect_change}
 use Rattle.map_model.specs.Charges.{charge_after, effect_charge}
 use Rattle.map_model.specs.Holding.{IsNext}
-use Rattle.map_model.specs.Items.{charge_after_items}
+use Rattle.map_model.specs.ItemWords.{charge_after_items}
 use Rattle.map_model.proofs.Changing.{some_there}
 use Rattle.map_model.proofs.Readying.{broken_is, looked_in_store}
 use Rattle.map_model.proofs.SessionLaws.{next_sound}

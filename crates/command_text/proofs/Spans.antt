@@ -11,7 +11,7 @@ use Rattle.map_model.specs.Store.{bind, unbind}
 use Rattle.batch_intent.specs.declared.places.TheConstants.{INTENT_SIZE}
 use Rattle.batch_intent.specs.Spelling.{item_bytes, intent_bytes}
 use Rattle.command_text.specs.Words.{words}
-use Rattle.command_text.specs.Batch.{is_separator, parts, is_item_form, item_of, items_of}
+use Rattle.command_text.specs.BatchForm.{is_separator, parts, is_item_form, item_of, items_of}
 use Rattle.command_text.proofs.WordLaws.{AreWords, words_are}
 use Rattle.command_text.proofs.BatchLaws.{AreParts, all_words}
 

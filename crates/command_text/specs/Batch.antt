@@ -1,60 +1,37 @@
--- The words of a batch: 1 to 16 items with the word `;` between each two, where an item is `put KEY`, `put KEY VALUE` or
--- `remove KEY`. A word that is `;` alone always stands between items; as a key or a value it is written `%3B`.
-use Rattle.std.specs.Prelude.{ℕ, nat_lt, nat_le, ◌&&◌, ◌||◌, if◌then◌else◌, Bool, false, List, [], ◌∷◌, length, map, Option, Some, None, codes}
-use Rattle.std.specs.List.{slice_split, list_all}
+-- The words of a batch: 1 to 16 items with the word `;` between each two. A word that is `;` alone always stands between items;
+-- as a key or a value it is written `%3B`.
+use Rattle.std.specs.Prelude.{ℕ, nat_le, ◌==◌, ◌&&◌, if◌then◌else◌, List, [], ◌∷◌, length, Option, Some, None, codes}
+use Rattle.std.specs.List.{slice_split, filter_map}
 use Rattle.std.specs.Str.{bytes_eq}
 use Rattle.percent_encoding.specs.Percent.{percent_decode}
-use Rattle.key_slot.specs.Format.{key_room, value_room}
 use Rattle.map_model.specs.Store.{Update, bind, unbind, key_of}
 use Rattle.map_model.specs.Items.{are_distinct}
 use Rattle.batch_intent.specs.declared.intent.TheConstants.{MOST_ITEMS}
 use Rattle.batch_intent.specs.declared.places.TheConstants.{INTENT_SIZE}
 use Rattle.batch_intent.specs.Spelling.{intent_bytes, bound_value}
+use Rattle.command_text.specs.Room.{with_key, with_value}
 use Rattle.command_text.specs.declared.command.Command.{Command}
-use Rattle.command_text.specs.declared.command.Command.TheVariants.{Batch, OversizedKey, OversizedValue, RepeatedKey, Bad}
+use Rattle.command_text.specs.declared.command.Command.TheVariants.{Batch, RepeatedKey, Bad}
 use Rattle.command_text.specs.declared.command.Why.TheVariants as why
 
-abbrev pub is_separator : List ℕ → Bool
-is_separator word = bytes_eq word (codes ";")
+-- the item of words: of `put KEY`, `put KEY VALUE` or `remove KEY`; no value's word is the empty value
+abbrev pub batch_item : List (List ℕ) → Option Update
+batch_item (name ∷ k ∷ []) =
+    if bytes_eq name (codes "put") then Some (bind (percent_decode k) [])
+    else if bytes_eq name (codes "remove") then Some (unbind (percent_decode k)) else None
+batch_item (name ∷ k ∷ v ∷ []) = if bytes_eq name (codes "put") then Some (bind (percent_decode k) (percent_decode v)) else None
+batch_item _ = None
 
--- the words of each item
-abbrev pub parts : List (List ℕ) → List (List (List ℕ))
-parts words = slice_split is_separator words
+-- a command, unless a slot has no room for the key or the value of one of these items, from left to right
+abbrev pub with_items : ℕ → List Update → Command → Command
+with_items f [] command = command
+with_items f (u ∷ us) command = with_key f (key_of u) (with_value f (bound_value u) (with_items f us command))
 
--- whether these are an item's words
-abbrev pub is_item_form : List (List ℕ) → Bool
-is_item_form (name ∷ key ∷ []) = bytes_eq name (codes "put") || bytes_eq name (codes "remove")
-is_item_form (name ∷ key ∷ value ∷ []) = bytes_eq name (codes "put")
-is_item_form _ = false
-
--- the item of such words; no value's word is the empty value
-abbrev pub item_of : List (List ℕ) → Update
-item_of (name ∷ key ∷ []) = if bytes_eq name (codes "put") then bind (percent_decode key) [] else unbind (percent_decode key)
-item_of (name ∷ key ∷ value ∷ []) = bind (percent_decode key) (percent_decode value)
-item_of _ = unbind []
-
--- the items of a batch's words
-abbrev pub items_of : List (List ℕ) → List Update
-items_of words = map item_of (parts words)
-
--- whether these are the words of a batch: each item has an item's words, there are not too many, and an intent has room for
--- their spelling
-abbrev pub is_batch_form : List (List ℕ) → Bool
-is_batch_form words = list_all is_item_form (parts words) && (nat_le (length (parts words)) MOST_ITEMS && nat_le (length (intent_bytes (items_of words))) INTENT_SIZE)
-
--- the first size for which a slot of format f has no room, from left to right: a key's, then its value's
-abbrev pub first_oversized : ℕ → List Update → Option Command
-first_oversized f [] = None
-first_oversized f (u ∷ us) =
-    if nat_lt (key_room f) (length (key_of u)) then Some OversizedKey
-    else if nat_lt (value_room f) (length (bound_value u)) then Some OversizedValue
-    else first_oversized f us
-
--- the refusal of a size, or else the items, if no key stands twice
-abbrev pub if_sized : Option Command → List Update → Command
-if_sized (Some refused) us = refused
-if_sized None us = if are_distinct us then Batch us else RepeatedKey
-
--- `batch` and its items
+-- `batch` and the words behind it: all parts are items, there are not too many, and an intent has room for their spelling; then
+-- the sizes decide, and at last that no key stands twice
 abbrev pub batch_of : ℕ → List (List ℕ) → Command
-batch_of f words = if is_batch_form words then if_sized (first_oversized f (items_of words)) (items_of words) else Bad why.Words
+batch_of f words =
+    let parts = slice_split (λ word. bytes_eq word (codes ";")) words in
+    let items = filter_map batch_item parts in
+    if length items == length parts && nat_le (length parts) MOST_ITEMS && nat_le (length (intent_bytes items)) INTENT_SIZE
+    then with_items f items (if are_distinct items then Batch items else RepeatedKey) else Bad why.Words

@@ -3,7 +3,7 @@ use Rattle.std.specs.Prelude.{◌≡◌, ◌⊎◌, ℕ, ◌<◌, if◌then◌el
 use Rattle.percent_encoding.specs.Percent.{percent_decode}
 use Rattle.map_model.specs.Store.{Update, bind, unbind}
 use Rattle.command_text.specs.Words.{words}
-use Rattle.command_text.specs.Batch.{is_separator, parts, is_item_form, item_of}
+use Rattle.command_text.specs.BatchForm.{is_separator, parts, is_item_form, item_of}
 
 -- the item with these words
 abbrev pub item_read : Bool → List ℕ → List ℕ → Update

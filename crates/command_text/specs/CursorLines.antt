@@ -12,7 +12,7 @@ use Rattle.command_text.specs.declared.reply.Reply.TheVariants as reply
 
 -- the line that answers an opening
 abbrev pub open_line : Cursors → Bytes → Reply
-open_line c name = if contains_key c name then reply.CursorOpen else (if nat_lt (len c) most_cursors then reply.Opened else reply.NoRoom)
+open_line k name = if contains_key k name then reply.CursorOpen else (if nat_lt (len k) most_cursors then reply.Opened else reply.NoRoom)
 
 -- the line that answers what a cursor gives, going on or going back
 abbrev pub next_line : Option (Option Record) → Reply
@@ -22,12 +22,12 @@ next_line (Some (Some r)) = row_line r
 
 -- the line that answers a closing
 abbrev pub close_line : Cursors → Bytes → Reply
-close_line c name = if contains_key c name then reply.Closed else reply.NoCursor
+close_line k name = if contains_key k name then reply.Closed else reply.NoCursor
 
 -- the cursors after a command, which finds this map
 abbrev pub cursors_after : Map → Cursors → Command → Cursors
-cursors_after m c (command.Open name low high) = after_open c name low high
-cursors_after m c (command.Next name) = after_step onward m c name
-cursors_after m c (command.Prev name) = after_step back m c name
-cursors_after m c (command.Close name) = remove c name
-cursors_after m c _ = c
+cursors_after m k (command.Open name low high) = after_open k name low high
+cursors_after m k (command.Next name) = after_step onward m k name
+cursors_after m k (command.Prev name) = after_step back m k name
+cursors_after m k (command.Close name) = remove k name
+cursors_after m k _ = k

@@ -2,7 +2,8 @@
 use Rattle.std.specs.Prelude.{ℕ, if◌then◌else◌, List, [], ◌∷◌}
 use Rattle.header_gate.specs.declared.layout.Layout.{Layout}
 use Rattle.header_gate.specs.Places.{height_limit}
-use Rattle.map_model.specs.Items.{accepts, charge_after_items}
+use Rattle.map_model.specs.Items.{accepts}
+use Rattle.map_model.specs.ItemWords.{charge_after_items}
 use Rattle.map_model.specs.ArrayState.{ArrayState}
 use Rattle.map_model.specs.Store.{Map, Update, bind, unbind}
 use Rattle.command_text.specs.declared.command.Command.{Command}

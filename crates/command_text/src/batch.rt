@@ -5,11 +5,11 @@ ghost use Rattle.std.specs.List.{list_all};
 ghost use Rattle.percent_encoding.specs.Percent.{percent_decode};
 ghost use Rattle.key_slot.specs.Format.{wide};
 ghost use Rattle.map_model.specs.Store.{Update};
-ghost use Rattle.batch_intent.specs.Items.{update_of};
+ghost use Rattle.batch_intent.specs.ItemView.{update_of};
 ghost use Rattle.batch_intent.specs.Spelling.{item_bytes};
 ghost use Rattle.batch_intent.specs.declared.places.TheConstants.{INTENT_SIZE};
 ghost use Rattle.command_text.specs.Words.{words};
-ghost use Rattle.command_text.specs.Batch.{is_separator, parts, is_item_form, is_batch_form, items_of, first_oversized, if_sized, batch_of};
+ghost use Rattle.command_text.specs.BatchForm.{is_separator, parts, is_item_form, is_batch_form, items_of, first_oversized, if_sized, batch_by_form};
 ghost use Rattle.command_text.specs.BatchWords.{item_read, BeginsWith, BeginsWithValue, IsItemWord, IsItemEnd, EndsItem};
 
 use super::command::{Command, Why};
@@ -30,7 +30,7 @@ pub(crate) struct ItemWords<'a> {
 // What follows `batch`.
 pub(crate) fn read_batch(rest: &[u8], format: u32, command: &mut Command)
     requires { format ≤ wide }
-    ensures { command.new ≡ batch_of format (words rest.now) }
+    ensures { command.new ≡ batch_by_form format (words rest.now) }
 {
     if has_form(rest) {
         read_items(rest, format, command);

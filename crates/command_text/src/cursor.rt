@@ -3,8 +3,8 @@
 ghost use Rattle.std.specs.Prelude.{◌≡◌, ◌<◌, ◌≤◌, length};
 ghost use Rattle.key_slot.specs.Format.{wide};
 ghost use Rattle.command_text.specs.Words.{words};
-ghost use Rattle.command_text.specs.Command.{cursor_named, open_of};
-ghost use Rattle.command_text.specs.Reading.{named_between, opened_between};
+ghost use Rattle.command_text.specs.ByName.{cursor_named, open_of};
+ghost use Rattle.command_text.specs.LineReading.{named_between, opened_between};
 
 use super::command::{Command, Why};
 use super::parse::{Keyed, read_bound, read_keyed};

@@ -11,13 +11,13 @@ use Rattle.key_slot.specs.Record.{Bytes, Record, key_cmp}
 use Rattle.key_slot.proofs.Truth.{both, passes, first, second, passed}
 use Rattle.map_model.specs.Scan.{is_within}
 use Rattle.map_model.specs.Store.{Map}
-use Rattle.map_model.specs.Cursors.{Cursor, Way, is_beyond}
+use Rattle.map_model.specs.Cursors.{Cursor, Way}
+use Rattle.cursor_set.specs.Ways.{is_beyond, order_of, step_of, NoneBeyond}
 use Rattle.header_gate.specs.declared.layout.Layout.{Layout}
 use Rattle.command_text.specs.Session.{Session, session_answers, session_step, session_after}
 use Rattle.command_text.specs.declared.command.Command.{Command}
 use Rattle.command_text.specs.declared.reply.Reply.{Reply}
 use Rattle.command_text.specs.declared.reply.Reply.TheVariants as reply
-use Rattle.cursor_set.specs.Ways.{order_of, step_of, NoneBeyond}
 use Rattle.cursor_set.specs.Lives.{InEach, Gift, records_of, way_by, gift_line, gifts_if, gifts_by, gifts, Each, AreNearest, last_given, times, StepsOnly, IsOpen, HasKey}
 use Rattle.cursor_set.proofs.Stepped.{behind}
 use Rattle.cursor_set.proofs.Ahead.{step_nearest, order_total, beyond_less, beyond_other, equal_of, less_of, same_key}

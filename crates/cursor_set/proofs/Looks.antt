@@ -5,7 +5,7 @@ use Rattle.std.specs.Prelude.{Result, IfErr}
 use Rattle.station.specs.View.{View}
 use Rattle.segment.specs.declared.fault.StoreFault.{StoreFault}
 use Rattle.map_model.specs.Cursors.{Cursor}
-use Rattle.range_scan.specs.Seeking.{KeptRegion, ReadsNear, ReadsBehind, later, earlier}
+use Rattle.range_scan.specs.SeekReads.{KeptRegion, ReadsNear, ReadsBehind, later, earlier}
 
 -- the look for the one cursor of a name, whatever is answered
 pub near_for : {A B : Type 0} (p : Result A StoreFault) (q : Result B StoreFault) (held : Option Cursor) (j : Cursor) (r : KeptRegion) (a b : View)

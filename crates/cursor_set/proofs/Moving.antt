@@ -11,7 +11,9 @@ use Rattle.std.specs.Cmp.Lexicographic.{nat_list_cmp_total}
 use Rattle.std.specs.FinMap.{get, insert, remove, contains_key, len, get-insert, get-remove, slice_cmp-IsAntisymmetric, nat_cmp-IsAntisymmetric}
 use Rattle.key_slot.specs.Record.{Bytes, Record, key_cmp}
 use Rattle.map_model.specs.Store.{Map}
-use Rattle.map_model.specs.Cursors.{Cursor, Cursors, after_open, moved, most_cursors, Way, onward, back}
+use Rattle.map_model.specs.Cursors.{Cursor, Cursors, after_open, most_cursors, Way, onward, back}
+use Rattle.cursor_set.proofs.Stepped.{behind, moved_if}
+use Rattle.cursor_set.specs.SetAnswers.{moved}
 use Rattle.header_gate.specs.declared.layout.Layout.{Layout}
 use Rattle.command_text.specs.CursorLines.{next_line}
 use Rattle.command_text.specs.Session.{Session, session_step}
@@ -19,7 +21,6 @@ use Rattle.command_text.specs.declared.command.Command.{Command}
 use Rattle.command_text.specs.declared.command.Command.TheVariants as command
 use Rattle.cursor_set.specs.Lives.{way_by, gift_line, gifts_if, gifts_by, IsOpen}
 use Rattle.cursor_set.specs.Ways.{step_of}
-use Rattle.cursor_set.proofs.Stepped.{behind, moved_if}
 use Rattle.cursor_set.proofs.Lives.{Moves, stays, gives}
 
 order : IsTotalOrder key_cmp

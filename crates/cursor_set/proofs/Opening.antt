@@ -4,8 +4,8 @@ use Rattle.std.specs.Option.{option_map}
 use Rattle.std.specs.FinMap.{get, insert, contains_key, len, is_sorted}
 use Rattle.key_slot.specs.Record.{Bytes, Record, IsAscending}
 use Rattle.map_model.specs.Scan.{is_within}
-use Rattle.map_model.specs.Cursors.{Cursor, Cursors, after_open, most_cursors, Way, onward, back, is_beyond}
-use Rattle.cursor_set.specs.Ways.{order_of, step_command, step_of, IsDescending, NoneBeyond}
+use Rattle.map_model.specs.Cursors.{Cursor, Cursors, after_open, most_cursors, Way, onward, back}
+use Rattle.cursor_set.specs.Ways.{is_beyond, order_of, step_command, step_of, IsDescending, NoneBeyond}
 use Rattle.cursor_set.proofs.Ahead.{step_none}
 use Rattle.header_gate.specs.declared.layout.Layout.{Layout}
 use Rattle.command_text.specs.CursorLines.{open_line, next_line}

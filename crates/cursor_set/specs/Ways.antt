@@ -1,11 +1,11 @@
 -- What a cursor steps to, on either way.
-use Rattle.std.specs.Prelude.{◌≡◌, true, false, T, List, Option, Some}
+use Rattle.std.specs.Prelude.{◌≡◌, Bool, true, false, T, List, Option, Some}
 use Rattle.std.specs.declared.cmp.Ordering.{Ordering}
-use Rattle.std.specs.Ordering.{is_lt}
+use Rattle.std.specs.Ordering.{is_lt, is_gt}
 use Rattle.std.specs.FinMap.{contains_key, entries, get, is_sorted}
 use Rattle.key_slot.specs.Record.{Bytes, Record, key_cmp}
-use Rattle.map_model.specs.Cursors.{Cursor, Way, onward, back, is_beyond, record_ahead}
-use Rattle.map_model.specs.Scan.{is_within}
+use Rattle.map_model.specs.Cursors.{Cursor, Way, onward, back, record_ahead}
+use Rattle.map_model.specs.Scan.{compares, is_within}
 use Rattle.map_model.specs.Store.{Map}
 use Rattle.command_text.specs.declared.command.Command.{Command}
 use Rattle.command_text.specs.declared.command.Command.TheVariants as command
@@ -17,7 +17,12 @@ step_command back name = command.Prev name
 
 -- what a cursor gives of a map by a step
 abbrev pub step_of : Way → Map → Cursor → Option Record
-step_of way m k = record_ahead way k (entries m)
+step_of way m at = record_ahead way at (entries m)
+
+-- whether a key lies beyond another on a way: above it going on, below it going back; if there is none each does
+abbrev pub is_beyond : Way → Option Bytes → Bytes → Bool
+is_beyond onward past key = compares is_gt past key
+is_beyond back past key = compares is_lt past key
 
 -- how keys compare on a way: the lesser is the one that is come by first
 abbrev pub order_of : Way → Bytes → Bytes → Ordering

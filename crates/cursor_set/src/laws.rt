@@ -18,15 +18,19 @@ ghost use Rattle.cursor_set.specs.Ways.{IsDescending, NoneBeyond};
 pub fn cursors_give_each_record_once()
     // Whatever commands come between, the keys that a cursor gives while it stays open strictly rise if it only steps on, and
     // strictly fall if it only steps back.
-    ensures ascending { (name : Bytes) (low high : Option Bytes) (l : Layout) (s : Session) (cs : List Command) → StaysOpen name low high l s cs → StepsOnly onward name cs →
+    ensures ascending { (name : Bytes) (low high : Option Bytes) (l : Layout) (s : Session) (cs : List Command) →
+        StaysOpen name low high l s cs → StepsOnly onward name cs →
         IsAscending (records_of (given name low high l s cs)) }
-    ensures descending { (name : Bytes) (low high : Option Bytes) (l : Layout) (s : Session) (cs : List Command) → StaysOpen name low high l s cs → StepsOnly back name cs →
+    ensures descending { (name : Bytes) (low high : Option Bytes) (l : Layout) (s : Session) (cs : List Command) →
+        StaysOpen name low high l s cs → StepsOnly back name cs →
         IsDescending (records_of (given name low high l s cs)) }
     // Each record that a cursor gives while it stays open lies within its bounds, and is in the map at that moment, whatever
     // commands come between.
-    ensures within { (name : Bytes) (low high : Option Bytes) (l : Layout) (s : Session) (cs : List Command) → StaysOpen name low high l s cs →
+    ensures within { (name : Bytes) (low high : Option Bytes) (l : Layout) (s : Session) (cs : List Command) →
+        StaysOpen name low high l s cs →
         Each (λ g. is_within low high g.row.0 ≡ true) (given name low high l s cs) }
-    ensures found { (name : Bytes) (low high : Option Bytes) (l : Layout) (s : Session) (cs : List Command) → StaysOpen name low high l s cs →
+    ensures found { (name : Bytes) (low high : Option Bytes) (l : Layout) (s : Session) (cs : List Command) →
+        StaysOpen name low high l s cs →
         Each (λ g. get g.map g.row.0 ≡ Some g.row.1) (given name low high l s cs) }
     // If a cursor stays open and steps in one way alone, up to its end, it gave each key within its bounds exactly once that was
     // in the map in every state since its opening.
@@ -42,7 +46,8 @@ pub fn cursors_give_each_record_once()
 pub fn cursors_step_to_the_nearest()
     // While a cursor stays open each step on gives the least key above the last one given, and each step back the greatest below,
     // within the bounds and in the map of that moment. A cursor that gave none begins at its bounds.
-    ensures nearest { (name : Bytes) (low high : Option Bytes) (l : Layout) (s : Session) (cs : List Command) → StaysOpen name low high l s cs →
+    ensures nearest { (name : Bytes) (low high : Option Bytes) (l : Layout) (s : Session) (cs : List Command) →
+        StaysOpen name low high l s cs →
         AreNearest low high None (given name low high l s cs) }
     // A cursor that stayed open comes to its end only if no key of the map within its bounds lies ahead on that way.
     ensures ends { (way : Way) (name : Bytes) (low high : Option Bytes) (l : Layout) (s : Session) (cs : List Command) →

@@ -8,8 +8,8 @@ ghost use Rattle.station.specs.Steps.{Steps};
 ghost use Rattle.header_gate.specs.Places.{file_length};
 ghost use Rattle.map_model.specs.Image.{map_of};
 ghost use Rattle.map_model.specs.Cursors.{Cursor, after_open, onward, back, step_in, after_step};
-ghost use Rattle.range_scan.specs.Seeking.{ReadsNear, ReadsBehind, later, earlier};
-ghost use Rattle.cursor_set.specs.Answers.{opening, told_by, after_answer};
+ghost use Rattle.range_scan.specs.SeekReads.{ReadsNear, ReadsBehind, later, earlier};
+ghost use Rattle.cursor_set.specs.SetAnswers.{opening, told_by, after_answer};
 
 use super::answers::{Opened, Step};
 use super::slots::{Entry, find_entry, find_free};
@@ -36,7 +36,7 @@ impl Model for CursorSet {
 
     ghost coded = { cursors_code };
 
-    ghost use Rattle.cursor_set.specs.Slots.{cursors_in, IsKept};
+    ghost use Rattle.cursor_set.specs.CursorPlaces.{cursors_in, IsKept};
 
     ghost view = { λ s. cursors_in s.slots };
 
@@ -112,20 +112,24 @@ impl CursorSet {
         requires reach { file_length (R.kept store.old).layout ≤ (S.view station.old).fixed.reach }
         // On Ok, if the station tells its bytes, the record with the least key that is within the bounds and above the last one
         // given, in the map that they represent; `End` exactly if the name has a cursor and there is none.
-        ensures answer { IfOk result (λ step. Told (S.view station.old) → told_by step ≡ step_in onward (map_of (S.view station.old).held) self.old name.now) }
+        ensures answer { IfOk result (λ step. Told (S.view station.old) →
+            told_by step ≡ step_in onward (map_of (S.view station.old).held) self.old name.now) }
         // `NoCursor` comes exactly if the name has no cursor, on every station.
         ensures known { IfOk result (λ step. is_some (told_by step) ≡ contains_key self.old name.now) }
         // A cursor that gave a record stands behind it, and one that came to its end is closed. The other cursors stay.
         ensures after { IfOk result (λ step. self.new ≡ after_answer self.old name.now step) }
-        ensures next { OnOk result (Told (S.view station.old) → self.new ≡ after_step onward (map_of (S.view station.old).held) self.old name.now) }
+        ensures next { OnOk result (Told (S.view station.old) →
+            self.new ≡ after_step onward (map_of (S.view station.old).held) self.old name.now) }
         // A fault leaves the set as it was.
         ensures unchanged { OnErr result (self.new ≡ self.old) }
         // It answers Ok if the station tells its bytes and the count of disk faults didn't rise.
-        ensures complete { Told (S.view station.old) → ¬ Rose (S.view station.old).disk_faults (S.view station.new).disk_faults → IsOk result }
+        ensures complete { Told (S.view station.old) → ¬ Rose (S.view station.old).disk_faults (S.view station.new).disk_faults →
+            IsOk result }
         // If the station tells its bytes, no segment is found damaged.
         ensures damaged { IfErr result (λ fault. Told (S.view station.old) → fault ≡ StoreFault.Failed) }
         // `Failed` comes only if the count of disk faults rose.
-        ensures failed { IsErrOf result StoreFault.Failed → Rose (S.view station.old).disk_faults (S.view station.new).disk_faults }
+        ensures failed { IsErrOf result StoreFault.Failed →
+            Rose (S.view station.old).disk_faults (S.view station.new).disk_faults }
         // A fault closes the store, and nothing else does. All else that contracts see of it stays.
         ensures closed { R.closed store.new ≡ is_err result }
         ensures state { R.state store.new ≡ R.state store.old }
@@ -137,7 +141,8 @@ impl CursorSet {
         ensures steps { Steps Same (S.view station.old) (S.view station.new) }
         // If the name has a cursor, on every station one segment is read, or two that stand side by side, once each and by at
         // most one call each; at height 0 it is one. Nothing is written, and damage is that of the last one read.
-        ensures reads { (k : Cursor) → get self.old name.now ≡ Some k → ReadsNear (later k.low k.past) (R.kept store.old) result (S.view station.old) (S.view station.new) }
+        ensures reads { (at : Cursor) → get self.old name.now ≡ Some at →
+            ReadsNear (later at.low at.past) (R.kept store.old) result (S.view station.old) (S.view station.new) }
         // Without a cursor of this name nothing is read, and no call is made.
         ensures idle { get self.old name.now ≡ None → (S.view station.new).travel ≡ (S.view station.old).travel }
         ensures uncalled { get self.old name.now ≡ None → (S.view station.new).calls ≡ (S.view station.old).calls }
@@ -178,20 +183,24 @@ impl CursorSet {
         requires reach { file_length (R.kept store.old).layout ≤ (S.view station.old).fixed.reach }
         // On Ok, if the station tells its bytes, the record with the greatest key that is within the bounds and below the last
         // one given, in the map that they represent; `End` exactly if the name has a cursor and there is none.
-        ensures answer { IfOk result (λ step. Told (S.view station.old) → told_by step ≡ step_in back (map_of (S.view station.old).held) self.old name.now) }
+        ensures answer { IfOk result (λ step. Told (S.view station.old) →
+            told_by step ≡ step_in back (map_of (S.view station.old).held) self.old name.now) }
         // `NoCursor` comes exactly if the name has no cursor, on every station.
         ensures known { IfOk result (λ step. is_some (told_by step) ≡ contains_key self.old name.now) }
         // A cursor that gave a record stands at it, and one that came to its end is closed. The other cursors stay.
         ensures after { IfOk result (λ step. self.new ≡ after_answer self.old name.now step) }
-        ensures prev { OnOk result (Told (S.view station.old) → self.new ≡ after_step back (map_of (S.view station.old).held) self.old name.now) }
+        ensures prev { OnOk result (Told (S.view station.old) →
+            self.new ≡ after_step back (map_of (S.view station.old).held) self.old name.now) }
         // A fault leaves the set as it was.
         ensures unchanged { OnErr result (self.new ≡ self.old) }
         // It answers Ok if the station tells its bytes and the count of disk faults didn't rise.
-        ensures complete { Told (S.view station.old) → ¬ Rose (S.view station.old).disk_faults (S.view station.new).disk_faults → IsOk result }
+        ensures complete { Told (S.view station.old) → ¬ Rose (S.view station.old).disk_faults (S.view station.new).disk_faults →
+            IsOk result }
         // If the station tells its bytes, no segment is found damaged.
         ensures damaged { IfErr result (λ fault. Told (S.view station.old) → fault ≡ StoreFault.Failed) }
         // `Failed` comes only if the count of disk faults rose.
-        ensures failed { IsErrOf result StoreFault.Failed → Rose (S.view station.old).disk_faults (S.view station.new).disk_faults }
+        ensures failed { IsErrOf result StoreFault.Failed →
+            Rose (S.view station.old).disk_faults (S.view station.new).disk_faults }
         // A fault closes the store, and nothing else does. All else that contracts see of it stays.
         ensures closed { R.closed store.new ≡ is_err result }
         ensures state { R.state store.new ≡ R.state store.old }
@@ -203,8 +212,8 @@ impl CursorSet {
         ensures steps { Steps Same (S.view station.old) (S.view station.new) }
         // If the name has a cursor, on every station one segment is read, and maybe the one before it, once each and by at most
         // one call each; at height 0 it is one. Nothing is written, and damage is that of the last one read.
-        ensures reads { (k : Cursor) → get self.old name.now ≡ Some k →
-            ReadsBehind (earlier k.past k.high) (R.kept store.old) result (S.view station.old) (S.view station.new) }
+        ensures reads { (at : Cursor) → get self.old name.now ≡ Some at →
+            ReadsBehind (earlier at.past at.high) (R.kept store.old) result (S.view station.old) (S.view station.new) }
         // Without a cursor of this name nothing is read, and no call is made.
         ensures idle { get self.old name.now ≡ None → (S.view station.new).travel ≡ (S.view station.old).travel }
         ensures uncalled { get self.old name.now ≡ None → (S.view station.new).calls ≡ (S.view station.old).calls }

@@ -20,7 +20,7 @@ use Rattle.veb_layout.specs.Layout.{position_of}
 use Rattle.veb_layout.specs.Links.{link_to}
 use Rattle.veb_layout.proofs.Places.{position_of-within}
 use Rattle.veb_index.specs.Nodes.{middle, fence_place}
-use Rattle.veb_index.specs.View.{IndexView, fence_at, fence_of}
+use Rattle.veb_index.specs.IndexView.{IndexView, fence_at, fence_of}
 use Rattle.veb_index.specs.Arrays.{first_key, IsIndexOf}
 use Rattle.veb_index.proofs.Middles.{fence_place-middle}
 use Rattle.index_file.specs.Seats.{link_of}

@@ -17,8 +17,8 @@ use Rattle.header_gate.specs.Places.{file_length}
 use Rattle.density_rule.specs.Windows.{IsBalanced}
 use Rattle.map_model.specs.Array.{counts_of}
 use Rattle.map_model.specs.Image.{Represents, array_in, array_of, height_of, map_of, slot_format, live_segment}
-use Rattle.veb_index.specs.View.{IndexView}
-use Rattle.window_tally.specs.View.{TallyView}
+use Rattle.veb_index.specs.IndexView.{IndexView}
+use Rattle.window_tally.specs.TallyView.{TallyView}
 use Rattle.index_file.specs.Area.{HasNodes}
 use Rattle.index_file.specs.Clean.{IsLeft, IsAreaPlace, fence_of_segment}
 use Rattle.index_file.specs.Leaving.{IsReady}

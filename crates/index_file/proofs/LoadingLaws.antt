@@ -8,16 +8,16 @@ use Rattle.header_gate.specs.declared.reason.Reason.{Reason}
 use Rattle.header_gate.specs.declared.reason.Reason.TheVariants.{Index}
 use Rattle.header_gate.specs.Reasons.{or_else}
 use Rattle.key_slot.specs.Record.{Bytes, key_cmp}
-use Rattle.map_model.specs.Reasons.{first_reason}
+use Rattle.map_model.specs.FileReasons.{first_reason}
 use Rattle.map_model.proofs.ArrayReasons.{both_none, next_one, first_one, none_of_each}
 use Rattle.veb_index.specs.Nodes.{fence_place, fence_by}
-use Rattle.veb_index.specs.View.{fence_at}
+use Rattle.veb_index.specs.IndexView.{fence_at}
 use Rattle.veb_index.proofs.Middles.{fence_place-within}
 use Rattle.index_file.specs.Area.{node_place}
 use Rattle.index_file.specs.Node.{is_node}
 use Rattle.index_file.specs.Seats.{link_of}
-use Rattle.index_file.specs.Validating.{node_reason, fence_read, order_reason, fences_reason, windows_reason, area_reason}
-use Rattle.index_file.specs.Reading.{FailsAt}
+use Rattle.index_file.specs.IndexReasons.{node_reason, fence_read, order_reason, fences_reason, windows_reason, area_reason}
+use Rattle.index_file.specs.IndexReading.{FailsAt}
 use Rattle.index_file.specs.Writing.{AreNodesOf}
 use Rattle.index_file.proofs.ValidatingLaws.{order_few, if_true}
 use Rattle.index_file.proofs.ReadingLaws.{fails_reason}

@@ -17,21 +17,21 @@ use Rattle.station.specs.View.{View, Told, Lawful, NothingPending}
 use Rattle.station.specs.Steps.{Steps}
 use Rattle.station.proofs.Composition.{told_back}
 use Rattle.index_file.proofs.Kept.{even_of_bare}
-use Rattle.index_file.specs.Opening.{IsQuick, is_quick}
+use Rattle.index_file.specs.IndexOpening.{IsQuick, is_quick}
 use Rattle.map_model.specs.Array.{counts_of}
 use Rattle.map_model.specs.Image.{array_in, array_of, height_of}
 use Rattle.map_model.proofs.Reasonings.{length-array_in}
-use Rattle.recovery.specs.Parts.{AreParts, Fits, AgreesWith, turn_of}
+use Rattle.recovery.specs.StoreParts.{AreParts, Fits, AgreesWith, turn_of}
 use Rattle.redo_journal.specs.Replaying.{gate_after}
 use Rattle.redo_journal.specs.Rest.{RestsAt}
 use Rattle.redo_journal.proofs.Live.{after_single, done_empty, rest_nothing, rests_by}
 use Rattle.redo_journal.specs.declared.place.Place.{Place}
 use Rattle.veb_index.specs.Nodes.{fence_by}
-use Rattle.veb_index.specs.View.{IndexView, fence_at, fence_of}
+use Rattle.veb_index.specs.IndexView.{IndexView, fence_at, fence_of}
 use Rattle.veb_index.specs.Arrays.{IsIndexOf}
-use Rattle.window_tally.specs.View.{TallyView, IsTally}
+use Rattle.window_tally.specs.TallyView.{TallyView, IsTally}
 use Rattle.index_file.specs.Clean.{IsLeft, fence_of_segment}
-use Rattle.index_file.specs.Validating.{counts_read, fence_read}
+use Rattle.index_file.specs.IndexReasons.{counts_read, fence_read}
 use Rattle.index_file.specs.Writing.{AreNodesOf}
 use Rattle.index_file.proofs.LoadingLaws.{fences_are}
 use Rattle.index_file.proofs.SoundLaws.{left_counts, left_first, fence_read-is}

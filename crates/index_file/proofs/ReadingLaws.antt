@@ -8,14 +8,14 @@ use Rattle.key_slot.specs.Record.{Bytes}
 use Rattle.header_gate.specs.declared.layout.Layout.{Layout}
 use Rattle.header_gate.specs.declared.reason.Reason.{Reason}
 use Rattle.header_gate.specs.declared.reason.Reason.TheVariants.{Index}
-use Rattle.map_model.specs.Reasons.{first_reason}
+use Rattle.map_model.specs.FileReasons.{first_reason}
 use Rattle.map_model.proofs.ArrayReasons.{none_of_each, next_one, first_stays}
-use Rattle.veb_index.specs.View.{fence_at}
+use Rattle.veb_index.specs.IndexView.{fence_at}
 use Rattle.index_file.specs.Seats.{link_of}
 use Rattle.index_file.specs.Node.{is_node, IsNode}
 use Rattle.index_file.specs.Area.{node_place}
-use Rattle.index_file.specs.Validating.{node_reason}
-use Rattle.index_file.specs.Reading.{is_node_of, IsFirstWrong, FailsAt}
+use Rattle.index_file.specs.IndexReasons.{node_reason}
+use Rattle.index_file.specs.IndexReading.{is_node_of, IsFirstWrong, FailsAt}
 use Rattle.index_file.specs.Writing.{IsNodeOf, AreNodesOf}
 use Rattle.index_file.proofs.NodeLaws.{node_same, node_test_same}
 

@@ -21,7 +21,7 @@ use Rattle.key_slot.specs.Record.{Bytes, Record, key_cmp, IsAscending}
 use Rattle.segment.specs.Rows.{key_at}
 use Rattle.map_model.specs.Array.{Array, rows, counts_of, segment_at}
 use Rattle.map_model.specs.Image.{array_of, height_of, map_of}
-use Rattle.map_model.specs.Reasons.{first_reason}
+use Rattle.map_model.specs.FileReasons.{first_reason}
 use Rattle.map_model.proofs.ArrayReasons.{both_none, none_of_each}
 use Rattle.map_model.proofs.Reasonings.{length-array_in, own_rows}
 use Rattle.veb_layout.specs.Layout.{position_of}
@@ -34,7 +34,7 @@ use Rattle.index_file.specs.Seats.{seat_of, link_of}
 use Rattle.index_file.specs.Node.{is_node, fence_in, IsNode}
 use Rattle.index_file.specs.Area.{node_place, count_place, HasNodes}
 use Rattle.index_file.specs.Clean.{IsLeft, fence_of_segment}
-use Rattle.index_file.specs.Validating.{node_reason, fence_read, order_reason, counts_read, window_reason, row_reason, area_reason}
+use Rattle.index_file.specs.IndexReasons.{node_reason, fence_read, order_reason, counts_read, window_reason, row_reason, area_reason}
 use Rattle.index_file.proofs.SeatLaws.{seat_of-is}
 
 -- tests that hold

@@ -10,11 +10,11 @@ use Rattle.header_gate.specs.declared.layout.Layout.{Layout}
 use Rattle.header_gate.specs.Places.{area_size, page_size}
 use Rattle.range_scan.proofs.Walks.{read_on}
 use Rattle.index_file.specs.Area.{node_place, count_place}
-use Rattle.index_file.specs.Reading.{after_part, after_nodes, after_area, IsFrontRead, IsAreaFront}
+use Rattle.index_file.specs.IndexReading.{after_part, after_nodes, after_area, IsFrontRead, IsAreaFront}
 use Rattle.index_file.proofs.AreaLaws.{area_room}
 use Rattle.recovery.specs.declared.fault.OpenFault.{OpenFault}
 use Rattle.recovery.specs.declared.parts.Parts.{Parts}
-use Rattle.index_file.specs.Opening.{after_quick}
+use Rattle.index_file.specs.IndexOpening.{after_quick}
 
 -- no bytes
 pub part_none : (place n : ℕ) (t : Travel) → n ≡ 0 → after_part place n t ≡ t

@@ -15,12 +15,12 @@ use Rattle.header_gate.specs.declared.reason.Reason.{Reason}
 use Rattle.header_gate.specs.declared.reason.Reason.TheVariants.{Index}
 use Rattle.header_gate.specs.Header.{number}
 use Rattle.key_slot.specs.Record.{Bytes, key_cmp}
-use Rattle.map_model.specs.Reasons.{first_reason}
+use Rattle.map_model.specs.FileReasons.{first_reason}
 use Rattle.map_model.proofs.ArrayReasons.{none_below, none_of_each, first_stays, next_one}
 use Rattle.veb_index.specs.Nodes.{fence_place}
 use Rattle.index_file.specs.Area.{node_place, count_place}
-use Rattle.index_file.specs.Counting.{AreCounted, CountFailsAt}
-use Rattle.index_file.specs.Validating.{order_reason, counts_read, window_reason, row_reason}
+use Rattle.index_file.specs.IndexCounts.{AreCounted, CountFailsAt}
+use Rattle.index_file.specs.IndexReasons.{order_reason, counts_read, window_reason, row_reason}
 
 -- none before, and one here
 one_here : (reason : ℕ → Option Reason) (n : ℕ) (r : Reason) → first_reason reason n ≡ None → reason n ≡ Some r → first_reason reason (suc n) ≡ Some r

@@ -4,13 +4,13 @@ use Rattle.std.specs.List.{range_with_len}
 use Rattle.header_gate.specs.Places.{journal_shift}
 use Rattle.header_gate.specs.declared.layout.Layout.{Layout}
 use Rattle.header_gate.specs.declared.reason.Reason.TheVariants.{Index}
-use Rattle.map_model.specs.Reasons.{first_reason}
+use Rattle.map_model.specs.FileReasons.{first_reason}
 use Rattle.veb_layout.specs.Layout.{position_of}
 use Rattle.index_file.specs.declared.seats.Seat.{Seat}
 use Rattle.index_file.specs.Seats.{seat_of, link_of}
 use Rattle.index_file.specs.Node.{fence_in, has_form, is_node}
 use Rattle.index_file.specs.Area.{node_place, count_place}
-use Rattle.index_file.specs.Validating.{row_reason}
+use Rattle.index_file.specs.IndexReasons.{row_reason}
 
 abbrev layout : Layout
 layout = record { hmax = 2; journal = 4; version = 3; format = 1 }

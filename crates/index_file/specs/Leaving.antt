@@ -6,10 +6,10 @@ use Rattle.header_gate.specs.Header.{intent_gate, clean_gate}
 use Rattle.header_gate.specs.InPlace.{IsBare}
 use Rattle.map_model.specs.Image.{array_of}
 use Rattle.map_model.specs.Standing.{StandsBalanced}
-use Rattle.veb_index.specs.View.{IndexView}
+use Rattle.veb_index.specs.IndexView.{IndexView}
 use Rattle.veb_index.specs.Arrays.{IsIndexOf}
-use Rattle.window_tally.specs.View.{TallyView, IsTally}
-use Rattle.index_file.specs.Reading.{HasIndex}
+use Rattle.window_tally.specs.TallyView.{TallyView, IsTally}
+use Rattle.index_file.specs.IndexReading.{HasIndex}
 
 -- the image is a valid file with this layout and this live region, over which no page is to be laid, with the intent's gate
 -- and the clean gate even and every window within its bounds; the tally has its height and its counts, and the index the first

@@ -3,8 +3,8 @@ pub mod Node
 pub mod Area
 pub mod Writing
 pub mod Clean
-pub mod Validating
-pub mod Reading
+pub mod IndexReasons
+pub mod IndexReading
 pub mod Leaving
-pub mod Counting
-pub mod Opening
+pub mod IndexCounts
+pub mod IndexOpening

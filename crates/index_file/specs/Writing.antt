@@ -3,7 +3,7 @@ use Rattle.std.specs.Prelude.{◌≡◌, ℕ, ◌<◌, List, get_or}
 use Rattle.key_slot.specs.Record.{Bytes}
 use Rattle.header_gate.specs.declared.layout.Layout.{Layout}
 use Rattle.header_gate.specs.Header.{number}
-use Rattle.veb_index.specs.View.{fence_at}
+use Rattle.veb_index.specs.IndexView.{fence_at}
 use Rattle.index_file.specs.Seats.{link_of}
 use Rattle.index_file.specs.Node.{IsNode}
 use Rattle.index_file.specs.Area.{node_place, count_place}

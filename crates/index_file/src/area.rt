@@ -7,7 +7,7 @@ ghost use Rattle.key_slot.specs.Format.{wide};
 ghost use Rattle.index_file.specs.Area.{node_place, count_place};
 ghost use Rattle.index_file.specs.Seats.{link_of};
 ghost use Rattle.index_file.specs.Writing.{IsNodeOf};
-ghost use Rattle.window_tally.specs.View.{IsTally};
+ghost use Rattle.window_tally.specs.TallyView.{IsTally};
 
 use crate::fault::AreaFault;
 use crate::node::{node_bytes, put, put_number};

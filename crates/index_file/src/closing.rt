@@ -24,18 +24,22 @@ pub fn close_index<S: Station>(station: &mut S) -> Result<(), Failed>
     // A clean file stays clean: whatever is answered, and at every moment if nothing is pending at the entry.
     ensures clean { KeepsClean (S.view station.old) (S.view station.new) }
     // On Ok the clean gate is even if the file has an index and there is no reason against its header.
-    ensures shut { OnOk result (Told (S.view station.old) → header_reason (S.view station.old).held ≡ None → IsShut (S.view station.new).held) }
+    ensures shut { OnOk result (Told (S.view station.old) → header_reason (S.view station.old).held ≡ None →
+        IsShut (S.view station.new).held) }
     // On Ok nothing is pending, if nothing was, or if the index was open.
     ensures settled { OnOk result (NothingPending (S.view station.old) → NothingPending (S.view station.new)) }
-    ensures synced { OnOk result (Told (S.view station.old) → IsOpenIndex (S.view station.old).held → NothingPending (S.view station.new)) }
+    ensures synced { OnOk result (Told (S.view station.old) → IsOpenIndex (S.view station.old).held →
+        NothingPending (S.view station.new)) }
     // Whatever is answered, a file that the header refuses, one without an index and one with an even clean gate keep every byte
     // at every moment, and nothing is written.
-    ensures kept { Told (S.view station.old) → ¬ IsOpenIndex (S.view station.old).held → LeavesFile (S.view station.old) (S.view station.new) }
+    ensures kept { Told (S.view station.old) → ¬ IsOpenIndex (S.view station.old).held →
+        LeavesFile (S.view station.old) (S.view station.new) }
     // Costs: at most one byte written, the 4096 of the header page read, and four calls; two calls if the file is such a one.
     ensures cost { (S.view station.new).travel.written ≤ (S.view station.old).travel.written + 1 }
     ensures reads { (S.view station.new).travel.read ≤ (S.view station.old).travel.read + page_size }
     ensures calls { (S.view station.new).calls ≤ (S.view station.old).calls + 4 }
-    ensures calls_shut { Told (S.view station.old) → ¬ IsOpenIndex (S.view station.old).held → (S.view station.new).calls ≤ (S.view station.old).calls + 2 }
+    ensures calls_shut { Told (S.view station.old) → ¬ IsOpenIndex (S.view station.old).held →
+        (S.view station.new).calls ≤ (S.view station.old).calls + 2 }
     // Fails only if the count of disk faults rose.
     ensures cause { OnErr result (Rose (S.view station.old).disk_faults (S.view station.new).disk_faults) }
 {

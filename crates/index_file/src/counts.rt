@@ -8,9 +8,9 @@ ghost use Rattle.density_rule.specs.Marks.{no_marks};
 ghost use Rattle.header_gate.specs.Places.{IsLayout, file_length};
 ghost use Rattle.header_gate.specs.declared.layout.TheConstants.{INDEXED};
 ghost use Rattle.index_file.specs.Area.{count_place};
-ghost use Rattle.index_file.specs.Reading.{HasIndex, IsUncounted, TakesCounts, NamesCount, ReadsCounts};
-ghost use Rattle.index_file.specs.Counting.{AreCounted, AreCountedIn, IsFirstBad, CountFailsAt};
-ghost use Rattle.window_tally.specs.View.{IsTally};
+ghost use Rattle.index_file.specs.IndexReading.{HasIndex, IsUncounted, TakesCounts, NamesCount, ReadsCounts};
+ghost use Rattle.index_file.specs.IndexCounts.{AreCounted, AreCountedIn, IsFirstBad, CountFailsAt};
+ghost use Rattle.window_tally.specs.TallyView.{IsTally};
 
 use crate::area::{count_at, wrong_count};
 use crate::fault::AreaFault;
@@ -33,12 +33,14 @@ pub(crate) fn read_counts<S: Station>(
 ) -> Result<(), AreaFault>
     requires file { HasIndex layout.now (S.view station.old) }
     requires uncounted { IsUncounted layout.now tally.old }
-    ensures counted { OnOk result (Told (S.view station.old) → AreCounted layout.now tally.old.height (2 ^ tally.old.height) tally.new.counts (S.view station.old).held) }
+    ensures counted { OnOk result (Told (S.view station.old) →
+        AreCounted layout.now tally.old.height (2 ^ tally.old.height) tally.new.counts (S.view station.old).held) }
     ensures refused { IfErr result (λ e. Told (S.view station.old) → (place : ℕ) → e ≡ AreaFault.Wrong place →
         CountFailsAt layout.now tally.old.height (2 ^ tally.old.height) (S.view station.old).held place) }
     ensures counts { TakesCounts tally.old tally.new }
     ensures reads { ReadsCounts layout.now tally.old.height result (S.view station.old) (S.view station.new) }
-    ensures named { IfErr result (λ e. (place : ℕ) → e ≡ AreaFault.Wrong place → NamesCount layout.now tally.old.height place (S.view station.old).travel (S.view station.new).travel) }
+    ensures named { IfErr result (λ e. (place : ℕ) → e ≡ AreaFault.Wrong place →
+        NamesCount layout.now tally.old.height place (S.view station.old).travel (S.view station.new).travel) }
 {
     let end = segment_count(tally);
     let mut first = 0;
@@ -62,14 +64,18 @@ fn read_count_piece<S: Station>(
     requires uncounted { IsUncounted layout.now tally.old }
     requires segments { first + count ≤ 2 ^ tally.old.height }
     requires room { count ≤ 1024 }
-    ensures counted { OnOk result (Told (S.view station.old) → AreCounted layout.now tally.old.height first tally.old.counts (S.view station.old).held →
+    ensures counted { OnOk result (Told (S.view station.old) →
+        AreCounted layout.now tally.old.height first tally.old.counts (S.view station.old).held →
         AreCounted layout.now tally.old.height (first + count) tally.new.counts (S.view station.old).held) }
-    ensures refused { IfErr result (λ e. Told (S.view station.old) → AreCounted layout.now tally.old.height first tally.old.counts (S.view station.old).held →
+    ensures refused { IfErr result (λ e. Told (S.view station.old) →
+        AreCounted layout.now tally.old.height first tally.old.counts (S.view station.old).held →
         (place : ℕ) → e ≡ AreaFault.Wrong place → CountFailsAt layout.now tally.old.height (first + count) (S.view station.old).held place) }
-    ensures named { IfErr result (λ e. (place : ℕ) → e ≡ AreaFault.Wrong place → (i : ℕ) × (first ≤ i) × (i < first + count) × (place ≡ count_place layout.now i)) }
+    ensures named { IfErr result (λ e. (place : ℕ) → e ≡ AreaFault.Wrong place → (i : ℕ) × (first ≤ i) × (i < first + count) ×
+        (place ≡ count_place layout.now i)) }
     ensures counts { TakesCounts tally.old tally.new }
     ensures steps { Steps Same (S.view station.old) (S.view station.new) }
-    ensures travel { (S.view station.new).travel ≡ after_read (count_place layout.now first) (COUNT_SIZE * count) (S.view station.old).travel }
+    ensures travel { (S.view station.new).travel ≡
+        after_read (count_place layout.now first) (COUNT_SIZE * count) (S.view station.old).travel }
     ensures calls { (S.view station.new).calls ≤ (S.view station.old).calls + 1 }
     ensures failed { IsErrOf result AreaFault.Failed → Rose (S.view station.old).disk_faults (S.view station.new).disk_faults }
 {

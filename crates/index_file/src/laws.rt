@@ -6,8 +6,8 @@ ghost use Rattle.header_gate.specs.Header.{clean_gate, layout_in};
 ghost use Rattle.header_gate.specs.Reasons.{header_reason};
 ghost use Rattle.header_gate.specs.declared.reason.Reason.{Reason};
 ghost use Rattle.index_file.specs.Clean.{IsClean, IsCleanPlace, IsIndexed, IsLeft, IsShut, version_of};
-ghost use Rattle.index_file.specs.Opening.{IsQuick};
-ghost use Rattle.index_file.specs.Validating.{area_reason};
+ghost use Rattle.index_file.specs.IndexOpening.{IsQuick};
+ghost use Rattle.index_file.specs.IndexReasons.{area_reason};
 ghost use Rattle.map_model.specs.Image.{height_of};
 
 /// A law: what closes an odd clean gate, and what leaves an even one alone, keeps an image clean; and the index of a clean

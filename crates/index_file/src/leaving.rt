@@ -8,8 +8,8 @@ ghost use Rattle.header_gate.specs.Places.{file_length};
 ghost use Rattle.header_gate.specs.declared.layout.TheConstants.{INDEXED};
 ghost use Rattle.index_file.specs.Clean.{IsAreaPlace, IsLeft, Leaves};
 ghost use Rattle.index_file.specs.Leaving.{IsReady, CanLeave};
-ghost use Rattle.recovery.specs.Parts.{AreParts};
-ghost use Rattle.index_file.specs.Reading.{area_calls};
+ghost use Rattle.recovery.specs.StoreParts.{AreParts};
+ghost use Rattle.index_file.specs.IndexReading.{area_calls};
 
 use crate::writing::{write_counts, write_nodes};
 use header_gate::{Gate, Layout, set_gate};
@@ -26,7 +26,8 @@ pub fn leave_index<S: Station>(station: &mut S, parts: &mut Parts) -> Result<(),
     requires parts { AreParts parts.old.place parts.old.tally parts.old.index parts.old.frames.journal }
     requires indexed { INDEXED ≤ parts.old.place.layout.version }
     requires reach { file_length parts.old.place.layout ≤ (S.view station.old).fixed.reach }
-    requires ready { EachHeld (IsReady parts.old.place.layout parts.old.place.region parts.old.tally parts.old.index) (S.view station.old) }
+    requires ready { EachHeld (IsReady parts.old.place.layout parts.old.place.region parts.old.tally parts.old.index)
+        (S.view station.old) }
     requires nothing { NothingPending (S.view station.old) }
     // At every moment, and in the held bytes whatever is answered, the image is clean, and no byte differs but those of the index
     // and the clean gate.
@@ -39,7 +40,8 @@ pub fn leave_index<S: Station>(station: &mut S, parts: &mut Parts) -> Result<(),
     ensures kept { parts.new ≡ parts.old }
     // Costs at height h: at most `68 * 2^h + 1` bytes written, none read; at most one call for each 64 nodes and each 1024
     // counts, each number rounded up, and three.
-    ensures cost { (S.view station.new).travel.written ≤ (S.view station.old).travel.written + (68 * 2 ^ parts.old.tally.height + 1) }
+    ensures cost { (S.view station.new).travel.written ≤ (S.view station.old).travel.written +
+        (68 * 2 ^ parts.old.tally.height + 1) }
     ensures no_reads { (S.view station.new).travel.read ≡ (S.view station.old).travel.read }
     ensures calls { (S.view station.new).calls ≤ (S.view station.old).calls + (area_calls parts.old.tally.height + 3) }
     // Fails only if the count of disk faults rose.

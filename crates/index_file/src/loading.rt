@@ -9,12 +9,12 @@ ghost use Rattle.density_rule.specs.Windows.{IsBalanced};
 ghost use Rattle.header_gate.specs.Places.{IsLayout, file_length};
 ghost use Rattle.header_gate.specs.declared.layout.TheConstants.{INDEXED};
 ghost use Rattle.header_gate.specs.declared.reason.Reason.TheVariants.{Index as WrongIndex};
-ghost use Rattle.index_file.specs.Validating.{area_reason, fences_reason, windows_reason, counts_read};
+ghost use Rattle.index_file.specs.IndexReasons.{area_reason, fences_reason, windows_reason, counts_read};
 ghost use Rattle.index_file.specs.Area.{node_place};
-ghost use Rattle.index_file.specs.Reading.{HasIndex, IsUncounted, TakesCounts, IsUnread, TakesFences, IsFrontRead, IsAreaFront, NamesNode, NamesCount, NamesPlace, ReadsNodes, ReadsCounts, after_area, area_calls};
+ghost use Rattle.index_file.specs.IndexReading.{HasIndex, IsUncounted, TakesCounts, IsUnread, TakesFences, IsFrontRead, IsAreaFront, NamesNode, NamesCount, NamesPlace, ReadsNodes, ReadsCounts, after_area, area_calls};
 ghost use Rattle.index_file.specs.declared.sizes.TheConstants.{NODE_SIZE};
 ghost use Rattle.index_file.specs.Writing.{AreNodesOf};
-ghost use Rattle.window_tally.specs.View.{IsTally};
+ghost use Rattle.window_tally.specs.TallyView.{IsTally};
 
 use crate::area::{wrong_count, wrong_node};
 use crate::counts::read_counts;
@@ -40,17 +40,23 @@ pub(crate) fn load_area<S: Station>(
     requires file { HasIndex layout.now (S.view station.old) }
     requires uncounted { IsUncounted layout.now tally.old }
     requires index_height { index.old.height ≡ tally.old.height }
-    ensures fenced { OnOk result (Told (S.view station.old) → AreNodesOf layout.now.format layout.now tally.old.height index.new.fences (2 ^ tally.old.height - 1) (S.view station.old).held) }
-    ensures counted { OnOk result (Told (S.view station.old) → tally.new.counts ≡ counts_read layout.now tally.old.height (S.view station.old).held) }
+    ensures fenced { OnOk result (Told (S.view station.old) →
+        AreNodesOf layout.now.format layout.now tally.old.height index.new.fences (2 ^ tally.old.height - 1)
+        (S.view station.old).held) }
+    ensures counted { OnOk result (Told (S.view station.old) →
+        tally.new.counts ≡ counts_read layout.now tally.old.height (S.view station.old).held) }
     ensures balanced { OnOk result (IsBalanced tally.new.height tally.new.counts) }
     ensures refused { IfErr result (λ e. Told (S.view station.old) → (place : ℕ) → e ≡ AreaFault.Wrong place →
         area_reason layout.now tally.old.height (S.view station.old).held ≡ Some (WrongIndex place)) }
     ensures counts { TakesCounts tally.old tally.new }
     ensures fences { TakesFences index.old index.new }
     ensures steps { Steps Same (S.view station.old) (S.view station.new) }
-    ensures travel { OnOk result ((S.view station.new).travel ≡ after_area layout.now tally.old.height (S.view station.old).travel) }
-    ensures front { IfErr result (λ e. IsAreaFront layout.now tally.old.height (S.view station.old).travel (S.view station.new).travel) }
-    ensures named { IfErr result (λ e. (place : ℕ) → e ≡ AreaFault.Wrong place → NamesPlace layout.now tally.old.height place (S.view station.old).travel (S.view station.new).travel) }
+    ensures travel { OnOk result ((S.view station.new).travel ≡
+        after_area layout.now tally.old.height (S.view station.old).travel) }
+    ensures front { IfErr result (λ e. IsAreaFront layout.now tally.old.height (S.view station.old).travel
+        (S.view station.new).travel) }
+    ensures named { IfErr result (λ e. (place : ℕ) → e ≡ AreaFault.Wrong place →
+        NamesPlace layout.now tally.old.height place (S.view station.old).travel (S.view station.new).travel) }
     ensures calls { (S.view station.new).calls ≤ (S.view station.old).calls + area_calls tally.old.height }
     ensures failed { IsErrOf result AreaFault.Failed → Rose (S.view station.old).disk_faults (S.view station.new).disk_faults }
 {
@@ -68,14 +74,17 @@ fn load_fences<S: Station>(
 ) -> Result<(), AreaFault>
     requires file { HasIndex layout.now (S.view station.old) }
     requires unread { IsUnread layout.now h index.old }
-    ensures fenced { OnOk result (Told (S.view station.old) → AreNodesOf layout.now.format layout.now h index.new.fences (2 ^ h - 1) (S.view station.old).held) }
+    ensures fenced { OnOk result (Told (S.view station.old) →
+        AreNodesOf layout.now.format layout.now h index.new.fences (2 ^ h - 1) (S.view station.old).held) }
     ensures sound { OnOk result (Told (S.view station.old) → fences_reason layout.now h (S.view station.old).held ≡ None) }
     ensures refused { IfErr result (λ e. Told (S.view station.old) → (place : ℕ) → e ≡ AreaFault.Wrong place →
         fences_reason layout.now h (S.view station.old).held ≡ Some (WrongIndex place)) }
     ensures fences { TakesFences index.old index.new }
     ensures reads { ReadsNodes layout.now h result (S.view station.old) (S.view station.new) }
-    ensures front { OnErr result (IsFrontRead (node_place layout.now 0) (NODE_SIZE * (2 ^ h - 1)) (S.view station.old).travel (S.view station.new).travel) }
-    ensures named { IfErr result (λ e. (place : ℕ) → e ≡ AreaFault.Wrong place → NamesNode layout.now h place (S.view station.old).travel (S.view station.new).travel) }
+    ensures front { OnErr result (IsFrontRead (node_place layout.now 0) (NODE_SIZE * (2 ^ h - 1)) (S.view station.old).travel
+        (S.view station.new).travel) }
+    ensures named { IfErr result (λ e. (place : ℕ) → e ≡ AreaFault.Wrong place →
+        NamesNode layout.now h place (S.view station.old).travel (S.view station.new).travel) }
 {
     read_nodes(station, layout, index, h)?;
     match first_misplaced(index, h) {
@@ -92,13 +101,15 @@ fn load_counts<S: Station>(
 ) -> Result<(), AreaFault>
     requires file { HasIndex layout.now (S.view station.old) }
     requires uncounted { IsUncounted layout.now tally.old }
-    ensures counted { OnOk result (Told (S.view station.old) → tally.new.counts ≡ counts_read layout.now tally.old.height (S.view station.old).held) }
+    ensures counted { OnOk result (Told (S.view station.old) →
+        tally.new.counts ≡ counts_read layout.now tally.old.height (S.view station.old).held) }
     ensures balanced { OnOk result (IsBalanced tally.new.height tally.new.counts) }
     ensures refused { IfErr result (λ e. Told (S.view station.old) → (place : ℕ) → e ≡ AreaFault.Wrong place →
         windows_reason layout.now tally.old.height (S.view station.old).held ≡ Some (WrongIndex place)) }
     ensures counts { TakesCounts tally.old tally.new }
     ensures reads { ReadsCounts layout.now tally.old.height result (S.view station.old) (S.view station.new) }
-    ensures named { IfErr result (λ e. (place : ℕ) → e ≡ AreaFault.Wrong place → NamesCount layout.now tally.old.height place (S.view station.old).travel (S.view station.new).travel) }
+    ensures named { IfErr result (λ e. (place : ℕ) → e ≡ AreaFault.Wrong place →
+        NamesCount layout.now tally.old.height place (S.view station.old).travel (S.view station.new).travel) }
 {
     read_counts(station, layout, tally)?;
     match first_broken(tally) {

@@ -9,11 +9,11 @@ ghost use Rattle.header_gate.specs.Places.{file_length, height_limit};
 ghost use Rattle.header_gate.specs.Reasons.{header_reason};
 ghost use Rattle.header_gate.specs.declared.layout.TheConstants.{INDEXED, PAIRED};
 ghost use Rattle.index_file.specs.Clean.{IsClean, IsLeft};
-ghost use Rattle.index_file.specs.Opening.{IsQuick, IsQuickFault, IsPageRead, IsQuickFront, NamesRead, IsOpenedQuickly, IsKnown, is_quick, after_quick};
-ghost use Rattle.index_file.specs.Reading.{IsAreaFront, NamesPlace, area_calls};
+ghost use Rattle.index_file.specs.IndexOpening.{IsQuick, IsQuickFault, IsPageRead, IsQuickFront, NamesRead, IsOpenedQuickly, IsKnown, StopsQuick, is_quick, after_quick};
+ghost use Rattle.index_file.specs.IndexReading.{IsAreaFront, NamesPlace, area_calls};
 ghost use Rattle.map_model.specs.Image.{height_of};
 ghost use Rattle.recovery.specs.Opening.{SyncsFirst};
-ghost use Rattle.recovery.specs.Parts.{Fits, AgreesWith, turn_of};
+ghost use Rattle.recovery.specs.StoreParts.{Fits, AgreesWith, turn_of};
 ghost use Rattle.redo_journal.specs.Rest.{RestsAt};
 
 use crate::fault::AreaFault;
@@ -33,16 +33,19 @@ pub fn open_quick<S: Station>(alloc: Global, station: &mut S) -> Result<Option<P
     requires clean { Told (S.view station.old) → IsClean (S.view station.old).held }
     // Parts that are answered agree with the file, every window is within its bounds, the index has room for the layout's
     // greatest height, and the file is within the station's reach.
-    ensures agrees { IfOk result (λ given. IfSome given (λ parts. EachHeld (AgreesWith parts.place parts.tally parts.index) (S.view station.new))) }
+    ensures agrees { IfOk result (λ given. IfSome given (λ parts. EachHeld (AgreesWith parts.place parts.tally parts.index)
+        (S.view station.new))) }
     ensures fits { IfOk result (λ given. IfSome given (λ parts. Fits parts.place parts.tally parts.index parts.frames.journal)) }
     ensures room { IfOk result (λ given. IfSome given (λ parts. parts.index.hmax ≡ height_limit parts.place.layout)) }
-    ensures reach { IfOk result (λ given. IfSome given (λ parts. file_length parts.place.layout ≤ (S.view station.old).fixed.reach)) }
+    ensures reach { IfOk result (λ given. IfSome given
+        (λ parts. file_length parts.place.layout ≤ (S.view station.old).fixed.reach)) }
     // The file of such parts is of version 3 or later, no window is rested, and no intent waits.
     ensures indexed { IfOk result (λ given. IfSome given (λ parts. INDEXED ≤ parts.place.layout.version)) }
     ensures unrested { IfOk result (λ given. IfSome given (λ parts. parts.tally.marks ≡ no_marks parts.tally.height)) }
     ensures no_intent { IfOk result (λ given. IfSome given (λ parts. parts.intent ≡ None)) }
     // On Ok nothing is pending, and if parts are answered the station is at rest.
-    ensures rests { IfOk result (λ given. IfSome given (λ parts. RestsAt parts.place.layout parts.frames.turn (S.view station.new))) }
+    ensures rests { IfOk result (λ given. IfSome given (λ parts. RestsAt parts.place.layout parts.frames.turn
+        (S.view station.new))) }
     ensures settled { OnOk result (NothingPending (S.view station.new)) }
 
     // On Ok, if the station tells its bytes, parts are answered exactly if nothing is wrong with the header, the version is 3 or
@@ -70,15 +73,19 @@ pub fn open_quick<S: Station>(alloc: Global, station: &mut S) -> Result<Option<P
     ensures front { IfErr result (λ e. IsQuickFront (S.view station.old) (S.view station.new).travel) }
     // `NotStore` names the place of a node or a count that was read, in the order of the tests: of a node if no count was read,
     // of a count behind all nodes. It lies in the piece that was read last, or all were read.
-    ensures named { IfErr result (λ e. (place : ℕ) → e ≡ OpenFault.NotStore (Reason.Index place) → NamesRead (S.view station.old) place (S.view station.new).travel) }
+    ensures named { IfErr result (λ e. (place : ℕ) → e ≡ OpenFault.NotStore (Reason.Index place) →
+        NamesRead (S.view station.old) place (S.view station.new).travel) }
     // On Ok at most three calls, and one for each 64 nodes and each 1024 counts, each number rounded up; at None three. If the
     // station tells its bytes, that holds by the height of the file, whatever is answered.
-    ensures calls { IfOk result (λ given. IfSome given (λ parts. (S.view station.new).calls ≤ (S.view station.old).calls + (3 + area_calls parts.tally.height))) }
+    ensures calls { IfOk result (λ given. IfSome given (λ parts. (S.view station.new).calls ≤ (S.view station.old).calls +
+        (3 + area_calls parts.tally.height))) }
     ensures page_calls { IfOk result (λ given. IsNone given → (S.view station.new).calls ≤ (S.view station.old).calls + 3) }
-    ensures calls_told { Told (S.view station.old) → (S.view station.new).calls ≤ (S.view station.old).calls + (3 + area_calls (height_of (S.view station.old).held)) }
+    ensures calls_told { Told (S.view station.old) →
+        (S.view station.new).calls ≤ (S.view station.old).calls + (3 + area_calls (height_of (S.view station.old).held)) }
 
     // Behind `Memory` nothing is pending, and nothing is wrong with the header.
-    ensures memory { IsErrOf result OpenFault.Memory → NothingPending (S.view station.new) × (Told (S.view station.old) → header_reason (S.view station.old).held ≡ None) }
+    ensures memory { IsErrOf result OpenFault.Memory → NothingPending (S.view station.new) ×
+        (Told (S.view station.old) → header_reason (S.view station.old).held ≡ None) }
     // `NotStore` names a place of the index, and never comes if the station tells its bytes; `Damaged` never comes.
     ensures causes { IfErr result IsQuickFault }
     ensures told { IfErr result (λ e. (r : Reason) → e ≡ OpenFault.NotStore r → ¬ Told (S.view station.old)) }
@@ -103,17 +110,19 @@ fn open_left<S: Station>(
 ) -> Result<Option<Parts>, OpenFault>
     requires known { IsKnown header.now (S.view station.old) }
     requires clean { Told (S.view station.old) → IsClean (S.view station.old).held }
-    ensures opened { IfOk result (λ given. IfSome given (λ parts. IsOpenedQuickly parts (S.view station.old) (S.view station.new))) }
+    ensures opened { IfOk result (λ given. IfSome given (λ parts. IsOpenedQuickly parts (S.view station.old)
+        (S.view station.new))) }
     ensures quick { IfOk result (λ given. IfSome given (λ parts. is_quick header.now ≡ true)) }
-    ensures passed { IfOk result (λ given. IsNone given → (is_quick header.now ≡ false) × ((S.view station.new).travel ≡ (S.view station.old).travel)) }
+    ensures passed { IfOk result (λ given. IsNone given → (is_quick header.now ≡ false) ×
+        ((S.view station.new).travel ≡ (S.view station.old).travel)) }
     ensures steps { Steps Same (S.view station.old) (S.view station.new) }
-    ensures front { IfErr result (λ e. IsAreaFront header.now.layout header.now.height (S.view station.old).travel (S.view station.new).travel) }
-    ensures named { IfErr result (λ e. (place : ℕ) → e ≡ OpenFault.NotStore (Reason.Index place) → NamesPlace header.now.layout header.now.height place (S.view station.old).travel (S.view station.new).travel) }
+    ensures front { IfErr result (λ e. IsAreaFront header.now.layout header.now.height (S.view station.old).travel
+        (S.view station.new).travel) }
+    ensures named { IfErr result (λ e. (place : ℕ) → e ≡ OpenFault.NotStore (Reason.Index place) →
+        NamesPlace header.now.layout header.now.height place (S.view station.old).travel (S.view station.new).travel) }
     ensures calls { (S.view station.new).calls ≤ (S.view station.old).calls + area_calls header.now.height }
     ensures no_calls { IfOk result (λ given. IsNone given → (S.view station.new).calls ≡ (S.view station.old).calls) }
-    ensures causes { IfErr result IsQuickFault }
-    ensures told { IfErr result (λ e. (r : Reason) → e ≡ OpenFault.NotStore r → ¬ Told (S.view station.old)) }
-    ensures failed { IsErrOf result OpenFault.Failed → Rose (S.view station.old).disk_faults (S.view station.new).disk_faults }
+    ensures stops { IfErr result (λ e. StopsQuick e (S.view station.old) (S.view station.new)) }
 {
     if !may_open(header) {
         return Ok(None);
@@ -133,12 +142,12 @@ fn load_parts<S: Station>(
     requires left { Told (S.view station.old) → IsLeft (S.view station.old).held }
     ensures opened { IfOk result (λ parts. IsOpenedQuickly parts (S.view station.old) (S.view station.new)) }
     ensures steps { Steps Same (S.view station.old) (S.view station.new) }
-    ensures front { IfErr result (λ e. IsAreaFront header.now.layout header.now.height (S.view station.old).travel (S.view station.new).travel) }
-    ensures named { IfErr result (λ e. (place : ℕ) → e ≡ OpenFault.NotStore (Reason.Index place) → NamesPlace header.now.layout header.now.height place (S.view station.old).travel (S.view station.new).travel) }
+    ensures front { IfErr result (λ e. IsAreaFront header.now.layout header.now.height (S.view station.old).travel
+        (S.view station.new).travel) }
+    ensures named { IfErr result (λ e. (place : ℕ) → e ≡ OpenFault.NotStore (Reason.Index place) →
+        NamesPlace header.now.layout header.now.height place (S.view station.old).travel (S.view station.new).travel) }
     ensures calls { (S.view station.new).calls ≤ (S.view station.old).calls + area_calls header.now.height }
-    ensures causes { IfErr result IsQuickFault }
-    ensures told { IfErr result (λ e. (r : Reason) → e ≡ OpenFault.NotStore r → ¬ Told (S.view station.old)) }
-    ensures failed { IsErrOf result OpenFault.Failed → Rose (S.view station.old).disk_faults (S.view station.new).disk_faults }
+    ensures stops { IfErr result (λ e. StopsQuick e (S.view station.old) (S.view station.new)) }
 {
     let Ok(mut parts) = make_parts(alloc, header) else {
         return Err(OpenFault::Memory);

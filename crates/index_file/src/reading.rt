@@ -7,9 +7,9 @@ ghost use Rattle.station.specs.Steps.{Steps};
 ghost use Rattle.header_gate.specs.Places.{IsLayout, file_length};
 ghost use Rattle.header_gate.specs.declared.layout.TheConstants.{INDEXED};
 ghost use Rattle.key_slot.specs.Format.{wide};
-ghost use Rattle.veb_index.specs.View.{fence_at};
+ghost use Rattle.veb_index.specs.IndexView.{fence_at};
 ghost use Rattle.index_file.specs.Area.{node_place};
-ghost use Rattle.index_file.specs.Reading.{HasIndex, IsUnread, TakesFences, IsFirstWrong, FailsAt, IsFrontRead, NamesNode, ReadsNodes};
+ghost use Rattle.index_file.specs.IndexReading.{HasIndex, IsUnread, TakesFences, IsFirstWrong, FailsAt, IsFrontRead, NamesNode, ReadsNodes};
 ghost use Rattle.index_file.specs.Writing.{IsNodeOf, AreNodesOf};
 
 use crate::area::{links_at, node_at, wrong_node};
@@ -32,13 +32,16 @@ pub(crate) fn read_nodes<S: Station>(
 ) -> Result<(), AreaFault>
     requires file { HasIndex layout.now (S.view station.old) }
     requires unread { IsUnread layout.now h index.old }
-    ensures taken { OnOk result (Told (S.view station.old) → AreNodesOf layout.now.format layout.now h index.new.fences (2 ^ h - 1) (S.view station.old).held) }
+    ensures taken { OnOk result (Told (S.view station.old) →
+        AreNodesOf layout.now.format layout.now h index.new.fences (2 ^ h - 1) (S.view station.old).held) }
     ensures refused { IfErr result (λ e. Told (S.view station.old) → (place : ℕ) → e ≡ AreaFault.Wrong place →
         FailsAt layout.now h (2 ^ h - 1) (S.view station.old).held place) }
     ensures fences { TakesFences index.old index.new }
     ensures reads { ReadsNodes layout.now h result (S.view station.old) (S.view station.new) }
-    ensures front { IsFrontRead (node_place layout.now 0) (NODE_SIZE * (2 ^ h - 1)) (S.view station.old).travel (S.view station.new).travel }
-    ensures named { IfErr result (λ e. (place : ℕ) → e ≡ AreaFault.Wrong place → NamesNode layout.now h place (S.view station.old).travel (S.view station.new).travel) }
+    ensures front { IsFrontRead (node_place layout.now 0) (NODE_SIZE * (2 ^ h - 1)) (S.view station.old).travel
+        (S.view station.new).travel }
+    ensures named { IfErr result (λ e. (place : ℕ) → e ≡ AreaFault.Wrong place →
+        NamesNode layout.now h place (S.view station.old).travel (S.view station.new).travel) }
 {
     let end = node_count(h);
     let mut first = 0;
@@ -63,14 +66,18 @@ fn read_node_piece<S: Station>(
     requires unread { IsUnread layout.now h index.old }
     requires nodes { first + count ≤ 2 ^ h - 1 }
     requires room { count ≤ 64 }
-    ensures taken { OnOk result (Told (S.view station.old) → AreNodesOf layout.now.format layout.now h index.old.fences first (S.view station.old).held →
+    ensures taken { OnOk result (Told (S.view station.old) →
+        AreNodesOf layout.now.format layout.now h index.old.fences first (S.view station.old).held →
         AreNodesOf layout.now.format layout.now h index.new.fences (first + count) (S.view station.old).held) }
-    ensures refused { IfErr result (λ e. Told (S.view station.old) → AreNodesOf layout.now.format layout.now h index.old.fences first (S.view station.old).held →
+    ensures refused { IfErr result (λ e. Told (S.view station.old) →
+        AreNodesOf layout.now.format layout.now h index.old.fences first (S.view station.old).held →
         (place : ℕ) → e ≡ AreaFault.Wrong place → FailsAt layout.now h (first + count) (S.view station.old).held place) }
-    ensures named { IfErr result (λ e. (place : ℕ) → e ≡ AreaFault.Wrong place → (x : ℕ) × (first ≤ x) × (x < first + count) × (place ≡ node_place layout.now x)) }
+    ensures named { IfErr result (λ e. (place : ℕ) → e ≡ AreaFault.Wrong place → (x : ℕ) × (first ≤ x) × (x < first + count) ×
+        (place ≡ node_place layout.now x)) }
     ensures fences { TakesFences index.old index.new }
     ensures steps { Steps Same (S.view station.old) (S.view station.new) }
-    ensures travel { (S.view station.new).travel ≡ after_read (node_place layout.now first) (NODE_SIZE * count) (S.view station.old).travel }
+    ensures travel { (S.view station.new).travel ≡
+        after_read (node_place layout.now first) (NODE_SIZE * count) (S.view station.old).travel }
     ensures calls { (S.view station.new).calls ≤ (S.view station.old).calls + 1 }
     ensures failed { IsErrOf result AreaFault.Failed → Rose (S.view station.old).disk_faults (S.view station.new).disk_faults }
 {
@@ -98,7 +105,8 @@ pub(crate) fn read_front<S: Station>(
 ) -> Result<(), Failed>
     requires room { size ≤ length piece.old }
     requires reach { pos + size ≤ (S.view station.old).fixed.reach }
-    ensures filled { OnOk result (Told (S.view station.old) → (k : ℕ) → k < size → byte piece.new k ≡ byte (S.view station.old).held (pos + k)) }
+    ensures filled { OnOk result (Told (S.view station.old) → (k : ℕ) → k < size →
+        byte piece.new k ≡ byte (S.view station.old).held (pos + k)) }
     ensures steps { Steps Same (S.view station.old) (S.view station.new) }
     ensures travel { (S.view station.new).travel ≡ after_read pos size (S.view station.old).travel }
     ensures calls { (S.view station.new).calls ≤ (S.view station.old).calls + 1 }
@@ -122,7 +130,8 @@ fn take_nodes(
     requires nodes { first + count ≤ 2 ^ h - 1 }
     requires room { count ≤ 64 }
     requires format { format ≤ wide }
-    ensures taken { result ≡ None → (k : ℕ) → k < count → IsNodeOf format h index.new.fences (first + k) piece.now (NODE_SIZE * k) }
+    ensures taken { result ≡ None → (k : ℕ) → k < count →
+        IsNodeOf format h index.new.fences (first + k) piece.now (NODE_SIZE * k) }
     ensures wrong { IfSome result (λ x. IsFirstWrong format h first count piece.now x) }
     ensures before { (x : ℕ) → x < first → fence_at index.new.fences x ≡ fence_at index.old.fences x }
     ensures hmax { index.new.hmax ≡ index.old.hmax }

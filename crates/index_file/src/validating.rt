@@ -6,12 +6,12 @@ ghost use Rattle.key_slot.specs.Record.{key_cmp};
 ghost use Rattle.density_rule.specs.Windows.{IsBalanced};
 ghost use Rattle.header_gate.specs.declared.layout.Layout.{Layout};
 ghost use Rattle.header_gate.specs.declared.reason.Reason.TheVariants.{Index as WrongIndex};
-ghost use Rattle.map_model.specs.Reasons.{first_reason};
+ghost use Rattle.map_model.specs.FileReasons.{first_reason};
 ghost use Rattle.veb_index.specs.Nodes.{fence_place, fence_by};
-ghost use Rattle.veb_index.specs.View.{fence_at};
+ghost use Rattle.veb_index.specs.IndexView.{fence_at};
 ghost use Rattle.index_file.specs.Area.{node_place, count_place};
-ghost use Rattle.index_file.specs.Validating.{order_reason, row_reason};
-ghost use Rattle.window_tally.specs.View.{IsTally};
+ghost use Rattle.index_file.specs.IndexReasons.{order_reason, row_reason};
+ghost use Rattle.window_tally.specs.TallyView.{IsTally};
 
 use density_rule::{Window, in_bounds};
 use veb_index::{Index, fence_position};
@@ -21,7 +21,8 @@ use window_tally::Tally;
 pub(crate) fn first_misplaced(index: &Index, h: u32) -> Option<u32>
     requires height { h ≡ index.now.height }
     requires low { h ≤ 16 }
-    ensures ordered { result ≡ None → (l : Layout) → first_reason (order_reason l h (fence_by h (fence_at index.now.fences))) (2 ^ h) ≡ None }
+    ensures ordered { result ≡ None → (l : Layout) →
+        first_reason (order_reason l h (fence_by h (fence_at index.now.fences))) (2 ^ h) ≡ None }
     ensures misplaced { IfSome result (λ i. (1 ≤ i) × (i < 2 ^ h) × ((l : Layout) →
         first_reason (order_reason l h (fence_by h (fence_at index.now.fences))) (2 ^ h) ≡ Some (WrongIndex (node_place l (fence_place h i))))) }
 {
@@ -50,8 +51,10 @@ fn is_misplaced(index: &Index, h: u32, i: u32) -> bool
 pub(crate) fn first_broken(tally: &Tally) -> Option<Window>
     requires { IsTally tally.now }
     ensures balanced { result ≡ None → IsBalanced tally.now.height tally.now.counts }
-    ensures none { result ≡ None → (l : Layout) → first_reason (row_reason l tally.now.height tally.now.counts) (tally.now.height + 1) ≡ None }
-    ensures broken { IfSome result (λ w. (w.height ≤ tally.now.height) × (w.number * 2 ^ w.height < 2 ^ tally.now.height) × ((l : Layout) →
+    ensures none { result ≡ None → (l : Layout) → first_reason (row_reason l tally.now.height tally.now.counts)
+        (tally.now.height + 1) ≡ None }
+    ensures broken { IfSome result (λ w. (w.height ≤ tally.now.height) × (w.number * 2 ^ w.height < 2 ^ tally.now.height) ×
+        ((l : Layout) →
         first_reason (row_reason l tally.now.height tally.now.counts) (tally.now.height + 1) ≡ Some (WrongIndex (count_place l (w.number * 2 ^ w.height))))) }
 {
     for h in 0..tally.height() + 1 {

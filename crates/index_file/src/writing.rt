@@ -9,9 +9,9 @@ ghost use Rattle.header_gate.specs.declared.layout.TheConstants.{INDEXED};
 ghost use Rattle.key_slot.specs.Format.{wide};
 ghost use Rattle.index_file.specs.Area.{node_place, count_place};
 ghost use Rattle.index_file.specs.Clean.{IsAreaPlace};
-ghost use Rattle.index_file.specs.Reading.{HasIndex, node_calls, count_calls};
+ghost use Rattle.index_file.specs.IndexReading.{HasIndex, node_calls, count_calls};
 ghost use Rattle.index_file.specs.Writing.{AreNodesOf, AreCountsOf};
-ghost use Rattle.window_tally.specs.View.{IsTally};
+ghost use Rattle.window_tally.specs.TallyView.{IsTally};
 
 use crate::area::{count_at, fill_counts, fill_nodes, node_at};
 use crate::sizes::{COUNT_SIZE, NODE_SIZE, PIECE};
@@ -38,7 +38,8 @@ pub(crate) fn write_nodes<S: Station>(
     requires height { h ≡ index.now.height }
     requires low { h ≤ layout.now.hmax }
     ensures steps { Steps (Touched (IsAreaPlace layout.now)) (S.view station.old) (S.view station.new) }
-    ensures written { OnOk result (Told (S.view station.old) → AreNodesOf wide layout.now h index.now.fences (2 ^ h - 1) (S.view station.new).held) }
+    ensures written { OnOk result (Told (S.view station.old) →
+        AreNodesOf wide layout.now h index.now.fences (2 ^ h - 1) (S.view station.new).held) }
     ensures cost { (S.view station.new).travel.written ≤ (S.view station.old).travel.written + NODE_SIZE * (2 ^ h - 1) }
     ensures no_reads { (S.view station.new).travel.read ≡ (S.view station.old).travel.read }
     ensures calls { (S.view station.new).calls ≤ (S.view station.old).calls + node_calls h }
@@ -78,7 +79,8 @@ fn write_node_piece<S: Station>(
     requires nodes { first + count ≤ 2 ^ h - 1 }
     requires room { count ≤ 64 }
     ensures steps { Steps (Touched (IsAreaPlace layout.now)) (S.view station.old) (S.view station.new) }
-    ensures written { OnOk result (Told (S.view station.old) → AreNodesOf wide layout.now h index.now.fences first (S.view station.old).held →
+    ensures written { OnOk result (Told (S.view station.old) →
+        AreNodesOf wide layout.now h index.now.fences first (S.view station.old).held →
         AreNodesOf wide layout.now h index.now.fences (first + count) (S.view station.new).held) }
     ensures cost { (S.view station.new).travel.written ≤ (S.view station.old).travel.written + NODE_SIZE * count }
     ensures no_reads { (S.view station.new).travel.read ≡ (S.view station.old).travel.read }
@@ -102,7 +104,8 @@ pub(crate) fn write_counts<S: Station>(
     requires is_tally { IsTally tally.now }
     requires low { tally.now.height ≤ layout.now.hmax }
     ensures steps { Steps (Touched (λ k. count_place layout.now 0 ≤ k)) (S.view station.old) (S.view station.new) }
-    ensures written { OnOk result (Told (S.view station.old) → AreCountsOf layout.now tally.now.counts (2 ^ tally.now.height) (S.view station.new).held) }
+    ensures written { OnOk result (Told (S.view station.old) →
+        AreCountsOf layout.now tally.now.counts (2 ^ tally.now.height) (S.view station.new).held) }
     ensures cost { (S.view station.new).travel.written ≤ (S.view station.old).travel.written + COUNT_SIZE * 2 ^ tally.now.height }
     ensures no_reads { (S.view station.new).travel.read ≡ (S.view station.old).travel.read }
     ensures calls { (S.view station.new).calls ≤ (S.view station.old).calls + count_calls tally.now.height }
@@ -141,7 +144,8 @@ fn write_count_piece<S: Station>(
     requires segments { first + count ≤ 2 ^ tally.now.height }
     requires room { count ≤ 1024 }
     ensures steps { Steps (Touched (λ k. count_place layout.now 0 ≤ k)) (S.view station.old) (S.view station.new) }
-    ensures written { OnOk result (Told (S.view station.old) → AreCountsOf layout.now tally.now.counts first (S.view station.old).held →
+    ensures written { OnOk result (Told (S.view station.old) →
+        AreCountsOf layout.now tally.now.counts first (S.view station.old).held →
         AreCountsOf layout.now tally.now.counts (first + count) (S.view station.new).held) }
     ensures cost { (S.view station.new).travel.written ≤ (S.view station.old).travel.written + COUNT_SIZE * count }
     ensures no_reads { (S.view station.new).travel.read ≡ (S.view station.old).travel.read }

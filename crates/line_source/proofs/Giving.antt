@@ -5,7 +5,7 @@ use Rattle.std.proofs.Math.Seq.{drop-cons}
 use Rattle.std.proofs.lemmas.List.Elements.{All-append}
 use Rattle.line_source.specs.Lines.{NoFeed, raw_lines, line_limit}
 use Rattle.line_source.specs.SourceView.{SourceView, SourceTold}
-use Rattle.line_source.specs.ReaderView.{ReaderView, rest, IsFirstFeed}
+use Rattle.line_source.specs.LineReaderView.{ReaderView, rest, IsFirstFeed}
 use Rattle.line_source.specs.LineStep.{IsNext, Gives}
 use Rattle.line_source.specs.Filling.{IsKept, IsGiven, a_line, a_long_line, GivesLast, the_end, last_line}
 use Rattle.line_source.specs.declared.reader.LineStep.{LineStep}

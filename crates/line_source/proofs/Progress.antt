@@ -3,7 +3,7 @@ use Rattle.std.proofs.Common.{◌≡◌, ℕ, ◌+◌, ◌<◌, ◌≤◌, ◌�
 use Rattle.std.proofs.lemmas.List.{append-nil}
 use Rattle.line_source.specs.Lines.{NoFeed, raw_lines, complete_lines}
 use Rattle.line_source.specs.SourceView.{SourceView, SourceTold, Went, SourceRose}
-use Rattle.line_source.specs.ReaderView.{ReaderView, rest}
+use Rattle.line_source.specs.LineReaderView.{ReaderView, rest}
 use Rattle.line_source.specs.LineStep.{IsNext, IsCut, Gives, Tells, is_last, Takes}
 use Rattle.line_source.specs.Progress.{BeginsWith, HasGiven, IsLineOf, GivesOne, IsCutShort, GivesAll}
 use Rattle.line_source.specs.declared.reader.LineStep.{LineStep}

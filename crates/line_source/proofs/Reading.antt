@@ -4,7 +4,7 @@ use Rattle.std.proofs.lemmas.List.{append-nil, take_at}
 use Rattle.std.proofs.lemmas.List.Elements.{All-append, All-nil}
 use Rattle.line_source.specs.Lines.{NoFeed, line_limit}
 use Rattle.line_source.specs.SourceView.{SourceView, SourceTold, TookFront, Went}
-use Rattle.line_source.specs.ReaderView.{ReaderView, rest, IsFirstFeed}
+use Rattle.line_source.specs.LineReaderView.{ReaderView, rest, IsFirstFeed}
 use Rattle.line_source.specs.LineStep.{IsCut}
 use Rattle.line_source.specs.Filling.{IsPiece, a_piece, no_piece, HasTaken, IsKept, LetsGo, drops, keeps}
 

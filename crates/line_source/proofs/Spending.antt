@@ -4,7 +4,7 @@ use Rattle.std.proofs.lemmas.List.{take_at, drop_at, get_or_append_left}
 use Rattle.std.proofs.Math.Seq.{take-add}
 use Rattle.line_source.specs.Lines.{NoFeed}
 use Rattle.line_source.specs.SourceView.{SourceView, SourceTold}
-use Rattle.line_source.specs.ReaderView.{ReaderView, rest, IsFirstFeed}
+use Rattle.line_source.specs.LineReaderView.{ReaderView, rest, IsFirstFeed}
 use Rattle.line_source.specs.LineStep.{IsCut, IsSpent, IsExact}
 use Rattle.line_source.specs.Filling.{IsGiven, a_line, a_long_line, GivesLast, the_end, last_line}
 use Rattle.line_source.specs.declared.reader.LineStep.{LineStep}

@@ -1,7 +1,7 @@
 pub mod SourceView
 pub mod MemView
 pub mod Lines
-pub mod ReaderView
+pub mod LineReaderView
 pub mod LineStep
 pub mod Filling
 pub mod Progress

@@ -23,10 +23,12 @@ pub record TookFront (old new : SourceView) : Type 0 where
   pub front : List ℕ
   pub is : old.left ≡ front ++ new.left
 
--- one more; a count stands still at the last value of a `u64`
+-- a read failed; a count stands still at the last value of a `u64`
+abbrev pub SourceRose : SourceView → SourceView → Type 0
+SourceRose old new = min (old.faults + 1) (2 ^ 64 - 1) ≤ new.faults
+
+-- What `SourceRose` says in place, for what counts its calls.
+
+-- one more, up to the last value of a `u64`
 abbrev pub one_fault_more : ℕ → ℕ
 one_fault_more count = min (count + 1) (2 ^ 64 - 1)
-
--- a read failed
-abbrev pub SourceRose : SourceView → SourceView → Type 0
-SourceRose old new = one_fault_more old.faults ≤ new.faults

@@ -3,7 +3,7 @@
 ghost use Rattle.std.specs.Prelude.{◌≡◌, ◌+◌, ◌-◌, ◌/◌, ◌<◌, ◌≤◌, ◌++◌, [], length, take, drop, slice_range, MatchOption, IfOk, OnErr};
 ghost use Rattle.line_source.specs.SourceView.{SourceTold, Went, SourceRose};
 ghost use Rattle.line_source.specs.Lines.{NoFeed};
-ghost use Rattle.line_source.specs.ReaderView.{IsFirstFeed};
+ghost use Rattle.line_source.specs.LineReaderView.{IsFirstFeed};
 
 use super::source::{ReadFailed, Source};
 

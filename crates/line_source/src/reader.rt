@@ -3,7 +3,7 @@
 ghost use Rattle.std.specs.Prelude.{◌≡◌, ℕ, ◌<◌, ◌≤◌, ◌+◌, [], length, take, drop, OnOk, OnErr, false, true};
 ghost use Rattle.line_source.specs.SourceView.{SourceTold, Went};
 ghost use Rattle.line_source.specs.Lines.{line_limit, most_held};
-ghost use Rattle.line_source.specs.ReaderView.{ReaderView, rest, IsFirstFeed};
+ghost use Rattle.line_source.specs.LineReaderView.{ReaderView, rest, IsFirstFeed};
 ghost use Rattle.line_source.specs.LineStep.{Gives, Tells, is_last, IsExact, Takes};
 ghost use Rattle.line_source.specs.Filling.{HasTaken, HasFailed, IsKept, IsGiven, GivesLast, LetsGo};
 
@@ -48,7 +48,7 @@ pub struct LineReader {
 
 impl Model for LineReader {
     ghost use Rattle.std.specs.Prelude.{◌≡◌, ◌≤◌, length, slice_range};
-    ghost use Rattle.line_source.specs.ReaderView.{ReaderView};
+    ghost use Rattle.line_source.specs.LineReaderView.{ReaderView};
     ghost use Rattle.line_source.specs.declared.buffer.TheConstants.{BUFFER_LEN};
 
     ghost Value = { ReaderView };

@@ -20,11 +20,9 @@ pub trait Source {
     fn take(&mut self, buf: &mut [u8]) -> Result<usize, ReadFailed>
         // On Ok as many bytes as it answers, the first that were left, stand at the front of `buf`, and the others are left.
         ensures within { IfOk result (λ n. n ≤ length buf.old) }
-        ensures taken { IfOk result (λ n. SourceTold (view self.old)
-            → (view self.old).left ≡ take n buf.new ++ (view self.new).left) }
+        ensures taken { IfOk result (λ n. SourceTold (view self.old) → (view self.old).left ≡ take n buf.new ++ (view self.new).left) }
         // An answer of 0 for a `buf` that isn't empty comes only if nothing was left.
-        ensures end { IfOk result (λ n. n ≡ 0 → 0 < length buf.old → SourceTold (view self.old)
-            → (view self.old).left ≡ []) }
+        ensures end { IfOk result (λ n. n ≡ 0 → 0 < length buf.old → SourceTold (view self.old) → (view self.old).left ≡ []) }
         // A read that fails takes nothing, and comes only if the count of failed reads rose.
         ensures none { OnErr result (SourceTold (view self.old) → (view self.new).left ≡ (view self.old).left) }
         ensures cause { OnErr result (SourceRose (view self.old) (view self.new)) }

@@ -4,7 +4,7 @@ use Rattle.std.proofs.Math.Pow.{pow_mono}
 use Rattle.header_gate.proofs.Shifts.{shift_size}
 use Rattle.header_gate.specs.Places.{file_length}
 use Rattle.header_gate.specs.declared.layout.Layout.{Layout}
-use Rattle.pma_engine.specs.Words.{layout_of, made_by}
+use Rattle.pma_engine.specs.CommandLines.{layout_of, made_by}
 use Rattle.pma_engine.specs.declared.words.Form.{Form}
 use Rattle.pma_engine.specs.declared.words.Job.{Job}
 use Rattle.pma_engine.specs.declared.words.Job.TheVariants.{Create}

@@ -1,7 +1,7 @@
 //! A station that tells nothing: its file may change behind the program's back, and its calls may fail.
 
 ghost use Rattle.std.specs.Prelude.{◌≡◌, ◌+◌, ◌-◌, ◌^◌, ◌≤◌, min, None, IsErr, IfOk, codes, [], ◌∷◌};
-ghost use Rattle.pma_engine.specs.Words.{job_of, made_by};
+ghost use Rattle.pma_engine.specs.CommandLines.{job_of, made_by};
 
 use crate::sessions::{SMOOTH, status_over, words_on_file};
 use station::{Failed, SayFailed, Station, Travel};

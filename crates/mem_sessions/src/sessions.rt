@@ -6,7 +6,7 @@ ghost use Rattle.header_gate.specs.Places.{file_length};
 ghost use Rattle.header_gate.specs.declared.layout.Layout.{Layout};
 ghost use Rattle.index_file.specs.Clean.{IsClean};
 ghost use Rattle.pma_engine.specs.declared.words.Job.TheVariants.{Quick};
-ghost use Rattle.pma_engine.specs.Words.{IsOnFile, job_of, file_of, made_by};
+ghost use Rattle.pma_engine.specs.CommandLines.{IsOnFile, job_of, file_of, made_by};
 
 use line_source::MemSource;
 use pma_engine::{Job, read_words, run_words};
@@ -135,7 +135,8 @@ pub(crate) fn words_to(alloc: Global, verb: Verb) -> Result<Vec<String>, AllocEr
 // Whether a command line makes no longer file than the longest of these sessions, and opens none by its index.
 fn is_small(words: &[String]) -> bool
     ensures no_quick { IsTrue result → job_of (map string_bytes words.now) ≡ Some Quick → ⊥ }
-    ensures short { IsTrue result → (l : Layout) → made_by (job_of (map string_bytes words.now)) ≡ Some l → file_length l ≤ LONGEST }
+    ensures short { IsTrue result → (l : Layout) → made_by (job_of (map string_bytes words.now)) ≡ Some l →
+        file_length l ≤ LONGEST }
 {
     match read_words(words) {
         Some(
@@ -159,9 +160,12 @@ pub(crate) fn status_over<S: Station>(
     station: &mut S,
 ) -> Result<u8, AllocError>
     requires first { (S.view station.old).attached ≡ None }
-    requires named { IsOnFile (job_of (map string_bytes words.now)) → NamedBy (file_of (map string_bytes words.now)) (S.view station.old).fixed.name }
-    requires reach { (l : Layout) → made_by (job_of (map string_bytes words.now)) ≡ Some l → file_length l ≤ (S.view station.old).fixed.reach }
-    requires clean { job_of (map string_bytes words.now) ≡ Some Quick → Told (S.view station.old) → IsClean (S.view station.old).held }
+    requires named { IsOnFile (job_of (map string_bytes words.now)) →
+        NamedBy (file_of (map string_bytes words.now)) (S.view station.old).fixed.name }
+    requires reach { (l : Layout) → made_by (job_of (map string_bytes words.now)) ≡ Some l →
+        file_length l ≤ (S.view station.old).fixed.reach }
+    requires clean { job_of (map string_bytes words.now) ≡ Some Quick → Told (S.view station.old) →
+        IsClean (S.view station.old).held }
 {
     let mut source = MemSource::new(alloc, script, 7, plan.broken)?;
     Ok(run_words(alloc, words, &mut source, station, plan.most))

@@ -4,14 +4,14 @@ use Rattle.cost_ledger.specs.Potential.{potential_of}
 use Rattle.cost_ledger.proofs.Paying.{paid_by_counts}
 use Rattle.density_rule.specs.Bounds.{upper_of}
 use Rattle.density_rule.specs.Marks.{updated_marks}
-use Rattle.density_rule.specs.Updates.{counts_after, highest_broken}
+use Rattle.density_rule.specs.CountUpdates.{counts_after, highest_broken}
 use Rattle.density_rule.specs.Windows.{IsBalanced, count_in}
 use Rattle.density_rule.proofs.Balance.{balanced_updated, count_in-root}
 use Rattle.density_rule.proofs.Changes.{length-counts_after}
 use Rattle.std.proofs.lemmas.Nat.{pow_pos}
 use Rattle.std.proofs.lemmas.List.Sums.{sum_by-set}
 use Rattle.window_tally.specs.Choice.{adds}
-use Rattle.window_tally.specs.View.{TallyView, IsTally}
+use Rattle.window_tally.specs.TallyView.{TallyView, IsTally}
 use Rattle.one_commit.specs.declared.changes.ItemChange.{ItemChange}
 use Rattle.one_commit.specs.Fitting.{finds, fits_behind, follows}
 use Rattle.one_commit.proofs.Alike.{both_true}

@@ -5,7 +5,7 @@ use Rattle.std.proofs.lemmas.Bool.{ltb-true, leb-true}
 use Rattle.density_rule.specs.declared.TheConstants.{SEGMENT_RECORDS}
 use Rattle.density_rule.specs.Bounds.{is_in_bounds, least_of, upper_of}
 use Rattle.density_rule.specs.Windows.{count_in}
-use Rattle.density_rule.specs.Updates.{count_after, counts_after, greatest_below, is_broken}
+use Rattle.density_rule.specs.CountUpdates.{count_after, counts_after, greatest_below, is_broken}
 use Rattle.density_rule.proofs.Greatest.{IsGreatest, greatest_is}
 use Rattle.density_rule.specs.Marks.{Marks, updated_marks}
 use Rattle.density_rule.proofs.Totals.{count_in-segment}

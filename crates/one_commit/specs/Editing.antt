@@ -2,14 +2,14 @@
 use Rattle.std.specs.Prelude.{◌≡◌, ℕ, ◌+◌, ◌<◌, ◌==◌, ◌&&◌, if◌then◌else◌, Bool, true, false, List, [], ◌∷◌, length, take, get_or}
 use Rattle.header_gate.specs.Paged.{segment_image}
 use Rattle.key_slot.specs.Record.{Record}
-use Rattle.density_rule.specs.Updates.{counts_after}
+use Rattle.density_rule.specs.CountUpdates.{counts_after}
 use Rattle.density_rule.specs.Marks.{Marks, updated_marks}
 use Rattle.map_model.specs.Store.{Update, bind, unbind, key_of}
 use Rattle.map_model.specs.Array.{Array, counts_of, segment_at, segment_for}
 use Rattle.map_model.specs.ArrayUpdates.{has_key, edited}
 use Rattle.map_model.specs.ArrayState.{ArrayState, next_states}
 use Rattle.map_model.specs.Holding.{IsBalancedArray}
-use Rattle.map_model.specs.Items.{AreAdmitted, charge_after_items}
+use Rattle.map_model.specs.ItemWords.{AreAdmitted, charge_after_items}
 use Rattle.map_model.specs.Batches.{IsSegmentImage, IsNone}
 use Rattle.window_tally.specs.Choice.{adds}
 use Rattle.one_commit.specs.declared.changes.ItemChange.{ItemChange}

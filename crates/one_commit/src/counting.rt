@@ -1,12 +1,12 @@
 //! The counts and marks after a batch that was committed.
 
 ghost use Rattle.std.specs.Prelude.{◌≡◌, ◌+◌, ◌*◌, ◌<◌, ◌≤◌, ◌^◌, All, length, true};
-ghost use Rattle.density_rule.specs.Updates.{counts_after};
+ghost use Rattle.density_rule.specs.CountUpdates.{counts_after};
 ghost use Rattle.density_rule.specs.Windows.{IsBalanced};
 ghost use Rattle.cost_ledger.specs.Potential.{potential_of};
 ghost use Rattle.density_rule.specs.Marks.{updated_marks};
 ghost use Rattle.window_tally.specs.Choice.{adds};
-ghost use Rattle.window_tally.specs.View.{IsTally};
+ghost use Rattle.window_tally.specs.TallyView.{IsTally};
 ghost use Rattle.one_commit.specs.Fitting.{follows, stay_within as within_of};
 ghost use Rattle.one_commit.specs.Editing.{counts_by, marks_by_changes};
 
@@ -20,7 +20,10 @@ pub fn count_changes(tally: &mut Tally, changes: &[ItemChange])
     requires balanced { IsBalanced tally.old.height tally.old.counts }
     requires within { within_of tally.old.height tally.old.counts changes.now ≡ true }
     // Counts and marks are the changes' in their order, and all else in the tally stays.
-    ensures counted { tally.new ≡ record tally.old { counts = counts_by changes.now tally.old.counts; marks = marks_by_changes tally.old.height changes.now tally.old.marks } }
+    ensures counted { tally.new ≡ record tally.old {
+      counts = counts_by changes.now tally.old.counts;
+      marks = marks_by_changes tally.old.height changes.now tally.old.marks;
+    } }
     // It is a tally again, and every window is within its bounds.
     ensures tally { IsTally tally.new }
     ensures balanced { IsBalanced tally.new.height tally.new.counts }
@@ -38,7 +41,10 @@ fn count_change(tally: &mut Tally, change: ItemChange)
     requires in_store { change.segment < 2 ^ tally.old.height }
     requires balanced { IsBalanced tally.old.height tally.old.counts }
     requires follows { follows tally.old.height tally.old.counts change ≡ true }
-    ensures counted { tally.new ≡ record tally.old { counts = counts_after (adds change.change) tally.old.counts change.segment; marks = updated_marks tally.old.height change.segment tally.old.marks } }
+    ensures counted { tally.new ≡ record tally.old {
+      counts = counts_after (adds change.change) tally.old.counts change.segment;
+      marks = updated_marks tally.old.height change.segment tally.old.marks;
+    } }
     ensures tally { IsTally tally.new }
     ensures balanced { IsBalanced tally.new.height tally.new.counts }
     ensures paid { potential_of tally.new ≤ potential_of tally.old + 512 }

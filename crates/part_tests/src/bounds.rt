@@ -27,11 +27,16 @@ const BOUNDS: [(u32, u32); 17] = [
 fn bounds_by_height(rt: HostRuntime) {
     for h in 0..17u32 {
         let (fewest, most) = BOUNDS[h as usize];
-        assert_eq!(rt; (lower(h), upper(h)), (fewest, most), "at {h}");
-        assert_eq!(rt; (least(0, h), least(3, h)), (0, fewest), "at {h}");
-        assert!(rt; in_bounds(3, h, fewest) && in_bounds(3, h, most));
-        assert!(rt; !in_bounds(3, h, fewest - 1) && !in_bounds(3, h, most + 1));
-        assert!(rt; in_bounds(0, h, 0));
+        let bounds = [lower(h), upper(h), least(0, h), least(3, h)];
+        assert!(rt; bounds == [fewest, most, 0, fewest], "at {h}");
+        let within = [
+            in_bounds(3, h, fewest),
+            in_bounds(3, h, most),
+            in_bounds(0, h, 0),
+            in_bounds(3, h, fewest - 1),
+            in_bounds(3, h, most + 1),
+        ];
+        assert!(rt; within == [true, true, true, false, false], "at {h}");
     }
     assert_eq!(rt;
         window_of(5, 1),

@@ -8,7 +8,7 @@ use header_gate::Reason;
 use key_slot::{Key, Value};
 use segment::Damage;
 use std::alloc::Global;
-use std::test::Fail;
+use std::process::Abort;
 
 // The two slot formats.
 const NARROW: u32 = 1;
@@ -16,7 +16,7 @@ const NARROW: u32 = 1;
 const WIDE: u32 = 2;
 
 // The `put` of a key and a value, where they are of some size.
-fn put(key: &[u8], value: &[u8]) -> Command {
+pub fn put(key: &[u8], value: &[u8]) -> Command {
     match (Key::from_bytes(key), Value::from_bytes(value)) {
         (Ok(key), Ok(value)) => Command::Put(key, value),
         _ => Command::Nothing,
@@ -24,7 +24,7 @@ fn put(key: &[u8], value: &[u8]) -> Command {
 }
 
 // The `get` of a key of some size.
-fn get(key: &[u8]) -> Command {
+pub fn get(key: &[u8]) -> Command {
     match Key::from_bytes(key) {
         Ok(key) => Command::Get(key),
         Err(_) => Command::Nothing,
@@ -152,25 +152,24 @@ fn batches_are_items_between_separators(rt: HostRuntime) {
 }
 
 // A batch of that many removals, of the keys `a`, `b` and so on.
-fn removals(alloc: Global, count: u8) -> Result<Vec<u8>, Fail> {
-    let mut line = Vec::from_slice(alloc, b"batch remove a")?;
+fn removals(rt: &impl Abort, alloc: Global, count: u8) -> Vec<u8> {
+    let mut line = Vec::from_slice(alloc, b"batch remove a").expect(rt, "memory");
     for i in 1..count {
-        line.extend_from_slice(b" ; remove ")?;
-        line.push(b'a' + i % 26)?;
+        line.extend_from_slice(b" ; remove ").expect(rt, "memory");
+        line.push(b'a' + i % 26).expect(rt, "memory");
     }
-    Ok(line)
+    line
 }
 
 #[test]
-fn a_batch_has_at_most_16_items(rt: HostRuntime) -> Result<(), Fail> {
-    let line = removals(rt.alloc(), 16)?;
+fn a_batch_has_at_most_16_items(rt: HostRuntime) {
+    let line = removals(&rt, rt.alloc(), 16);
     let Command::Batch(items) = parse_line(&line, NARROW) else {
-        return Err("no batch".into());
+        panic!(rt; "no batch");
     };
     assert_eq!(rt; items.len(), 16);
-    let line = removals(rt.alloc(), 17)?;
+    let line = removals(&rt, rt.alloc(), 17);
     assert!(rt; parse_line(&line, NARROW) == Command::Bad(Why::Words));
-    Ok(())
 }
 
 #[test]

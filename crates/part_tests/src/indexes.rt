@@ -2,19 +2,19 @@
 
 ghost use Rattle.std.specs.Prelude.{◌<◌};
 
+use crate::records::key;
 use block_touch::{Probe, Trace, bound};
 use key_slot::Key;
 use segment::Fences;
 use std::alloc::Global;
 use std::process::Abort;
-use std::test::Fail;
 use veb_index::{Index, Nodes, search};
 use veb_layout::fill_links;
 
 /// The key of a number: they ascend with their numbers.
-fn key(number: u32) -> Result<Key, Fail> {
+fn numbered(rt: &impl Abort, number: u32) -> Key {
     let [_, high, middle, low] = number.to_be_bytes();
-    Ok(Key::from_bytes(&[b'k', high, middle, low])?)
+    key(rt, &[b'k', high, middle, low])
 }
 
 fn set<F: Fences>(fences: &mut F, segment: u32, key: &Key)
@@ -24,15 +24,15 @@ fn set<F: Fences>(fences: &mut F, segment: u32, key: &Key)
 }
 
 /// An index of this height in which key `2 * i` is the fence of each segment `i`.
-fn filled(rt: &impl Abort, alloc: Global, height: u32) -> Result<Index, Fail> {
-    let mut index = Index::new(alloc, 16)?;
+fn filled(rt: &impl Abort, alloc: Global, height: u32) -> Index {
+    let mut index = Index::new(alloc, 16).expect(rt, "memory");
     assert!(rt; height <= 16);
     index.reset(height);
     for segment in 0..1u32 << height {
         assert!(rt; segment < 1 << index.view().height());
-        set(&mut index, segment, &key(2 * segment)?);
+        set(&mut index, segment, &numbered(rt, 2 * segment));
     }
-    Ok(index)
+    index
 }
 
 /// What a search for a key tells, with blocks of a size.
@@ -51,24 +51,23 @@ fn probe(rt: &impl Abort, index: &Index, key: &Key, block: u32) -> Probe {
 
 /// No node: all keys are in segment 0. One node: a key that isn't below its fence is to the right of it.
 #[test]
-fn keys_of_two_segments(rt: HostRuntime) -> Result<(), Fail> {
-    let mut index = Index::new(rt.alloc(), 1)?;
+fn keys_of_two_segments(rt: HostRuntime) {
+    let mut index = Index::new(rt.alloc(), 1).expect(&rt, "memory");
     let nothing = Probe {
         segment: 0,
         nodes: 0,
         blocks: 0,
         bound: 0,
     };
-    assert_eq!(rt; probe(&rt, &index, &Key::from_bytes(b"a")?, 1), nothing);
+    assert_eq!(rt; probe(&rt, &index, &key(&rt, b"a"), 1), nothing);
     index.reset(1);
-    index.set_fence(1, &Key::from_bytes(b"m")?);
+    index.set_fence(1, &key(&rt, b"m"));
     for (bytes, segment) in [(b"l", 0), (b"m", 1), (b"n", 1)] {
         let mut view = index.view();
-        assert_eq!(rt; search(&mut view, &Key::from_bytes(bytes)?), segment);
+        assert_eq!(rt; search(&mut view, &key(&rt, bytes)), segment);
         assert!(rt; view.trace().len() == 1);
         assert_eq!(rt; view.trace().at(0), 0);
     }
-    Ok(())
 }
 
 /// Levels, the segment of a key, the first positions on its path, and a size of blocks with what it gives.
@@ -85,9 +84,9 @@ const PATHS: [(u32, u32, [u32; 5], u32, u32, u32); 9] = [
 ];
 
 #[test]
-fn paths_of_keys(rt: HostRuntime) -> Result<(), Fail> {
+fn paths_of_keys(rt: HostRuntime) {
     for (height, segment, path, block, blocks, most) in PATHS {
-        let index = filled(&rt, rt.alloc(), height)?;
+        let index = filled(&rt, rt.alloc(), height);
         assert!(rt; segment < 65536);
         let wanted = Probe {
             segment,
@@ -95,7 +94,7 @@ fn paths_of_keys(rt: HostRuntime) -> Result<(), Fail> {
             blocks,
             bound: most,
         };
-        let sought = key(2 * segment + 1)?;
+        let sought = numbered(&rt, 2 * segment + 1);
         assert_eq!(rt; probe(&rt, &index, &sought, block), wanted);
         let mut view = index.view();
         search(&mut view, &sought);
@@ -104,7 +103,6 @@ fn paths_of_keys(rt: HostRuntime) -> Result<(), Fail> {
             assert_eq!(rt; trace.at(i), path[i as usize], "at {height}, {i}");
         }
     }
-    Ok(())
 }
 
 /// The bounds of other sizes; and nodes in the order of their depth break the bound of 16 levels.

@@ -5,13 +5,12 @@ ghost use Rattle.std.specs.Prelude.{◌≡◌, ◌≤◌, IfOk};
 ghost use Rattle.station.specs.MemStation.{mem_view};
 ghost use Rattle.header_gate.specs.Places.{page_size};
 
+use crate::records::{key, row};
 use batch_intent::{Intent, IntentFault, Item, read_intent};
 use header_gate::{HeaderFault, Layout, Reason};
-use key_slot::{Key, Value};
 use station::MemStation;
 use std::alloc::Global;
 use std::process::Abort;
-use std::test::Fail;
 
 // Places in the header page: the intent's gate, and the intent, which ends with the page.
 const GATE: usize = 640;
@@ -31,37 +30,36 @@ fn layout_of(version: u32, format: u32) -> Layout
 }
 
 // A header page with an intent and the byte of its gate, and with other bytes behind the intent.
-fn page(rt: &impl Abort, alloc: Global, gate: u8, intent: &[u8]) -> Result<MemStation, Fail>
-    ensures { IfOk result (λ s. page_size ≤ (mem_view s).fixed.reach) }
+fn page(rt: &impl Abort, alloc: Global, gate: u8, intent: &[u8]) -> MemStation
+    ensures { page_size ≤ (mem_view result).fixed.reach }
 {
-    let mut bytes = vec![in alloc; 0xA5; 4096]?;
+    let mut bytes = vec![in alloc; 0xA5; 4096].expect(rt, "memory");
     assert!(rt; intent.len() <= 512);
     bytes[GATE] = gate;
     bytes[INTENT..INTENT + intent.len()].copy_from_slice(intent);
-    Ok(MemStation::new(alloc, &bytes, 4096, 0, &[], None)?)
+    MemStation::new(alloc, &bytes, 4096, 0, &[], None).expect(rt, "memory")
 }
 
 // A put of a key and a value of some size.
-fn put(key: &[u8], value: &[u8]) -> Result<Item, Fail> {
-    Ok(Item::Put(Key::from_bytes(key)?, Value::from_bytes(value)?))
+fn put(rt: &impl Abort, key: &[u8], value: &[u8]) -> Item {
+    let row = row(rt, key, value);
+    Item::Put(row.key, row.value)
 }
 
 // The intent of `batch put a 1 ; remove c`, and its bytes.
 const SPELLED: [u8; 10] = [2, 1, 1, 1, b'a', b'1', 2, 1, 0, b'c'];
 
-fn spelled() -> Result<Intent, Fail> {
+fn spelled(rt: &impl Abort) -> Intent {
     let mut intent = Intent::new();
-    add(&mut intent, put(b"a", b"1")?)?;
-    add(&mut intent, Item::Remove(Key::from_bytes(b"c")?))?;
-    Ok(intent)
+    add(rt, &mut intent, put(rt, b"a", b"1"));
+    add(rt, &mut intent, Item::Remove(key(rt, b"c")));
+    intent
 }
 
 // Adds an item for which there is room.
-fn add(intent: &mut Intent, item: Item) -> Result<(), Fail> {
-    match intent.push(item) {
-        Ok(()) => Ok(()),
-        Err(_) => Err("there is no room for the item".into()),
-    }
+fn add(rt: &impl Abort, intent: &mut Intent, item: Item) {
+    let pushed = intent.push(item);
+    assert!(rt; pushed.is_ok(), "there is room for the item");
 }
 
 /// Version, the byte of the gate, and whether the items are to be applied: by the low bit, and from version 2 on.
@@ -77,48 +75,48 @@ const GATES: [(u32, u8, bool); 8] = [
 ];
 
 #[test]
-fn a_gate_counts_by_its_low_bit(rt: HostRuntime) -> Result<(), Fail> {
-    let want = spelled()?;
+fn a_gate_counts_by_its_low_bit(rt: HostRuntime) {
+    let want = spelled(&rt);
     for (version, gate, counts) in GATES {
-        let mut station = page(&rt, rt.alloc(), gate, &SPELLED)?;
-        let found = read_intent(&mut station, layout_of(version, 1))?;
+        let mut station = page(&rt, rt.alloc(), gate, &SPELLED);
+        let found = read_intent(&mut station, layout_of(version, 1)).expect(&rt, "an intent");
         assert!(rt;
             found == counts.then_some(want),
             "version {version}, gate {gate}"
         );
     }
-    Ok(())
 }
 
 /// What stands behind an even gate, and in a file without intents, is not looked at.
 #[test]
-fn an_even_gate_hides_anything(rt: HostRuntime) -> Result<(), Fail> {
+fn an_even_gate_hides_anything(rt: HostRuntime) {
     for (version, gate) in [(1, 1), (2, 0), (2, 0xFE)] {
-        let mut station = page(&rt, rt.alloc(), gate, &[17, 9, 9])?;
-        let found = read_intent(&mut station, layout_of(version, 1))?;
+        let mut station = page(&rt, rt.alloc(), gate, &[17, 9, 9]);
+        let found = read_intent(&mut station, layout_of(version, 1)).expect(&rt, "an intent");
         assert!(rt; found.is_none());
     }
-    Ok(())
 }
 
 // A slot format, an intent, and the place of the first thing that is wrong.
 type Refused<'a> = (u32, &'a [u8], Option<u32>);
 
 // Sees what is answered of intents behind an odd gate.
-fn see_refused(rt: &impl Abort, alloc: Global, rows: &[Refused<'_>]) -> Result<(), Fail> {
+fn see_refused(rt: &impl Abort, alloc: Global, rows: &[Refused<'_>]) {
     for (format, intent, place) in rows {
         assert!(rt; 1 <= *format && *format <= 2);
-        let mut station = page(rt, alloc, 1, intent)?;
+        let mut station = page(rt, alloc, 1, intent);
         let found = read_intent(&mut station, layout_of(2, *format)).err();
-        let want = place.map(|place| HeaderFault::NotStore(Reason::Intent { place }));
+        let want = match place {
+            Some(place) => Some(HeaderFault::NotStore(Reason::Intent { place: *place })),
+            None => None,
+        };
         assert_eq!(rt; found, want);
     }
-    Ok(())
 }
 
 /// The number of items is wrong, or the first item is.
 #[test]
-fn the_first_wrong_place_of_an_intent(rt: HostRuntime) -> Result<(), Fail> {
+fn the_first_wrong_place_of_an_intent(rt: HostRuntime) {
     see_refused(
         &rt,
         rt.alloc(),
@@ -139,16 +137,16 @@ fn the_first_wrong_place_of_an_intent(rt: HostRuntime) -> Result<(), Fail> {
 }
 
 // An intent of one put with a key of `k` and a value of `v` of these sizes, as far as there is room for it.
-fn one_put(alloc: Global, key: u8, value: u8) -> Result<Vec<u8>, Fail> {
-    let mut bytes = Vec::from_slice(alloc, &[1, 1, key, value])?;
+fn one_put(rt: &impl Abort, alloc: Global, key: u8, value: u8) -> Vec<u8> {
+    let mut bytes = Vec::from_slice(alloc, &[1, 1, key, value]).expect(rt, "memory");
     for _ in 0..key {
-        bytes.push(b'k')?;
+        bytes.push(b'k').expect(rt, "memory");
     }
     for _ in 0..value {
-        bytes.push(b'v')?;
+        bytes.push(b'v').expect(rt, "memory");
     }
     bytes.truncate(512);
-    Ok(bytes)
+    bytes
 }
 
 /// Format, sizes of key and value, and whether they are refused.
@@ -164,57 +162,56 @@ const SIZES: [(u32, u8, u8, bool); 8] = [
 ];
 
 #[test]
-fn sizes_are_those_of_the_format(rt: HostRuntime) -> Result<(), Fail> {
+fn sizes_are_those_of_the_format(rt: HostRuntime) {
     for (format, key, value, is_refused) in SIZES {
-        let intent = one_put(rt.alloc(), key, value)?;
+        let intent = one_put(&rt, rt.alloc(), key, value);
         let place = is_refused.then_some(3585);
-        see_refused(&rt, rt.alloc(), &[(format, &intent, place)])?;
+        see_refused(&rt, rt.alloc(), &[(format, &intent, place)]);
     }
-    Ok(())
 }
 
 // An intent of that many puts with keys of 24 bytes and values of 32, of which each has 59 bytes; what doesn't end within the
 // page is cut.
-fn long_puts(alloc: Global, count: u8) -> Result<Vec<u8>, Fail> {
-    let mut bytes = Vec::from_slice(alloc, &[count])?;
+fn long_puts(rt: &impl Abort, alloc: Global, count: u8) -> Vec<u8> {
+    let mut bytes = Vec::from_slice(alloc, &[count]).expect(rt, "memory");
     for i in 0..count {
-        bytes.extend_from_slice(&[1, 24, 32, b'a' + i % 26])?;
-        bytes.extend_from_slice(&[b'k'; 23])?;
-        bytes.extend_from_slice(&[b'v'; 32])?;
+        bytes
+            .extend_from_slice(&[1, 24, 32, b'a' + i % 26])
+            .expect(rt, "memory");
+        bytes.extend_from_slice(&[b'k'; 23]).expect(rt, "memory");
+        bytes.extend_from_slice(&[b'v'; 32]).expect(rt, "memory");
     }
     bytes.truncate(512);
-    Ok(bytes)
+    bytes
 }
 
 /// Eight such puts end within the page, and the ninth begins at 4057.
 #[test]
-fn an_item_ends_within_the_page(rt: HostRuntime) -> Result<(), Fail> {
+fn an_item_ends_within_the_page(rt: HostRuntime) {
     for (count, place) in [(8, None), (9, Some(4057)), (16, Some(4057))] {
-        let intent = long_puts(rt.alloc(), count)?;
-        see_refused(&rt, rt.alloc(), &[(1, &intent, place)])?;
+        let intent = long_puts(&rt, rt.alloc(), count);
+        see_refused(&rt, rt.alloc(), &[(1, &intent, place)]);
     }
-    Ok(())
 }
 
 /// A further item is refused by the first of its faults, and changes nothing.
 #[test]
-fn an_intent_takes_no_more(rt: HostRuntime) -> Result<(), Fail> {
-    let mut intent = spelled()?;
-    let again = intent.push(put(b"c", b"2")?);
+fn an_intent_takes_no_more(rt: HostRuntime) {
+    let mut intent = spelled(&rt);
+    let again = intent.push(put(&rt, b"c", b"2"));
     assert_eq!(rt; again, Err(IntentFault::Repeated));
-    assert!(rt; intent == spelled()?);
+    assert!(rt; intent == spelled(&rt));
     for i in 0..14u8 {
-        add(&mut intent, put(&[b'k', i], b"")?)?;
+        add(&rt, &mut intent, put(&rt, &[b'k', i], b""));
     }
     assert_eq!(rt; intent.len(), 16);
-    let full = intent.push(put(b"c", b"")?);
+    let full = intent.push(put(&rt, b"c", b""));
     assert_eq!(rt; full, Err(IntentFault::TooMany));
     let mut long = Intent::new();
     for i in 0..8u8 {
-        add(&mut long, put(&[i + 1; 24], &[b'v'; 32])?)?;
+        add(&rt, &mut long, put(&rt, &[i + 1; 24], &[b'v'; 32]));
     }
-    let late = long.push(put(&[9; 24], &[b'v'; 32])?);
+    let late = long.push(put(&rt, &[9; 24], &[b'v'; 32]));
     assert_eq!(rt; late, Err(IntentFault::TooLong));
     assert_eq!(rt; long.len(), 8);
-    Ok(())
 }

@@ -21,6 +21,8 @@ mod memory;
 #[cfg(test)]
 mod plans;
 #[cfg(test)]
+mod records;
+#[cfg(test)]
 mod segments;
 #[cfg(test)]
 mod slots;

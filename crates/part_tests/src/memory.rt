@@ -1,7 +1,6 @@
 //! Slots side by side in memory.
 
 use raw_slots::{RawSlots, SLOT_SIZE};
-use std::test::Fail;
 
 const A: [u8; SLOT_SIZE] = [1; SLOT_SIZE];
 
@@ -12,8 +11,8 @@ const C: [u8; SLOT_SIZE] = [3; SLOT_SIZE];
 const EMPTY: [u8; SLOT_SIZE] = [0; SLOT_SIZE];
 
 #[test]
-fn a_run_moves_over_itself(rt: HostRuntime) -> Result<(), Fail> {
-    let mut slots = RawSlots::new(rt.alloc(), 4)?;
+fn a_run_moves_over_itself(rt: HostRuntime) {
+    let mut slots = RawSlots::new(rt.alloc(), 4).expect(&rt, "memory");
     slots.set_slot(0, &A);
     slots.set_slot(1, &B);
     slots.set_slot(2, &C);
@@ -32,16 +31,14 @@ fn a_run_moves_over_itself(rt: HostRuntime) -> Result<(), Fail> {
     for (i, slot) in [A, B, C, C].iter().enumerate() {
         assert!(rt; slots.slot(i) == *slot, "slot {i} after a move down");
     }
-    Ok(())
 }
 
 #[test]
-fn bytes_lie_slot_by_slot(rt: HostRuntime) -> Result<(), Fail> {
-    let mut slots = RawSlots::new(rt.alloc(), 3)?;
+fn bytes_lie_slot_by_slot(rt: HostRuntime) {
+    let mut slots = RawSlots::new(rt.alloc(), 3).expect(&rt, "memory");
     slots.bytes_mut(1, 2)[SLOT_SIZE + 5] = 7;
     assert_eq!(rt; slots.slot(2)[5], 7);
     assert_eq!(rt; slots.bytes(0, 3)[2 * SLOT_SIZE + 5], 7);
-    Ok(())
 }
 
 #[test]

@@ -16,32 +16,40 @@ fn shares_that_do_not_divide(rt: HostRuntime) {
 
 #[test]
 fn two_segments(rt: HostRuntime) {
-    let mut pack = PackMoves::over(&[60, 10]);
-    assert_eq!(rt; pack.next(), Some(step(1, 0, 4)));
-    assert_eq!(rt; pack.next(), None);
-    let mut spread = SpreadMoves::new(70, 2);
-    assert_eq!(rt; spread.next(), Some(step(0, 1, 29)));
-    assert_eq!(rt; spread.next(), None);
-    let mut pack = PackMoves::over(&[4, 33]);
-    assert_eq!(rt; pack.next(), Some(step(1, 0, 33)));
-    assert_eq!(rt; pack.next(), None);
-    let mut spread = SpreadMoves::new(37, 2);
-    assert_eq!(rt; spread.next(), Some(step(0, 1, 19)));
-    assert_eq!(rt; spread.next(), None);
+    for (counts, packed, records, spread) in [
+        ([60, 10], step(1, 0, 4), 70, step(0, 1, 29)),
+        ([4, 33], step(1, 0, 33), 37, step(0, 1, 19)),
+    ] {
+        let mut pack = PackMoves::over(&counts);
+        let moves = [pack.next(), pack.next()];
+        assert_eq!(rt; moves, [Some(packed), None]);
+        assert!(rt; records <= 128);
+        let mut spread_moves = SpreadMoves::new(records, 2);
+        let moves = [spread_moves.next(), spread_moves.next()];
+        assert_eq!(rt; moves, [Some(spread), None]);
+    }
 }
 
 #[test]
 fn four_segments(rt: HostRuntime) {
     let mut pack = PackMoves::over(&[60, 2, 31, 33]);
-    assert_eq!(rt; pack.next(), Some(step(1, 0, 2)));
-    assert_eq!(rt; pack.next(), Some(step(2, 0, 2)));
-    assert_eq!(rt; pack.next(), Some(step(2, 1, 29)));
-    assert_eq!(rt; pack.next(), Some(step(3, 1, 33)));
-    assert_eq!(rt; pack.next(), None);
+    for want in [
+        Some(step(1, 0, 2)),
+        Some(step(2, 0, 2)),
+        Some(step(2, 1, 29)),
+        Some(step(3, 1, 33)),
+        None,
+    ] {
+        assert_eq!(rt; pack.next(), want);
+    }
     let mut spread = SpreadMoves::new(126, 4);
-    assert_eq!(rt; spread.next(), Some(step(1, 3, 32)));
-    assert_eq!(rt; spread.next(), Some(step(1, 2, 30)));
-    assert_eq!(rt; spread.next(), Some(step(0, 2, 1)));
-    assert_eq!(rt; spread.next(), Some(step(0, 1, 32)));
-    assert_eq!(rt; spread.next(), None);
+    for want in [
+        Some(step(1, 3, 32)),
+        Some(step(1, 2, 30)),
+        Some(step(0, 2, 1)),
+        Some(step(0, 1, 32)),
+        None,
+    ] {
+        assert_eq!(rt; spread.next(), want);
+    }
 }

@@ -3,7 +3,6 @@
 ghost use Rattle.std.specs.Prelude.{◌≡◌};
 
 use density_rule::Window;
-use std::test::Fail;
 use window_tally::{Change, Pick, Since, Tally};
 
 /// A window by height and number.
@@ -15,26 +14,25 @@ fn window(height: u32, number: u32) -> Window
 
 /// One window of two segments: with room, full, and with its least records.
 #[test]
-fn picks_of_two_segments(rt: HostRuntime) -> Result<(), Fail> {
-    let mut tally = Tally::new(rt.alloc(), 1)?;
+fn picks_of_two_segments(rt: HostRuntime) {
+    let mut tally = Tally::new(rt.alloc(), 1).expect(&rt, "memory");
     tally.clear(1);
     tally.load(0, 32);
     tally.load(1, 64);
-    assert_eq!(rt; tally.pick(1, Change::Add), Pick::Spread(window(1, 0)));
-    assert_eq!(rt; tally.pick(0, Change::Add), Pick::Fits);
+    let picks = [tally.pick(1, Change::Add), tally.pick(0, Change::Add)];
+    assert_eq!(rt; picks, [Pick::Spread(window(1, 0)), Pick::Fits]);
     tally.load(0, 62);
-    assert_eq!(rt; tally.pick(1, Change::Add), Pick::AtLimit);
-    assert_eq!(rt; tally.pick(0, Change::Add), Pick::AtLimit);
+    let picks = [tally.pick(1, Change::Add), tally.pick(0, Change::Add)];
+    assert_eq!(rt; picks, [Pick::AtLimit; 2]);
     tally.load(0, 4);
     tally.load(1, 6);
     assert_eq!(rt; tally.pick(0, Change::Take), Pick::Shrink);
-    Ok(())
 }
 
 /// A full segment whose pair would be full too, so four segments are spread. Then the put that asked for it.
 #[test]
-fn spread_of_four_segments(rt: HostRuntime) -> Result<(), Fail> {
-    let mut tally = Tally::new(rt.alloc(), 2)?;
+fn spread_of_four_segments(rt: HostRuntime) {
+    let mut tally = Tally::new(rt.alloc(), 2).expect(&rt, "memory");
     tally.clear(2);
     tally.load(0, 62);
     tally.load(1, 64);
@@ -45,17 +43,15 @@ fn spread_of_four_segments(rt: HostRuntime) -> Result<(), Fail> {
     tally.set_spread(window(2, 0));
     tally.add(1);
     assert_eq!(rt; tally.leaves(window(2, 0)), [36, 38, 36, 37].as_slice());
-    assert_eq!(rt; tally.count(window(1, 0)), 74);
-    assert_eq!(rt; tally.since(window(0, 1)).updates, 1);
-    assert_eq!(rt; tally.since(window(1, 0)).updates, 1);
-    assert_eq!(rt;
-        tally.since(window(1, 1)),
-        Since {
-            updates: 0,
-            rested: true
-        }
-    );
-    assert!(rt; !tally.since(window(2, 0)).rested);
+    let rested = tally.since(window(1, 1));
+    let counts = [
+        tally.count(window(1, 0)) as u64,
+        tally.since(window(0, 1)).updates,
+        tally.since(window(1, 0)).updates,
+        rested.updates,
+    ];
+    assert_eq!(rt; counts, [74, 1, 1, 0]);
+    assert!(rt; rested.rested && !tally.since(window(2, 0)).rested);
     tally.forget_rests();
     assert_eq!(rt;
         tally.since(window(1, 1)),
@@ -64,13 +60,12 @@ fn spread_of_four_segments(rt: HostRuntime) -> Result<(), Fail> {
             rested: false
         }
     );
-    Ok(())
 }
 
 /// A store that grows from one full segment, and back.
 #[test]
-fn growth_and_shrinkage(rt: HostRuntime) -> Result<(), Fail> {
-    let mut tally = Tally::new(rt.alloc(), 1)?;
+fn growth_and_shrinkage(rt: HostRuntime) {
+    let mut tally = Tally::new(rt.alloc(), 1).expect(&rt, "memory");
     tally.load(0, 64);
     assert_eq!(rt; tally.pick(0, Change::Add), Pick::Grow);
     tally.resize(1);
@@ -88,5 +83,4 @@ fn growth_and_shrinkage(rt: HostRuntime) -> Result<(), Fail> {
     assert_eq!(rt; tally.count(window(1, 0)), 64);
     tally.resize(0);
     assert_eq!(rt; tally.leaves(window(0, 0)), [64].as_slice());
-    Ok(())
 }

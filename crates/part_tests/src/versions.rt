@@ -6,7 +6,6 @@ use header_gate::{HeaderFault, INDEXED, Layout, PAIRED, Reason, create_store, re
 use station::MemStation;
 use std::alloc::Global;
 use std::process::Abort;
-use std::test::Fail;
 
 const ONE: Layout = Layout {
     hmax: 2,
@@ -59,37 +58,31 @@ fn the_parts_of_a_file_stand_in_this_order(rt: HostRuntime) {
 }
 
 // Why a file is refused once its version's byte is this one.
-fn refused(
-    rt: &impl Abort,
-    alloc: Global,
-    file: &mut [u8],
-    version: u8,
-) -> Result<Option<HeaderFault>, Fail> {
+fn refused(rt: &impl Abort, alloc: Global, file: &mut [u8], version: u8) -> Option<HeaderFault> {
     assert!(rt; file.len() > 3080 && file.len() < 1000000);
     file[3080] = version;
-    let mut station = MemStation::new(alloc, file, file.len(), 0, &[], None)?;
-    Ok(read_header(&mut station).err())
+    let mut station = MemStation::new(alloc, file, file.len(), 0, &[], None).expect(rt, "memory");
+    read_header(&mut station).err()
 }
 
 /// The version's byte in a file that was made with two journals, and why it is refused.
-const VERSIONS: [(u8, Option<Reason>); 4] = [
+const VERSIONS: [(u8, Option<HeaderFault>); 4] = [
     (4, None),
-    (5, Some(Reason::Version(5))),
-    (3, Some(Reason::Length(81920))),
-    (0, Some(Reason::Version(0))),
+    (5, Some(HeaderFault::NotStore(Reason::Version(5)))),
+    (3, Some(HeaderFault::NotStore(Reason::Length(81920)))),
+    (0, Some(HeaderFault::NotStore(Reason::Version(0)))),
 ];
 
 #[test]
 #[tactic(auto, unfolding(header_gate::specs::Places::area_size, header_gate::specs::Places::journal_shift))]
-fn version_4_is_the_greatest(rt: HostRuntime) -> Result<(), Fail> {
-    let mut station = MemStation::new(rt.alloc(), &[], 81920, 0, &[], None)?;
+fn version_4_is_the_greatest(rt: HostRuntime) {
+    let mut station = MemStation::new(rt.alloc(), &[], 81920, 0, &[], None).expect(&rt, "memory");
     assert!(rt; create_store(&mut station, TWO).is_ok());
-    let mut file = station.held().to_vec(rt.alloc())?;
+    let mut file = station.held().to_vec(rt.alloc()).expect(&rt, "memory");
     assert_eq!(rt; file.len(), 81920);
     assert!(rt; &file[3072..3084] == b"PMASTORE\x04\0\0\0".as_slice());
-    for (version, reason) in VERSIONS {
-        let found = refused(&rt, rt.alloc(), &mut file, version)?;
-        assert_eq!(rt; found, reason.map(HeaderFault::NotStore));
+    for (version, want) in VERSIONS {
+        let found = refused(&rt, rt.alloc(), &mut file, version);
+        assert_eq!(rt; found, want);
     }
-    Ok(())
 }

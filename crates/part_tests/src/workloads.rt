@@ -5,6 +5,7 @@
 ghost use Rattle.std.specs.Prelude.{◌∷◌, []};
 ghost use Rattle.workload.specs.Summaries.{summary_of, counted, Fits};
 
+use crate::commands::{get, put};
 use command_text::{Command, Reply, ReplyText};
 use key_slot::{Key, Value};
 use workload::{Summary, next_command, write_summary};
@@ -14,26 +15,10 @@ fn key(bytes: &[u8]) -> Option<Key> {
     Key::from_bytes(bytes).ok()
 }
 
-// The put of a key and a value, where they are of some size.
-fn put(key: &[u8], value: &[u8]) -> Command {
-    match (Key::from_bytes(key), Value::from_bytes(value)) {
-        (Ok(key), Ok(value)) => Command::Put(key, value),
-        _ => Command::Nothing,
-    }
-}
-
 // The remove of a key.
 fn remove(key: &[u8]) -> Command {
     match Key::from_bytes(key) {
         Ok(key) => Command::Remove(key),
-        Err(_) => Command::Nothing,
-    }
-}
-
-// The get of a key.
-fn get(key: &[u8]) -> Command {
-    match Key::from_bytes(key) {
-        Ok(key) => Command::Get(key),
         Err(_) => Command::Nothing,
     }
 }

@@ -24,25 +24,25 @@ use Rattle.map_model.specs.ArrayState.{next_states, opened_state}
 use Rattle.map_model.specs.Batches.{IsUnnamed}
 use Rattle.map_model.specs.Holding.{IsBalancedArray}
 use Rattle.map_model.specs.Image.{Represents, array_from, array_in, array_of, height_of, live_segment, map_of}
-use Rattle.map_model.specs.Items.{AreAdmitted, first_full, state_after_items}
-use Rattle.map_model.specs.Reasons.{array_reason, reason_of}
+use Rattle.map_model.specs.Items.{first_full}
+use Rattle.map_model.specs.FileReasons.{array_reason, reason_of}
 use Rattle.map_model.specs.Repairing.{repair}
 use Rattle.map_model.specs.Store.{Map}
 use Rattle.map_model.proofs.Reasonings.{represents_of_none, none_of_represents}
 use Rattle.map_model.proofs.Unnamed.{unnamed_represents}
 use Rattle.batch_intent.specs.declared.places.TheConstants.{INTENT}
-use Rattle.batch_intent.specs.Gate.{form_reason, intent_area, reason_at}
-use Rattle.batch_intent.specs.Validating.{wrong_place}
-use Rattle.batch_intent.specs.Means.{Means, MeansMap, full_reason, fullness_reason, has_pending, opened_items_state, opening_reason, pending}
+use Rattle.batch_intent.specs.Gate.{form_reason, has_intent, intent_area, reason_at}
+use Rattle.batch_intent.specs.IntentReasons.{wrong_place}
+use Rattle.batch_intent.specs.Means.{Means, full_reason, fullness_reason, has_waiting, opened_items_state, opening_reason, waiting}
 use Rattle.batch_intent.specs.Spelling.{Spells, items_in}
 use Rattle.batch_intent.proofs.Gates.{area_same}
-use Rattle.recovery.specs.Costs.{opening_cost}
+use Rattle.recovery.specs.OpeningCosts.{opening_cost}
 use Rattle.pma_store.specs.Costing.{updates_cost}
 use Rattle.pma_store.specs.Opens.{IsAllAtRest}
 use Rattle.index_file.specs.Clean.{IsCleanPlace}
 use Rattle.command_text.specs.declared.command.Command.TheVariants.{Batch}
-use Rattle.pma_engine.specs.Costs.{most_of_one}
-use Rattle.pma_engine.specs.Opening.{pending_cost}
+use Rattle.pma_engine.specs.CommandCosts.{most_of_one}
+use Rattle.pma_engine.specs.RunOpening.{waiting_cost}
 
 -- ranges that begin behind the header page
 range_behind : (old new : List ℕ) (at n : ℕ) → page_size ≤ at → Touched IsCleanPlace old new → take n (drop at new) ≡ take n (drop at old)
@@ -168,21 +168,21 @@ module _ (old new : List ℕ) (touched : Touched IsCleanPlace old new) where
 
   -- The intent.
 
-  pub has_same : has_pending new ≡ has_pending old
+  pub has_same : has_waiting new ≡ has_waiting old
   has_same t = nat_le INTENT_VERSION ((layout_same t).version) && (intent_same t == 1)
 
   intent_area_same : intent_area new ≡ intent_area old
   intent_area_same = area_same old new (λ k lt. same (INTENT + k) (λ at. omega (arith, at)))
 
-  pub pending_same : pending new ≡ pending old
-  unfolding pending
-  pending_same t = cond (has_same t) (items_in (intent_area_same t)) []
+  pub waiting_same : waiting new ≡ waiting old
+  unfolding waiting
+  waiting_same t = cond (has_same t) (items_in (intent_area_same t)) []
 
   form_same : form_reason (layout_in new) new ≡ form_reason (layout_in old) old
   form_same t = cond (has_same t) (reason_at (wrong_place ((layout_same t).format) (intent_area_same t))) None
 
   full_same : fullness_reason new ≡ fullness_reason old
-  full_same t = full_reason (intent_area_same t) (first_full (height_limit (layout_same t)) (map_same t) (pending_same t))
+  full_same t = full_reason (intent_area_same t) (first_full (height_limit (layout_same t)) (map_same t) (waiting_same t))
 
   pub opening_same : opening_reason new ≡ opening_reason old
   unfolding opening_reason
@@ -194,10 +194,10 @@ module _ (old new : List ℕ) (touched : Touched IsCleanPlace old new) where
   first_same t = record { map = map_same t; height = height_same t; array = repair (height_same t) (array_same t); marks = no_marks (height_same t) }
 
   pub state_same : opened_items_state new ≡ opened_items_state old
-  state_same t = next_states (height_limit (layout_same t)) (first_same t) (pending_same t)
+  state_same t = next_states (height_limit (layout_same t)) (first_same t) (waiting_same t)
 
-  pub cost_same : opening_cost (layout_in new) + pending_cost new ≡ opening_cost (layout_in old) + pending_cost old
-  cost_same t = opening_cost (layout_same t) + cond (has_same t) (updates_cost (layout_same t) (first_same t) (pending_same t) + 1 + most_of_one (layout_same t) (Batch (pending_same t))) 0
+  pub cost_same : opening_cost (layout_in new) + waiting_cost new ≡ opening_cost (layout_in old) + waiting_cost old
+  cost_same t = opening_cost (layout_same t) + cond (has_same t) (updates_cost (layout_same t) (first_same t) (waiting_same t) + 1 + most_of_one (layout_same t) (Batch (waiting_same t))) 0
 
   -- no page is to be replayed over the live region
   pub bare_same : IsBare (layout_in old) old → IsBare (layout_in new) new
@@ -229,19 +229,19 @@ module _ (old new : List ℕ) (touched : Touched IsCleanPlace old new) where
   pub represents_same : (m : Map) (height : ℕ) → Represents old m height → Represents new m height
   represents_same m height is = unnamed_represents old new m height is clean_unnamed
 
-  means_same : (m : Map) (height : ℕ) → Means old m height → Means new m height
-  means_same m height means =
+  pub map_meant : {l : Layout} (m : Map) → Means l old m → Means l new m
+  map_meant {l} m means =
+      let same : has_intent l new ≡ has_intent l old = λ t. nat_le INTENT_VERSION l.version && (intent_same t == 1) in
       record {
+        layout_is = layout_same ∙ means.layout_is;
+        height = means.height;
         base = means.base;
         items = means.items;
-        represents = represents_same means.base height means.represents;
-        idle = λ none. means.idle (sym has_same ∙ none);
-        form = λ some. subst (λ (x : Type 0). x) (λ t. Spells ((sym layout_same t).format) means.items (sym intent_area_same t)) (means.form (sym has_same ∙ some));
-        admitted = subst (λ (x : Type 0). x) (λ t. AreAdmitted (height_limit (sym layout_same t)) means.base means.items) means.admitted;
+        represents = represents_same means.base means.height means.represents;
+        idle = λ none. means.idle (sym same ∙ none);
+        form = λ some. subst (Spells l.format means.items) (sym intent_area_same) (means.form (sym same ∙ some));
+        admitted = means.admitted;
         begins = means.begins;
-        begins_is = (λ t. state_after_items (height_limit (layout_same t)) (record { map = means.base; height = height }) means.items) ∙ means.begins_is;
+        begins_is = means.begins_is;
         map_is = means.map_is;
       }
-
-  pub map_meant : (m : Map) → MeansMap (layout_in old) old m → MeansMap (layout_in old) new m
-  map_meant m is = (layout_same, (is.1.0, means_same m is.1.0 is.1.1))

@@ -10,7 +10,7 @@ use Rattle.key_slot.specs.Record.{Record}
 use Rattle.command_text.specs.Answers.{row_line}
 use Rattle.command_text.specs.Reply.{reply_text}
 use Rattle.pma_engine.specs.Ranging.{IsFront, SaysFront, SaysWhole, row_text}
-use Rattle.pma_engine.specs.Session.{IsPartSaid}
+use Rattle.pma_engine.specs.Headline.{IsPartSaid}
 use Rattle.pma_engine.proofs.StoreLaws.{left_same, left_says}
 
 -- The lists.

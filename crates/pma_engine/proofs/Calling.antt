@@ -16,22 +16,22 @@ use Rattle.map_model.specs.ArrayState.{opened_state}
 use Rattle.redo_journal.specs.Neighbours.{run_count}
 use Rattle.segment_frames.specs.Lists.{most_segments}
 use Rattle.index_file.specs.Clean.{IsCleanPlace}
-use Rattle.batch_intent.specs.Means.{pending}
-use Rattle.recovery.specs.Costs as costs
-use Rattle.recovery.specs.Costs.{back_calls, mending_calls, asked_opening, opening_calls, opening_reads}
+use Rattle.batch_intent.specs.Means.{waiting}
+use Rattle.recovery.specs.OpeningCosts as costs
+use Rattle.recovery.specs.OpeningCosts.{back_calls, mending_calls, asked_opening, opening_calls, opening_reads}
 use Rattle.recovery.specs.Intents.{may_meet}
 use Rattle.pma_store.specs.BatchCalls.{IsForItems}
 use Rattle.pma_store.specs.Opens.{AreForPending, CallsOpening, IsAllAtRest, opened_tally}
-use Rattle.pma_engine.specs.Opening.{reopening_calls, sync_calls}
+use Rattle.pma_engine.specs.RunOpening.{reopening_calls, sync_calls}
 use Rattle.pma_store.proofs.OpeningCalls.{items_seen}
-use Rattle.pma_engine.proofs.Alike.{array_same, first_same, has_same, height_same, layout_same, live_table_same, map_same, names_same, pending_same, rests}
+use Rattle.pma_engine.proofs.Alike.{array_same, first_same, has_same, height_same, layout_same, live_table_same, map_same, names_same, waiting_same, rests}
 
 module _ (old new : List ℕ) (touched : Touched IsCleanPlace old new) where
   -- a file has as many segments and the same intent once its index is closed
   back_same : back_calls new ≡ back_calls old
   back_same t =
       costs.bare_calls (layout_same old new touched t) + costs.region_calls (layout_same old new touched t) (height_same old new touched t)
-      + cond (has_same old new touched t) (2 + cond (may_meet (height_limit (layout_same old new touched t)) (len (map_same old new touched t)) (pending_same old new touched t)) (2 ^ height_same old new touched t) 0) 1
+      + cond (has_same old new touched t) (2 + cond (may_meet (height_limit (layout_same old new touched t)) (len (map_same old new touched t)) (waiting_same old new touched t)) (2 ^ height_same old new touched t) 0) 1
 
   -- and asks for the same calls
   pub asked_same : asked_opening new ≡ asked_opening old
@@ -49,7 +49,7 @@ module _ (old new : List ℕ) (touched : Touched IsCleanPlace old new) where
       page_size
       + (costs.bare_reads (layout_same old new touched t) + segment_size (layout_same old new touched t) * 2 ^ height_same old new touched t
       + cond (nat_lt (layout_same old new touched t).version INTENT_VERSION) 0 (cond (has_same old new touched t)
-      (1 + INTENT_SIZE + cond (may_meet (height_limit (layout_same old new touched t)) (len (map_same old new touched t)) (pending_same old new touched t)) (segment_size (layout_same old new touched t) * 2 ^ height_same old new touched t) 0) 1))
+      (1 + INTENT_SIZE + cond (may_meet (height_limit (layout_same old new touched t)) (len (map_same old new touched t)) (waiting_same old new touched t)) (segment_size (layout_same old new touched t) * 2 ^ height_same old new touched t) 0) 1))
 
   -- with the same counts
   tally_same : opened_tally new ≡ opened_tally old
@@ -59,10 +59,10 @@ module _ (old new : List ℕ) (touched : Touched IsCleanPlace old new) where
 for_same : (a c : View) → (Told a → Told c) → Touched IsCleanPlace a.held c.held → (calls : ℕ) → AreForPending c calls → AreForPending a calls
 for_same a c on touched calls is = record {
   begun = is.begun;
-  some = omega (arith, is.some, ap length (pending_same a.held c.held touched));
+  some = omega (arith, is.some, ap length (waiting_same a.held c.held touched));
   last = is.last;
-  are_for = items_seen a c (layout_in a.held) (opened_state a.held) (opened_tally a.held) is.last (take is.begun (pending a.held)) calls on
-      (subst (λ (x : Type 0). x) (λ t. IsForItems (layout_same a.held c.held touched t) c (first_same a.held c.held touched t) (tally_same a.held c.held touched t) (take is.begun (pending_same a.held c.held touched t)) is.last calls) is.are_for);
+  are_for = items_seen a c (layout_in a.held) (opened_state a.held) (opened_tally a.held) is.last (take is.begun (waiting a.held)) calls on
+      (subst (λ (x : Type 0). x) (λ t. IsForItems (layout_same a.held c.held touched t) c (first_same a.held c.held touched t) (tally_same a.held c.held touched t) (take is.begun (waiting_same a.held c.held touched t)) is.last calls) is.are_for);
 }
 
 -- so the opening behind makes as many calls as that of the file itself

@@ -2,7 +2,7 @@
 use Rattle.std.proofs.Common.{◌≡◌, ℕ, ◌+◌, ◌*◌, ◌/◌, ◌^◌, ◌≤◌, Bool, true, false, cond, List, [], ◌∷◌, Option, Some, None, refl, sym, ap, subst, ◌∙◌, arith}
 use Rattle.std.specs.Prelude.{◌==◌}
 use Rattle.density_rule.specs.Marks.{Marks, mark_of}
-use Rattle.density_rule.specs.Updates.{charge_of, resized_height, height_by_broken}
+use Rattle.density_rule.specs.CountUpdates.{charge_of, resized_height, height_by_broken}
 use Rattle.header_gate.specs.Header.{layout_in}
 use Rattle.header_gate.specs.Places.{height_limit, segment_size}
 use Rattle.header_gate.specs.declared.layout.Layout.{Layout}
@@ -12,11 +12,12 @@ use Rattle.map_model.specs.ArrayUpdates.{array_after, broken_for, change_of, eff
 use Rattle.map_model.specs.Charges.{charge_after, effect_charge}
 use Rattle.map_model.specs.Holding.{IsNext}
 use Rattle.map_model.specs.Image.{slot_format}
-use Rattle.map_model.specs.Items.{charge_after_items}
-use Rattle.map_model.specs.Store.{Map, Update, height_after, key_of, Effect, Replaces, Adds, Takes, FindsFull, FindsNone}
+use Rattle.map_model.specs.ItemWords.{charge_after_items}
+use Rattle.map_model.specs.Store.{Map, Update, key_of, Effect, Replaces, Adds, Takes, FindsFull, FindsNone}
+use Rattle.map_model.specs.After.{height_after}
 use Rattle.map_model.proofs.SessionLaws.{next_sound, states_sound}
 use Rattle.map_model.proofs.UpdateLaws.{next_after}
-use Rattle.batch_intent.specs.Means.{MeansMap}
+use Rattle.batch_intent.specs.Means.{Means}
 use Rattle.command_text.specs.Script.{commands_of}
 use Rattle.command_text.specs.Session.{Session, session_after, session_step, IsPaid}
 use Rattle.command_text.specs.Updates.{updates_made}
@@ -28,7 +29,7 @@ use Rattle.pma_store.specs.Readying.{clear_cost}
 use Rattle.pma_store.specs.Rewrites.{commit_cost}
 use Rattle.pma_store.specs.Charging.{changes}
 use Rattle.pma_store.proofs.ClearCosts.{clear_most}
-use Rattle.pma_engine.specs.Costs.{charged_cost, images_cost, session_cost}
+use Rattle.pma_engine.specs.CommandCosts.{charged_cost, images_cost, session_cost}
 use Rattle.pma_engine.specs.Jobs.{ArePaid}
 use Rattle.pma_engine.specs.Outcome.{session_of, state_of}
 use Rattle.pma_engine.proofs.Meant.{begins_sound}
@@ -128,10 +129,10 @@ paid_after : (l : Layout) (x : Session) → IsSoundState (height_limit l) x.stor
 paid_after l x sound paid [] = paid
 paid_after l x sound paid (c ∷ cs) = paid_after l (session_step l x c) (states_sound (height_limit l) x.store (updates_made l x.store.map c) sound) (paid_next l x c sound paid) cs
 
-module _ (image : List ℕ) (m : Map) (means : MeansMap (layout_in image) image m) where
+module _ (image : List ℕ) (m : Map) (means : Means (layout_in image) image m) where
   -- what the commands of a run cost
   pub charged_is : (cs : List Command) → session_cost (layout_in image) (state_of m image) cs ≤ charged_cost (layout_in image) (session_of m image) cs
-  charged_is cs = omega (arith, session_charged (layout_in image) means.1.1.represents.header.layout.format.least (session_of m image) (begins_sound image m means) cs)
+  charged_is cs = omega (arith, session_charged (layout_in image) means.represents.header.layout.format.least (session_of m image) (begins_sound image m means) cs)
 
   -- and what they are charged
   pub session_paid : (script : List ℕ) → ArePaid m image script

@@ -14,8 +14,8 @@ use Rattle.header_gate.proofs.RecoveredPages.{page_before}
 use Rattle.map_model.specs.Regions.{IsSparePlace}
 use Rattle.map_model.specs.Store.{Update}
 use Rattle.pma_store.specs.Batching.{IsBatchPlace}
-use Rattle.pma_store.specs.Items.{IsItemPlace}
-use Rattle.pma_store.specs.Store.{StoreView, IsOpenOn}
+use Rattle.pma_store.specs.ItemsMade.{IsItemPlace}
+use Rattle.pma_store.specs.StoreView.{StoreView, IsOpenOn}
 use Rattle.pma_store.specs.Touching.{IsClearPlace, IsUpdatePlace, Updates}
 use Rattle.pma_store.proofs.Resting.{covered_held}
 use Rattle.pma_store.proofs.Touching.{moves_touch}
@@ -25,7 +25,7 @@ use Rattle.index_file.proofs.CleanLaws.{clean_shut}
 use Rattle.index_file.proofs.Keeping.{shut_on, shut_stays}
 use Rattle.pma_engine.specs.Carrying.{Looks}
 use Rattle.pma_engine.specs.Closing.{ClosesAtMost, IsButClosed, StaysShut, WritesGate, closing_cost, leaving_calls, leaving_cost}
-use Rattle.index_file.specs.Reading.{area_calls}
+use Rattle.index_file.specs.IndexReading.{area_calls}
 
 -- What is written.
 

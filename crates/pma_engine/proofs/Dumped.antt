@@ -26,13 +26,14 @@ use Rattle.key_slot.specs.declared.sizes.TheConstants.{KEY_AT}
 use Rattle.key_slot.proofs.Truth.{both, first, second}
 use Rattle.map_model.specs.Array.{Array, rows, segment_at}
 use Rattle.map_model.specs.Image.{Represents, live_segment, slot_format}
-use Rattle.map_model.specs.Items.{map_after_items, state_after_items}
-use Rattle.map_model.specs.Store.{Effect, FindsFull, FindsNone, Adds, IsWithin, Map, Replaces, State, Takes, Update, bind, effect_map, effect_of, key_of, map_after, unbind}
+use Rattle.map_model.specs.Items.{state_after_items}
+use Rattle.map_model.specs.After.{map_after_items, map_after}
+use Rattle.map_model.specs.Store.{Effect, FindsFull, FindsNone, Adds, IsWithin, Map, Replaces, State, Takes, Update, bind, effect_map, effect_of, key_of, unbind}
 use Rattle.map_model.proofs.Effects.{most_held}
 use Rattle.map_model.proofs.Entries.{entries-remove}
 use Rattle.map_model.proofs.Resuming.{items_within}
 use Rattle.batch_intent.specs.Gate.{intent_area}
-use Rattle.batch_intent.specs.Means.{Means, has_pending}
+use Rattle.batch_intent.specs.Means.{Means, has_waiting}
 use Rattle.batch_intent.specs.Spelling.{Spells, bound_value, fits_item, intent_bytes, item_bytes}
 use Rattle.batch_intent.specs.declared.places.TheConstants.{INTENT, INTENT_SIZE}
 use Rattle.batch_intent.proofs.Meanings.{map_made}
@@ -215,14 +216,14 @@ after_items_fit f hmax m (u ∷ us) all are =
 
 -- The map that a file means.
 
-module _ (image : List ℕ) (m : Map) (height : ℕ) (means : Means image m height) where
+module _ (image : List ℕ) (m : Map) (means : Means (layout_in image) image m) where
   abbrev layout : Layout
   layout = layout_in image
 
   means_items_fit : AreBytes image → All (ItemFits layout.format) means.items
-  means_items_fit are = by (has_pending image) refl
+  means_items_fit are = by (has_waiting image) refl
     where
-      by : (b : Bool) → has_pending image ≡ b → All (ItemFits layout.format) means.items
+      by : (b : Bool) → has_waiting image ≡ b → All (ItemFits layout.format) means.items
       by true some = spelled_fit layout.format means.items (intent_area image) (area_small (intent_area image) (area_bytes image are)) (means.form some)
       by false none = subst (All (ItemFits layout.format)) (sym (means.idle none)) (All-nil (ItemFits layout.format))
 
@@ -230,16 +231,16 @@ module _ (image : List ℕ) (m : Map) (height : ℕ) (means : Means image m heig
   pub means_printed : AreBytes image → All (λ r. MayBeRecord layout.format r.0 r.1) (entries m)
   means_printed are =
       All-weaker (Fits layout.format) (λ r. MayBeRecord layout.format r.0 r.1) (may_be layout.format) (entries m)
-      (subst (λ (n : Map). All (Fits layout.format) (entries n)) (map_made image m height means)
-      (after_items_fit layout.format (height_limit layout) means.base means.items (represented_fit image means.base height are means.represents) (means_items_fit are)))
+      (subst (λ (n : Map). All (Fits layout.format) (entries n)) (map_made image m means)
+      (after_items_fit layout.format (height_limit layout) means.base means.items (represented_fit image means.base means.height are means.represents) (means_items_fit are)))
 
   -- and a store in the file has room for them
   pub means_few : len m ≤ upper_of (height_limit layout)
   means_few =
       let header = means.represents.header in
-      let before : State = record { map = means.base; height = height } in
+      let before : State = record { map = means.base; height = means.height } in
       let limit : height_limit layout ≤ 16 = omega (arith, header.layout.hmax, header.layout.format.least) in
-      let within : IsWithin (height_limit layout) height (len means.base) = record {
+      let within : IsWithin (height_limit layout) means.height (len means.base) = record {
         least_is = means.represents.least_is;
         most_is = means.represents.most_is;
         height_is = omega (arith, header.height, means.represents.height_is);

@@ -13,15 +13,15 @@ use Rattle.index_file.specs.Clean.{IsShut}
 use Rattle.map_model.specs.ArrayState.{ArrayState}
 use Rattle.map_model.specs.Image.{map_of}
 use Rattle.map_model.specs.Store.{Map}
-use Rattle.batch_intent.specs.Means.{MeansMap, meant_map}
+use Rattle.batch_intent.specs.Means.{Means, meant_map}
 use Rattle.range_scan.specs.SweepView.{SweepView}
 use Rattle.range_scan.specs.Sweeping.{scan_of}
 use Rattle.range_scan.specs.Walk.{after_walk}
 use Rattle.range_scan.proofs.Walks.{walk_read, walk_written}
-use Rattle.recovery.specs.Costs.{opening_reads}
+use Rattle.recovery.specs.OpeningCosts.{opening_reads}
 use Rattle.header_gate.specs.Places.{page_size, segment_size}
 use Rattle.key_slot.proofs.SegmentLaws.{times_up}
-use Rattle.window_tally.specs.View.{TallyView}
+use Rattle.window_tally.specs.TallyView.{TallyView}
 use Rattle.segment.specs.declared.fault.Damage.{Damage}
 use Rattle.recovery.specs.declared.fault.OpenFault.{OpenFault}
 use Rattle.recovery.specs.declared.fault.OpenFault.TheVariants as opening
@@ -30,12 +30,12 @@ use Rattle.command_text.specs.Reply.{reply_text}
 use Rattle.command_text.specs.declared.reply.Reply.{Reply}
 use Rattle.command_text.specs.declared.reply.Reply.TheVariants as reply
 use Rattle.pma_store.specs.Opens.{CallsOpening, IsAllAtRest}
-use Rattle.pma_store.specs.Store.{StoreView}
+use Rattle.pma_store.specs.StoreView.{StoreView}
 use Rattle.pma_engine.specs.Carrying.{Looks}
-use Rattle.pma_engine.specs.Costs.{Walks}
+use Rattle.pma_engine.specs.CommandCosts.{Walks}
 use Rattle.pma_engine.specs.Dumping.{DumpsFile, DumpsOpened, IsDumpStatus, SaidFront, dump_text}
 use Rattle.pma_engine.specs.Closing.{IsButClosed, WritesGate}
-use Rattle.pma_engine.specs.Opening.{IsOpened, IsUnopened, Reopens, reopening_calls}
+use Rattle.pma_engine.specs.RunOpening.{IsOpened, IsUnopened, Reopens, reopening_calls}
 use Rattle.pma_engine.specs.Outcome.{IsRefused}
 use Rattle.pma_engine.specs.Ranging.{SaysSweep, scan_text}
 use Rattle.pma_engine.specs.Refusing.{SaysLine, SaysLastLine, line_text, line_of_opening, line_of_serving, status_of_opening, status_of_serving}
@@ -192,7 +192,7 @@ module _ (a b : View) (law : Lawful a) (ab : Steps Reopens (attached_by false a)
         other n none e = elim is [ inl x ↦ none.0 (sym e ∙ x) | inr x ↦ none.1 (sym e ∙ x) ]
 
     -- it is refused, and means no map
-    refused_file : (fault : OpenFault) → IsUnopened fault (attached_by false a) b → IsRefused a d → {text : List ℕ} → Says text b d → d.calls ≤ b.calls + 512 → (Told a → IsAllAtRest a.held → IsButClosed a.held a.held b.held) → (Told a → (m : Map) → MeansMap (layout_in a.held) a.held m → ⊥) → Comes REFUSED a d
+    refused_file : (fault : OpenFault) → IsUnopened fault (attached_by false a) b → IsRefused a d → {text : List ℕ} → Says text b d → d.calls ≤ b.calls + 512 → (Told a → IsAllAtRest a.held → IsButClosed a.held a.held b.held) → (Told a → (m : Map) → Means (layout_in a.held) a.held m → ⊥) → Comes REFUSED a d
     refused_file fault unopened refused says line_calls kept never = record {
       status_is = inr (inl refl);
       attached = says.attached ∙ ab.frame.attached;

@@ -20,29 +20,29 @@ use Rattle.map_model.specs.ArrayState.{ArrayState}
 use Rattle.map_model.specs.Image.{height_of, map_of}
 use Rattle.map_model.specs.Store.{Map}
 use Rattle.map_model.proofs.Recovering.{determined}
-use Rattle.batch_intent.specs.Means.{MeansMap}
+use Rattle.batch_intent.specs.Means.{Means}
 use Rattle.redo_journal.proofs.Live.{rests_settled}
 use Rattle.segment.specs.declared.fault.StoreFault.{StoreFault}
 use Rattle.index_file.specs.Clean.{IsClean, IsShut}
 use Rattle.index_file.proofs.CleanLaws.{clean_shut}
 use Rattle.command_text.specs.Script.{command_of_raw, commands_of, commands_in, complete_commands}
 use Rattle.command_text.specs.Session.{Session, session_after, session_reply}
-use Rattle.pma_store.specs.Answers.{state_in}
+use Rattle.pma_store.specs.StoreAnswers.{state_in}
 use Rattle.pma_store.specs.Settling.{SettlesStore}
-use Rattle.pma_store.specs.Store.{StoreView, IsOpenOn}
+use Rattle.pma_store.specs.StoreView.{StoreView, IsOpenOn}
 use Rattle.pma_engine.specs.Carrying.{layout_on, session_in}
 use Rattle.pma_engine.specs.Closing.{LeavesIndex, StaysShut, ending_cost, leaving_calls, leaving_cost}
 use Rattle.pma_engine.specs.Ending.{EndsRun, IsSettledStatus}
 use Rattle.pma_engine.specs.Outcome.{IsRunStatus, RunsOpened, Serves, ServesScript, fresh_session}
 use Rattle.pma_engine.specs.Serving.{AsksNothing, HasLayout, EndsServed, IsAtState, IsStopped, ScriptPair, StopsRun, fresh_reader}
-use Rattle.pma_engine.specs.Costs.{session_cost}
-use Rattle.pma_engine.specs.Session.{IsPartSaid, replies_after}
+use Rattle.pma_engine.specs.CommandCosts.{session_cost}
+use Rattle.pma_engine.specs.Headline.{IsPartSaid, replies_after}
 use Rattle.pma_engine.specs.declared.status.TheConstants.{DONE, REFUSED, DISK_FAULT, SCRIPT_FAULT, REPLY_FAULT, OUT_OF_MEMORY, TOO_LONG}
 use Rattle.pma_engine.proofs.Closing.{clear_gate, keeps_staying, stays_steps}
 use Rattle.pma_engine.proofs.LeftIndexes.{headline_left, map_left, state_left}
 use Rattle.pma_engine.proofs.Settling.{state_kept, told_settled}
 use Rattle.pma_engine.proofs.StoreLaws.{read_means}
-use Rattle.pma_engine.proofs.Upgrading.{unpending}
+use Rattle.pma_engine.proofs.Upgrading.{represents_idle}
 
 -- A file with one journal has nothing to settle.
 
@@ -179,14 +179,14 @@ module _ (status served most : ℕ) (x : Session) (s0 s1 : SourceView) (t : Stor
   no_refusal = not_refused served is
 
   -- an image that means what the file meant goes on
-  pair_on : (image : List ℕ) → Told a → SaidTold a → MeansMap l image (map_of b.held) → ScriptPair l x a (fresh_reader most) s0 image b.said
+  pair_on : (image : List ℕ) → Told a → SaidTold a → Means l image (map_of b.held) → ScriptPair l x a (fresh_reader most) s0 image b.said
   pair_on image told said_told means told_s =
       headline_left l x (commands_of l.format s0.left) a.said b.held image b.said
-      (λ m here. subst (MeansMap l image) (sym (own m here)) means)
+      (λ m here. subst (Means l image) (sym (own m here)) means)
       (serves.pair no_refusal told said_told told_s)
     where
-      own : (m : Map) → MeansMap l b.held m → m ≡ map_of b.held
-      own m here = (determined b.held m here.1.0 (unpending b.held m here.1.0 here.1.1 (opened.no_intent b.held (inl (told_b told, refl))))).0
+      own : (m : Map) → Means l b.held m → m ≡ map_of b.held
+      own m here = (determined b.held m here.height (represents_idle b.held m here (opened.no_intent b.held (inl (told_b told, refl))))).0
 
   run_on_end : Run (ScriptPair l x a (fresh_reader most) s0) a c
   run_on_end = run_on (ScriptPair l x a (fresh_reader most) s0) serves.run (run_of_steps (ScriptPair l x a (fresh_reader most) s0) ends.steps (λ honest start image may means.
@@ -401,7 +401,7 @@ module _ (status served most : ℕ) (s t : StoreView) (s0 s1 : SourceView) (a b 
     ]) (on_end told);
     unread = λ asks. ends.unread ∙ ap (λ (t : Travel). t.read) (unread asks);
     kept = record {
-      held = λ told. (ends.steps.held (on_end told)).0 ∙ layout;
-      moments = leaves_on (λ image said. layout_in image ≡ layout_on s) serves.run.fixed serves.run.calls kept.moments ends.steps.moments (λ honest image said is. is) (λ honest image said now. now.1.2.0 ∙ layout);
+      held = λ told. (ends.steps.held (on_end told)).layout_is ∙ layout;
+      moments = leaves_on (λ image said. layout_in image ≡ layout_on s) serves.run.fixed serves.run.calls kept.moments ends.steps.moments (λ honest image said is. is) (λ honest image said now. now.1.2.layout_is ∙ layout);
     };
   }

@@ -3,7 +3,7 @@ use Rattle.std.proofs.Common.{◌≡◌, true, Err, refl}
 use Rattle.std.specs.Prelude.{IsErrOf}
 use Rattle.segment.specs.declared.fault.StoreFault.{StoreFault}
 use Rattle.segment.specs.declared.fault.StoreFault.TheVariants as store
-use Rattle.pma_engine.specs.Faults.{fault_of, is_of_store, IsLineFault, IsNoScriptFault}
+use Rattle.pma_engine.specs.ScriptFaults.{fault_of, is_of_store, IsLineFault, IsNoScriptFault}
 use Rattle.pma_engine.specs.declared.fault.ServeFault.TheVariants as serve
 
 pub is_store_fault : (fault : StoreFault) → is_of_store (fault_of fault) ≡ true

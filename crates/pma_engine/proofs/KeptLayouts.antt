@@ -1,5 +1,5 @@
 -- What keeps the layout of a file.
-use Rattle.std.proofs.Common.{◌≡◌, ◌⊎◌, inl, inr, false, ℕ, ◌+◌, ◌%◌, ◌<◌, ◌≤◌, List, length, Option, Some, None, refl, sym, ◌∙◌, ap, subst, arith}
+use Rattle.std.proofs.Common.{◌≡◌, inl, inr, false, ℕ, ◌+◌, ◌%◌, ◌<◌, ◌≤◌, List, length, Option, Some, None, refl, sym, ◌∙◌, ap, arith}
 use Rattle.std.proofs.lemmas.Bool.{cases_lt}
 use Rattle.std.proofs.lemmas.List.{get_or_past}
 use Rattle.station.specs.Bytes.{byte}
@@ -13,14 +13,12 @@ use Rattle.header_gate.specs.Header.{number, live_copy, format_in, layout_in}
 use Rattle.header_gate.specs.Places.{copy_place, page_size}
 use Rattle.header_gate.specs.Recovered.{recovered}
 use Rattle.header_gate.proofs.NumberLaws.{number_same}
-use Rattle.header_gate.proofs.RecoveredBytes.{length-recovered}
 use Rattle.header_gate.proofs.RecoveredPages.{recovered_page}
-use Rattle.map_model.specs.Image.{height_of}
 use Rattle.batch_intent.specs.Means.{meant_map, opening_reason}
 use Rattle.batch_intent.proofs.OpeningReasons.{means_of_none}
 use Rattle.pma_store.specs.Opens.{OpensMeant}
 use Rattle.pma_engine.specs.Jobs.{KeepsLayout}
-use Rattle.pma_engine.specs.Opening.{Reopens}
+use Rattle.pma_engine.specs.RunOpening.{Reopens}
 use Rattle.pma_engine.specs.Serving.{HasLayout}
 
 -- the same header page, but for the gate, names the same layout
@@ -48,7 +46,7 @@ pub meant_layout : (old new : List ℕ) → OpensMeant old new → layout_in new
 meant_layout old new meant = by (opening_reason old) refl
   where
     by : (o : Option Reason) → opening_reason old ≡ o → layout_in new ≡ layout_in old
-    by None is = (meant.means (meant_map old) (height_of old) (means_of_none old is)).0
+    by None is = (meant.means (layout_in old) (meant_map old) (means_of_none old is)).layout_is
     by (Some r) is = recovered_layout (layout_in old) old new meant.touched.size (meant.recovers r is)
 
 -- a saying behind calls that kept it

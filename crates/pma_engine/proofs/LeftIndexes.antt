@@ -12,23 +12,23 @@ use Rattle.header_gate.specs.InPlace.{IsBare}
 use Rattle.map_model.specs.ArrayState.{ArrayState}
 use Rattle.map_model.specs.Image.{Represents, array_in}
 use Rattle.map_model.specs.Store.{Map}
-use Rattle.batch_intent.specs.Means.{MeansMap, has_pending}
-use Rattle.batch_intent.proofs.Meanings.{means_idle}
+use Rattle.batch_intent.specs.Means.{Means, has_waiting}
+use Rattle.batch_intent.proofs.Meanings.{means_idle, in_layout}
 use Rattle.index_file.specs.Clean.{IsLeft, IsShut, Leaves}
 use Rattle.index_file.specs.Leaving.{IsReady}
 use Rattle.index_file.proofs.CleanLaws.{clean_shut}
 use Rattle.index_file.proofs.Kept as kept
 use Rattle.command_text.specs.Session.{Session}
 use Rattle.command_text.specs.declared.command.Command.{Command}
-use Rattle.pma_store.specs.Store.{StoreView, Stands, IsOpenOn}
+use Rattle.pma_store.specs.StoreView.{StoreView, Stands, IsOpenOn}
 use Rattle.pma_store.proofs.Moments.{idle_even}
 use Rattle.pma_engine.specs.Closing.{LeavesIndex}
 use Rattle.pma_engine.specs.Serving.{IsAtState}
-use Rattle.pma_engine.specs.Session.{Headline}
+use Rattle.pma_engine.specs.Headline.{ExactHeadline}
 use Rattle.pma_engine.specs.declared.status.TheConstants.{DONE, DISK_FAULT}
-use Rattle.index_file.specs.Reading.{area_calls}
+use Rattle.index_file.specs.IndexReading.{area_calls}
 use Rattle.pma_engine.proofs.Closing.{leaving_called, leaving_some}
-use Rattle.pma_engine.proofs.Upgrading.{unpending}
+use Rattle.pma_engine.proofs.Upgrading.{represents_idle}
 
 -- The leaving itself.
 
@@ -73,7 +73,7 @@ leaves_by status s a b is status_is steps left opened settled cost unread calls 
 
 -- What it keeps of the file.
 
-module _ (s : StoreView) (old new : List ℕ) (stands : Stands s old) (idle : has_pending old ≡ false) (bare_old : IsBare s.place.layout old) (leaves : Leaves s.place.layout old new) where
+module _ (s : StoreView) (old new : List ℕ) (stands : Stands s old) (idle : has_waiting old ≡ false) (bare_old : IsBare s.place.layout old) (leaves : Leaves s.place.layout old new) where
   module _ (m : Map) (height : ℕ) (is : Represents old m height) where
     layout_is : layout_in old ≡ s.place.layout
     layout_is = stands.balanced.stands.settled.layout_is
@@ -90,13 +90,15 @@ module _ (s : StoreView) (old new : List ℕ) (stands : Stands s old) (idle : ha
     array_same : array_in new height ≡ array_in old height
     array_same = kept.array_same s.place.layout old new m height is bare layout_is leaves.touched
 
-    still_idle : has_pending new ≡ false
+    still_idle : has_waiting new ≡ false
     still_idle = (λ t. nat_le INTENT_VERSION ((layout_kept t).version) && (kept.intent_same s.place.layout old new m height is bare layout_is leaves.touched t == 1)) ∙ idle
 
   -- the map that it means
-  pub map_left : (l : Layout) (m : Map) → MeansMap l old m → MeansMap l new m
+  pub map_left : (l : Layout) (m : Map) → Means l old m → Means l new m
   map_left l m means =
-      let is = unpending old m means.1.0 means.1.1 idle in (layout_kept m means.1.0 is ∙ means.0, (means.1.0, means_idle new m means.1.0 (represents m means.1.0 is) (still_idle m means.1.0 is)))
+      let h = means.height in
+      let is = represents_idle old m means idle in
+      in_layout new m (layout_kept m h is ∙ means.layout_is) (means_idle new m h (represents m h is) (still_idle m h is))
 
   -- and its state
   pub state_left : (l : Layout) (x : ArrayState) → IsAtState l x old → IsAtState l x new
@@ -107,7 +109,7 @@ module _ (s : StoreView) (old new : List ℕ) (stands : Stands s old) (idle : ha
   }
 
 -- a pair of a script goes on, where the image means what it meant
-pub headline_left : (l : Layout) (x : Session) (cs : List Command) (before old new said : List ℕ) → ((m : Map) → MeansMap l old m → MeansMap l new m) → Headline l x cs before old said → Headline l x cs before new said
+pub headline_left : (l : Layout) (x : Session) (cs : List Command) (before old new said : List ℕ) → ((m : Map) → Means l old m → Means l new m) → ExactHeadline l x cs before old said → ExactHeadline l x cs before new said
 headline_left l x cs before old new said moved here = record {
   new = here.new;
   rest = here.rest;

@@ -9,7 +9,7 @@ use Rattle.station.specs.declared.travel.Travel.{Travel}
 use Rattle.station.proofs.Composition.{each_on, only_held, told_of}
 use Rattle.station.proofs.Sayings.{each_says, run_in, run_of_steps, run_of_says, run_on}
 use Rattle.line_source.specs.Lines.{raw_lines}
-use Rattle.line_source.specs.ReaderView.{ReaderView, rest}
+use Rattle.line_source.specs.LineReaderView.{ReaderView, rest}
 use Rattle.line_source.specs.SourceView.{SourceView, SourceTold, SourceRose}
 use Rattle.density_rule.proofs.Bounding.{upper_of-small}
 use Rattle.header_gate.specs.Header.{layout_in}
@@ -24,14 +24,14 @@ use Rattle.map_model.specs.Image.{Represents, height_of, map_of}
 use Rattle.map_model.specs.Standing.{StandsWith}
 use Rattle.map_model.specs.Store.{Map}
 use Rattle.map_model.proofs.Recovering.{determined}
-use Rattle.batch_intent.specs.Means.{MeansMap, has_pending, meant_map, opening_reason}
-use Rattle.batch_intent.proofs.Meanings.{meant_one, means_idle}
+use Rattle.batch_intent.specs.Means.{Means, has_waiting, meant_map, opening_reason}
+use Rattle.batch_intent.proofs.Meanings.{meant_one, means_idle, in_layout, in_own}
 use Rattle.batch_intent.proofs.OpeningReasons.{means_of_none}
 use Rattle.range_scan.proofs.Checks.{counted_all}
-use Rattle.segment_frames.specs.Standing.{StandsFor}
-use Rattle.bulk_load.specs.Faults.{IsCutIn, IsLoadFault, IsNoDamage, IsNoDisk, IsOutsideFault}
+use Rattle.segment_frames.specs.FrameStanding.{StandsFor}
+use Rattle.bulk_load.specs.LoadFaults.{IsCutIn, IsLoadFault, IsNoDamage, IsNoDisk, IsOutsideFault}
 use Rattle.bulk_load.specs.LoadText.{IsLoadText, IsOneTooMany, IsRefusedAt, MayGoOn}
-use Rattle.bulk_load.specs.Loading.{IsWrongLine, TakesAtMost, full, loading, reads}
+use Rattle.bulk_load.specs.LoadLines.{IsWrongLine, TakesAtMost, full, loading, reads}
 use Rattle.bulk_load.proofs.ReadLaws.{takes_none}
 use Rattle.bulk_load.specs.Loads.{IsLoaded, Loads, TextFor, most_records}
 use Rattle.bulk_load.specs.declared.fault.LoadFault.{LoadFault}
@@ -42,10 +42,10 @@ use Rattle.recovery.specs.declared.fault.OpenFault.TheVariants as opening
 use Rattle.command_text.specs.declared.reply.Reply.{Reply}
 use Rattle.command_text.specs.declared.reply.Reply.TheVariants as reply
 use Rattle.pma_store.specs.Readying.{clear_cost}
-use Rattle.pma_store.specs.Store.{StoreView, IsOpenOn}
-use Rattle.pma_engine.specs.Loading.{AnswersLoad, HasText, IsCutEarly, IsCutText, IsFileLoaded, IsLoadRefused, IsLoadStatus, IsWrongAt, LoadsFile, LoadsOpened, MayLoad, line_of_load, load_cost, status_of_load, text_cost}
+use Rattle.pma_store.specs.StoreView.{StoreView, IsOpenOn}
+use Rattle.pma_engine.specs.LoadOutcome.{AnswersLoad, HasText, IsCutEarly, IsCutText, IsFileLoaded, IsLoadRefused, IsLoadStatus, IsWrongAt, LoadsFile, LoadsOpened, MayLoad, line_of_load, load_cost, status_of_load, text_cost}
 use Rattle.pma_engine.specs.Closing.{IsButClosed, StaysShut, WritesGate}
-use Rattle.pma_engine.specs.Opening.{IsOpened, IsUnopened, Reopens, reopening_cost}
+use Rattle.pma_engine.specs.RunOpening.{IsOpened, IsUnopened, Reopens, reopening_cost}
 use Rattle.pma_engine.specs.Jobs.{TakesNothing}
 use Rattle.pma_engine.specs.Outcome.{empty_map}
 use Rattle.pma_engine.specs.declared.words.Job.TheVariants as asked
@@ -55,7 +55,7 @@ use Rattle.pma_engine.specs.Upgrading.{KeepsMeaning}
 use Rattle.pma_engine.specs.declared.status.TheConstants.{DONE, REFUSED, DISK_FAULT, SCRIPT_FAULT, OUT_OF_MEMORY, TOO_LONG}
 use Rattle.pma_engine.proofs.Meant.{opened_map}
 use Rattle.pma_engine.proofs.OutcomeLaws.{no_map}
-use Rattle.pma_engine.proofs.Upgrading.{keeps_opened, keeps_on, none_told, said_since, spared_none, stands_told, unopened_run, unpending}
+use Rattle.pma_engine.proofs.Upgrading.{keeps_opened, keeps_on, none_told, said_since, spared_none, stands_told, unopened_run, represents_idle}
 
 zero_or : (n : ℕ) → (n ≡ 0) ⊎ (0 < n)
 zero_or zero = inl refl
@@ -113,31 +113,29 @@ module _ (laws : Laws) (most : ℕ) (s : StoreView) (s0 s1 : SourceView) (layout
   }
 
   -- a store without records means the empty map
-  no_records : Told a → sum s.tally.counts ≡ 0 → (m : Map) (here : MeansMap (layout_in a.held) a.held m) → m ≡ empty_map
+  no_records : Told a → sum s.tally.counts ≡ 0 → (m : Map) (here : Means (layout_in a.held) a.held m) → m ≡ empty_map
   no_records told none m here =
       empty_of_len m
-      (ap len (determined a.held m here.1.0 (unpending a.held m here.1.0 here.1.1 (none_told a s opened told))).0
+      (ap len (determined a.held m here.height (represents_idle a.held m here (none_told a s opened told))).0
       ∙ counted_all s.place.layout s.place.region s.tally.height s.tally.counts a.held (stands_told a s opened told) ∙ none)
 
   stays : (image : List ℕ) → image ≡ a.held → MayLoad s0 a.held image
   stays image same = subst (MayLoad s0 a.held) (sym same) (λ m here. inl here)
 
   module _ (image : List ℕ) (told : Told a) (none : sum s.tally.counts ≡ 0) (moved : Loads s.place (TextFor s.place.layout (fresh_reader most) s0) a.held image) where
-    no_intent : has_pending image ≡ false
+    no_intent : has_waiting image ≡ false
     no_intent = spared_none s.place.layout (1 - s.place.region) a.held image (ap (λ (x : Layout). x.version) moved.layout_is) moved.touched (none_told a s opened told)
 
     may_load : MayLoad s0 a.held image
-    may_load m here = elim (moved.map_is m here.1.0 (unpending a.held m here.1.0 here.1.1 (none_told a s opened told))) [
-      | inl same ↦ inl (moved.layout_is, (here.1.0, means_idle image m here.1.0 same no_intent))
+    may_load m here = elim (moved.map_is m here.height (represents_idle a.held m here (none_told a s opened told))) [
+      | inl same ↦ inl (in_layout image m moved.layout_is (means_idle image m here.height same no_intent))
       | inr text ↦ inr (
         no_records told none m here,
         record {
           rows = text.rows;
-          height = text.height;
           text = subst (λ (x : Layout). HasText x s0 text.rows) (sym (stands_told a s opened told).settled.layout_is) (has_text text.rows text.text);
           least = text.least;
-          layout = moved.layout_is;
-          means = means_idle image (from_sorted text.rows) text.height text.represents no_intent;
+          means = in_layout image (from_sorted text.rows) moved.layout_is (means_idle image (from_sorted text.rows) text.height text.represents no_intent);
         },
       )
     ]
@@ -146,7 +144,7 @@ module _ (laws : Laws) (most : ℕ) (s : StoreView) (s0 s1 : SourceView) (layout
     keeps : StandsFor s.place s.tally image → KeepsMeaning a.held image
     keeps stands m here =
         let none_in : map_of image ≡ m = empty_of_len (map_of image) (counted_all s.place.layout s.place.region s.tally.height s.tally.counts image stands ∙ none) ∙ sym (no_records told none m here) in
-        (moved.layout_is, (height_of image, means_idle image m (height_of image) (subst (λ (n : Map). Represents image n (height_of image)) none_in stands.settled.represents) no_intent))
+        in_layout image m moved.layout_is (means_idle image m (height_of image) (subst (λ (n : Map). Represents image n (height_of image)) none_in stands.settled.represents) no_intent)
 
   module _ (r : Result Loaded LoadFault) (b : View) (facts : Facts most r s s0 s1 a b) where
     -- all that the station may hold then was made of what it held
@@ -272,11 +270,11 @@ module _ (laws : Laws) (most : ℕ) (s : StoreView) (s0 s1 : SourceView) (layout
         record {
           text = record {
             rows = facts.loaded.0;
-            height = done.height;
             text = has_text facts.loaded.0 is.text;
             least = is.least;
-            layout = moved.layout_is ∙ (stands_told a s opened told).settled.layout_is;
-            means = means_idle b.held (from_sorted facts.loaded.0) done.height (is.represents b.held (inl (told_b, refl))) none;
+            means =
+                in_layout b.held (from_sorted facts.loaded.0) (moved.layout_is ∙ (stands_told a s opened told).settled.layout_is)
+                (means_idle b.held (from_sorted facts.loaded.0) done.height (is.represents b.held (inl (told_b, refl))) none);
           };
           no_intent = none;
           array = is.array told_b;
@@ -394,7 +392,7 @@ module _ (most : ℕ) (s : SourceView) (a b : View) (law : Lawful a) (ab : Steps
       ends calm = elim is [ inl e ↦ absurd (calm (unopened.failed (failed e))) | inr e ↦ e ]
 
   -- it is refused, and means no map
-  refused_file : IsLoadRefused s s a d → {text : List ℕ} → Says text b d → (Told a → b.travel.written ≤ a.travel.written + reopening_cost a.held) → (Told a → (m : Map) → MeansMap (layout_in a.held) a.held m → ⊥) → Comes REFUSED most s s a d
+  refused_file : IsLoadRefused s s a d → {text : List ℕ} → Says text b d → (Told a → b.travel.written ≤ a.travel.written + reopening_cost a.held) → (Told a → (m : Map) → Means (layout_in a.held) a.held m → ⊥) → Comes REFUSED most s s a d
   refused_file refused says cost never = record {
     status_is = inr (inl refl);
     attached = says.attached ∙ ab.frame.attached;
@@ -469,21 +467,19 @@ module _ (most : ℕ) (s0 s1 : SourceView) (a b : View) (law : Lawful a) (ab : S
   same_answer told line = (λ i. AnswersLoad (opened.layout told i) (same_records told i) s0 s1 line)
 
   -- a map that the file meant
-  same_map : Told a → (m : Map) → MeansMap (layout_in a.held) a.held m → len m ≡ sum v.tally.counts
-  same_map told m here = ap len (meant_one a.held m here.1.0 here.1.1).0 ∙ sym (same_records told)
+  same_map : Told a → (m : Map) → Means (layout_in a.held) a.held m → len m ≡ sum v.tally.counts
+  same_map told m here = ap len (meant_one a.held m here).0 ∙ sym (same_records told)
 
   may_since : Told a → (image : List ℕ) → MayLoad s0 b.held image → MayLoad s0 a.held image
-  may_since told image moved m here = elim (moved m (refl, ((ab.held told).means m here).1)) [
-    | inl keeps ↦ inl (keeps.0 ∙ ((ab.held told).means m here).0, keeps.1)
+  may_since told image moved m here = elim (moved m (in_own b.held m ((ab.held told).means m here))) [
+    | inl keeps ↦ inl (in_layout image m ((ab.held told).means m here).layout_is keeps)
     | inr text ↦ inr (
       text.0,
       record {
         rows = text.1.rows;
-        height = text.1.height;
         text = subst (λ (x : Layout). HasText x s0 text.1.rows) (same_layout told) text.1.text;
         least = text.1.least;
-        layout = text.1.layout ∙ same_layout told;
-        means = text.1.means;
+        means = in_layout image (from_sorted text.1.rows) (same_layout told) text.1.means;
       },
     )
   ]
@@ -515,7 +511,7 @@ module _ (most : ℕ) (s0 s1 : SourceView) (a b : View) (law : Lawful a) (ab : S
         none_some is = cc
 
     -- the map that it meant is empty, where it has no records
-    none_is : Told a → sum v.tally.counts ≡ 0 → (m : Map) → MeansMap (layout_in a.held) a.held m → m ≡ empty_map
+    none_is : Told a → sum v.tally.counts ≡ 0 → (m : Map) → Means (layout_in a.held) a.held m → m ≡ empty_map
     none_is told none m here = empty_of_len m (same_map told m here ∙ none)
 
     was_loaded : status ≡ DONE → Told a → (opening_reason a.held ≡ None) × (meant_map a.held ≡ empty_map) × IsFileLoaded (layout_in a.held) s0 d.held
@@ -575,7 +571,7 @@ module _ (most : ℕ) (s0 s1 : SourceView) (a b : View) (law : Lawful a) (ab : S
     | inr (inl e) ↦ absurd (no_memory e)
     | inr (inr (inl never)) ↦ absurd never.0
     | inr (inr (inr (inl over))) ↦ omega (arith, over.1.2, same_map over.0 over.1.0 over.1.1)
-    | inr (inr (inr (inr (told, no_store)))) ↦ absurd (no_store (meant_map a.held) (refl, (height_of a.held, means_of_none a.held (opened.sound told))))
+    | inr (inr (inr (inr (told, no_store)))) ↦ absurd (no_store (meant_map a.held) (means_of_none a.held (opened.sound told)))
   ]
     where
       no_memory : status ≡ OUT_OF_MEMORY → ⊥

@@ -10,11 +10,11 @@ use Rattle.header_gate.proofs.Soundness.{none_of_sound}
 use Rattle.recovery.specs.declared.fault.OpenFault.{OpenFault}
 use Rattle.recovery.specs.declared.fault.OpenFault.TheVariants as opening
 use Rattle.index_file.specs.Clean.{IsClean, IsIndexed, version_of}
-use Rattle.index_file.specs.Opening.{IsQuick}
+use Rattle.index_file.specs.IndexOpening.{IsQuick}
 use Rattle.index_file.proofs.Kept.{even_of_bare}
 use Rattle.pma_store.specs.declared.store.Store.{Store}
 use Rattle.pma_engine.specs.Jobs.{LooksQuickly}
-use Rattle.pma_engine.specs.Opening.{LooksByIndex}
+use Rattle.pma_engine.specs.RunOpening.{LooksByIndex}
 use Rattle.pma_engine.specs.Refusing.{status_of_opening}
 use Rattle.pma_engine.specs.Serving.{AsksNothing}
 use Rattle.pma_engine.specs.declared.status.TheConstants.{DONE}

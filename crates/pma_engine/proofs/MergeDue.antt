@@ -11,12 +11,12 @@ use Rattle.command_text.specs.Merge.{merge_line_raw}
 use Rattle.command_text.specs.declared.merge.MergeLine.{MergeLine}
 use Rattle.command_text.specs.declared.merge.MergeLine.TheVariants.{Nothing, Bind, Remove, End, Bad}
 use Rattle.bulk_load.specs.MergeText.{BeginsMerge, IsMergeText, edit_of_line, edits_in, front_rows}
-use Rattle.bulk_load.specs.Merging.{Merging, reads, wrong, full, may_follow, after_merge_line, merge_step, merge_from, merging, IsOverfull, IsUnmergedLine}
+use Rattle.bulk_load.specs.MergeLines.{Merging, reads, wrong, full, may_follow, after_merge_line, merge_step, merge_from, merging, IsOverfull, IsUnmergedLine}
 use Rattle.bulk_load.proofs.DueLaws.{front_of}
 use Rattle.bulk_load.proofs.MergeLaws.{front_longer}
 use Rattle.bulk_load.proofs.MergeFaults.{first_unmerged, merged_full, own_number, unfinished}
 use Rattle.bulk_load.proofs.MergeReading.{no_wrong, no_full, full_no_wrong, number_of, same_edits, stays_full, stays_wrong, text_of}
-use Rattle.pma_engine.specs.Merging.{IsUpdateRefusedAt, MayMergeOn, ResultsInMore}
+use Rattle.pma_engine.specs.MergeOutcome.{IsUpdateRefusedAt, MayMergeOn, ResultsInMore}
 
 module _ (format most : ℕ) (rows : List Record) where
   abbrev Few : List Update → Type 0

@@ -7,9 +7,9 @@ use Rattle.station.specs.View.{View, Told, SaidTold, NothingPending, EachHeld, M
 use Rattle.station.specs.Steps.{Steps, Says, Run}
 use Rattle.station.specs.declared.travel.Travel.{Travel}
 use Rattle.station.proofs.Composition.{each_on, only_held, told_of}
-use Rattle.station.proofs.Sayings.{each_says, run_in, run_of_steps, run_of_says, run_on}
+use Rattle.station.proofs.Sayings.{each_says, run_of_steps, run_of_says, run_on}
 use Rattle.line_source.specs.Lines.{raw_lines}
-use Rattle.line_source.specs.ReaderView.{ReaderView, rest}
+use Rattle.line_source.specs.LineReaderView.{ReaderView, rest}
 use Rattle.line_source.specs.SourceView.{SourceView, SourceTold, SourceRose}
 use Rattle.header_gate.specs.Header.{layout_in}
 use Rattle.header_gate.specs.InPlace.{IsBare}
@@ -23,27 +23,27 @@ use Rattle.map_model.specs.Array.{Array, rows, spread_over}
 use Rattle.map_model.specs.ArrayState.{ArrayState}
 use Rattle.map_model.specs.Holding.{IsBalancedArray}
 use Rattle.map_model.specs.Image.{Represents, height_of, map_of}
-use Rattle.map_model.specs.Items.{ItemCounts}
+use Rattle.map_model.specs.ItemWords.{ItemCounts}
 use Rattle.map_model.specs.Regions.{Spares}
 use Rattle.map_model.specs.Standing.{StandsWith}
 use Rattle.map_model.specs.Store.{Map, Update}
 use Rattle.map_model.proofs.Recovering.{determined}
-use Rattle.batch_intent.specs.Means.{Means, MeansMap, has_pending, meant_map, opening_reason}
-use Rattle.batch_intent.proofs.Meanings.{meant_one, means_idle}
+use Rattle.batch_intent.specs.Means.{Means, has_waiting, meant_map}
+use Rattle.batch_intent.proofs.Meanings.{meant_one, means_idle, in_layout, in_own}
 use Rattle.batch_intent.proofs.OpeningReasons.{means_of_none}
 use Rattle.range_scan.proofs.Walks.{walk_read}
-use Rattle.recovery.specs.Costs.{opening_reads}
+use Rattle.recovery.specs.OpeningCosts.{opening_reads}
 use Rattle.recovery.specs.declared.fault.OpenFault.{OpenFault}
 use Rattle.recovery.specs.declared.fault.OpenFault.TheVariants as opening
 use Rattle.resize_region.proofs.SettledLaws.{array_kept}
-use Rattle.segment_frames.specs.Standing.{StandsFor}
-use Rattle.bulk_load.specs.Faults.{IsNoDisk, IsOutsideFault}
-use Rattle.bulk_load.specs.Loading.{TakesAtMost}
+use Rattle.segment_frames.specs.FrameStanding.{StandsFor}
+use Rattle.bulk_load.specs.LoadFaults.{IsNoDisk, IsOutsideFault}
+use Rattle.bulk_load.specs.LoadLines.{TakesAtMost}
 use Rattle.bulk_load.specs.Loads.{IsLeastHeight, IsLoaded, Loads, most_records}
 use Rattle.bulk_load.specs.MergeCauses.{IsMergeCut, IsMergeFault, IsTextFault, IsUpdatingFault}
-use Rattle.bulk_load.specs.MergeText.{count_edits, map_after_edits}
+use Rattle.bulk_load.specs.MergeText.{map_after_edits}
 use Rattle.bulk_load.specs.Spreading.{load_calls, used_by}
-use Rattle.bulk_load.specs.Updates.{CountsText, MergeFor, MergeTo, ReadsBeside, counts_by}
+use Rattle.bulk_load.specs.MergeUpdates.{CountsText, MergeFor, MergeTo, ReadsBeside, counts_by}
 use Rattle.bulk_load.specs.declared.fault.LoadFault.{LoadFault}
 use Rattle.bulk_load.specs.declared.fault.LoadFault.TheVariants as load
 use Rattle.bulk_load.specs.declared.merged.Merged.{Merged}
@@ -54,19 +54,19 @@ use Rattle.bulk_load.proofs.ReadLaws.{takes_none}
 use Rattle.command_text.specs.Reply.{reply_text}
 use Rattle.command_text.specs.declared.reply.Reply.{Reply}
 use Rattle.command_text.specs.declared.reply.Reply.TheVariants as reply
-use Rattle.pma_store.specs.Calling.{clear_calls}
+use Rattle.pma_store.specs.UpdateCalls.{clear_calls}
 use Rattle.pma_store.specs.Opens.{CallsOpening, IsAllAtRest}
 use Rattle.pma_store.specs.Readying.{clear_cost}
-use Rattle.pma_store.specs.Store.{StoreView, IsOpenOn}
+use Rattle.pma_store.specs.StoreView.{StoreView, IsOpenOn}
 use Rattle.pma_engine.specs.Closing.{IsButClosed, StaysShut}
-use Rattle.pma_engine.specs.Loading.{IsCutText, line_of_load, load_cost, text_cost}
-use Rattle.pma_engine.specs.Merging.{AnswersMerge, BeginsLine, EndsMerge, HasEdits, IsFileMerged, IsMergeAnswer, IsMergeCutEarly, IsMergeDone, IsMergeRefused, IsMergeWhole, IsMerged, MayMerge, MayMergeOn, MeansMerged, MergesFile, MergesOpened, SaysMerged, line_of_merge, merge_calls, merge_reads, merged_line}
-use Rattle.pma_engine.specs.Opening.{IsOpened, IsUnopened, Reopens, reopening_calls, reopening_cost}
+use Rattle.pma_engine.specs.LoadOutcome.{IsCutText, line_of_load, load_cost, text_cost}
+use Rattle.pma_engine.specs.MergeOutcome.{AnswersMerge, BeginsLine, EndsMerge, HasEdits, IsFileMerged, IsMergeAnswer, IsMergeCutEarly, IsMergeDone, IsMergeRefused, IsMerged, MayMerge, MayMergeOn, MeansMerged, MergesFile, MergesOpened, SaysMerged, line_of_merge, merge_calls, merge_reads, merged_line}
+use Rattle.pma_engine.specs.RunOpening.{IsOpened, IsUnopened, Reopens, reopening_calls, reopening_cost}
 use Rattle.pma_engine.specs.Outcome.{IsRunStatus}
 use Rattle.pma_engine.specs.Jobs.{TakesNothing}
 use Rattle.pma_engine.specs.Refusing.{IsRefusal, SaysLine, line_text, line_of_opening, status_of_opening}
 use Rattle.pma_engine.specs.Serving.{fresh_reader}
-use Rattle.pma_engine.specs.Session.{IsPartSaid}
+use Rattle.pma_engine.specs.Headline.{IsPartSaid}
 use Rattle.pma_engine.specs.Upgrading.{KeepsMeaning, opened_height}
 use Rattle.pma_engine.specs.declared.status.TheConstants.{DONE, REFUSED, DISK_FAULT, SCRIPT_FAULT, REPLY_FAULT, OUT_OF_MEMORY, TOO_LONG}
 use Rattle.pma_engine.specs.declared.words.Job.TheVariants as asked
@@ -75,7 +75,7 @@ use Rattle.pma_engine.proofs.Dumped.{means_few}
 use Rattle.pma_engine.proofs.Meant.{opened_map}
 use Rattle.pma_engine.proofs.MergeDue.{may_go_on, refused_at, results_in_more}
 use Rattle.pma_engine.proofs.OutcomeLaws.{no_map}
-use Rattle.pma_engine.proofs.Upgrading.{keeps_opened, keeps_on, none_told, said_since, spared_none, stands_told, unopened_run, unpending}
+use Rattle.pma_engine.proofs.Upgrading.{keeps_opened, keeps_on, none_told, said_since, spared_none, stands_told, represents_idle}
 
 -- What may be left.
 
@@ -99,8 +99,8 @@ may_tell s IsSaid Tells more moved m here = elim (moved m here) [
 
 -- from an image that means what an earlier one does, in its layout
 pub may_since : (s : SourceView) (IsSaid : Reply → Type 0) {old mid new : List ℕ} → KeepsMeaning old mid → layout_in mid ≡ layout_in old → MayMerge s IsSaid mid new → MayMerge s IsSaid old new
-may_since s IsSaid {old} {mid} {new} keeps same moved m here = elim (moved m (refl, (keeps m here).1)) [
-  | inl stays ↦ inl ((stays.0.0 ∙ same, stays.0.1), stays.1)
+may_since s IsSaid {old} {mid} {new} keeps same moved m here = elim (moved m (in_own mid m (keeps m here))) [
+  | inl stays ↦ inl (in_layout new m same stays.0, stays.1)
   | inr text ↦ inr (text.0, subst (λ (x : Layout). MeansMerged x m s text.0 new) same text.1, text.2)
 ]
 
@@ -132,38 +132,36 @@ facts_from most reader fresh r s s0 s1 a b facts = subst (λ (x : ReaderView). F
 
 module _ (most : ℕ) (s : StoreView) (s0 s1 : SourceView) (a : View) (law : Lawful a) (opened : IsOpenOn s a) (nothing : NothingPending a) (bare : Told a → IsBare s.place.layout a.held) where
   -- the store's own map
-  own_map : Told a → (m : Map) → MeansMap (layout_in a.held) a.held m → m ≡ map_of a.held
-  own_map told m here = (determined a.held m here.1.0 (unpending a.held m here.1.0 here.1.1 (none_told a s opened told))).0
+  own_map : Told a → (m : Map) → Means (layout_in a.held) a.held m → m ≡ map_of a.held
+  own_map told m here = (determined a.held m here.height (represents_idle a.held m here (none_told a s opened told))).0
 
   layout_told : Told a → layout_in a.held ≡ s.place.layout
   layout_told told = (stands_told a s opened told).settled.layout_is
 
   -- an image that represents what results
   abbrev means_merged : (image : List ℕ) → Told a → (found : ItemCounts) (rs : List Record) (height : ℕ) → MergeFor s.place.layout (fresh_reader most) s0 a found rs → IsLeastHeight (length rs) height → Represents image (from_sorted rs) height
-      → has_pending image ≡ false → layout_in image ≡ s.place.layout → MeansMerged s.place.layout (map_of a.held) s0 found image
+      → has_waiting image ≡ false → layout_in image ≡ s.place.layout → MeansMerged s.place.layout (map_of a.held) s0 found image
   means_merged image told found rs height out least represents none same =
       let m = map_of a.held in
       let edits = (out told).edits in
       let up = (out told).ascending in
       let count : length rs ≡ len (map_after_edits m edits) = ap length (out told).rows_are ∙ sym (ap length (merged_are m edits up)) ∙ sym (len-entries (map_after_edits m edits)) in
-      let means : Means image (map_after_edits m edits) height =
+      let means : Means (layout_in image) image (map_after_edits m edits) =
       means_idle image (map_after_edits m edits) height (subst (λ (x : Map). Represents image x height) (ap from_sorted (out told).rows_are ∙ merged_map m edits up) represents) none in
       record {
         edits = edits;
-        height = height;
-        text = λ told_s. (text_of s.place.layout.format (most_records s.place.layout) (entries m) (raw_lines s0.left) edits ((out told).text told_s), subst (λ (x : Layout). len (map_after_edits m edits) ≤ most_records x) same (means_few image (map_after_edits m edits) height means));
+        text = λ told_s. (text_of s.place.layout.format (most_records s.place.layout) (entries m) (raw_lines s0.left) edits ((out told).text told_s), subst (λ (x : Layout). len (map_after_edits m edits) ≤ most_records x) same (means_few image (map_after_edits m edits) means));
         found_is = (out told).found_is;
         least = subst (λ (n : ℕ). IsLeastHeight n height) count least;
-        layout = same;
-        means = means;
+        means = in_layout image (map_after_edits m edits) same means;
       }
 
   -- for each map that the file means
-  merged_for : (told : Told a) (m : Map) (here : MeansMap (layout_in a.held) a.held m) (found : ItemCounts) (image : List ℕ) → MeansMerged s.place.layout (map_of a.held) s0 found image → MeansMerged (layout_in a.held) m s0 found image
+  merged_for : (told : Told a) (m : Map) (here : Means (layout_in a.held) a.held m) (found : ItemCounts) (image : List ℕ) → MeansMerged s.place.layout (map_of a.held) s0 found image → MeansMerged (layout_in a.held) m s0 found image
   merged_for told m here found image is = subst (λ (x : Layout × Map). MeansMerged x.0 x.1 s0 found image) (λ i. (sym (layout_told told) i, sym (own_map told m here) i)) is
 
   module _ (image : List ℕ) (told : Told a) (moved : Loads s.place (MergeTo s.place.layout (fresh_reader most) s0 a) a.held image) where
-    no_intent : has_pending image ≡ false
+    no_intent : has_waiting image ≡ false
     no_intent = spared_none s.place.layout (1 - s.place.region) a.held image (ap (λ (x : Layout). x.version) moved.layout_is) moved.touched (none_told a s opened told)
 
     same_layout : layout_in image ≡ s.place.layout
@@ -171,8 +169,8 @@ module _ (most : ℕ) (s : StoreView) (s0 s1 : SourceView) (a : View) (law : Law
 
     -- whatever is said
     may : (IsSaid : Reply → Type 0) → ((line : Reply) → IsSaid line) → MayMerge s0 IsSaid a.held image
-    may IsSaid all m here = elim (moved.map_is m here.1.0 (unpending a.held m here.1.0 here.1.1 (none_told a s opened told))) [
-      | inl same ↦ inl ((moved.layout_is, (here.1.0, means_idle image m here.1.0 same no_intent)), (reply.OneSegment, tt, all reply.OneSegment))
+    may IsSaid all m here = elim (moved.map_is m here.height (represents_idle a.held m here (none_told a s opened told))) [
+      | inl same ↦ inl (in_layout image m moved.layout_is (means_idle image m here.height same no_intent), (reply.OneSegment, tt, all reply.OneSegment))
       | inr text ↦ inr (
         text.text.0,
         merged_for told m here text.text.0 image (means_merged image told text.text.0 text.rows text.height text.text.1 text.least text.represents no_intent same_layout),
@@ -186,7 +184,7 @@ module _ (most : ℕ) (s : StoreView) (s0 s1 : SourceView) (a : View) (law : Law
     keeps stands m here =
         let spares : Spares s.place.layout s.place.region a.held image = record { live_is = stands.settled.region_is; touched = moved.touched } in
         let same : map_of image ≡ m = ap (λ (x : Array). from_sorted (rows x)) (array_kept s.place a.held image (stands_told a s opened told).settled (bare told) spares) ∙ sym (own_map told m here) in
-        (moved.layout_is, (height_of image, means_idle image m (height_of image) (subst (λ (n : Map). Represents image n (height_of image)) same stands.settled.represents) no_intent))
+        in_layout image m moved.layout_is (means_idle image m (height_of image) (subst (λ (n : Map). Represents image n (height_of image)) same stands.settled.represents) no_intent)
 
   module _ (r : Result Merged LoadFault) (b : View) (facts : Facts most r s s0 s1 a b) where
     -- all that the station may hold then was made of what it held
@@ -511,7 +509,7 @@ module _ (most : ℕ) (s : SourceView) (a b : View) (law : Lawful a) (ab : Steps
       ends calm = elim is [ inl e ↦ absurd (calm (unopened.failed (failed e))) | inr e ↦ e ]
 
   -- it is refused, and means no map
-  refused_file : IsMergeRefused s a d → (line : Reply) → IsRefusal line → Says (reply_text line) b d → d.calls ≤ b.calls + 512 → (Told a → b.travel.written ≤ a.travel.written + reopening_cost a.held) → (Told a → (m : Map) → MeansMap (layout_in a.held) a.held m → ⊥) → Comes REFUSED most s s a d
+  refused_file : IsMergeRefused s a d → (line : Reply) → IsRefusal line → Says (reply_text line) b d → d.calls ≤ b.calls + 512 → (Told a → b.travel.written ≤ a.travel.written + reopening_cost a.held) → (Told a → (m : Map) → Means (layout_in a.held) a.held m → ⊥) → Comes REFUSED most s s a d
   refused_file refused line refuses says few cost never = record {
     status_is = inr (inl refl);
     attached = says.attached ∙ ab.frame.attached;
@@ -592,8 +590,8 @@ module _ (most : ℕ) (s0 s1 : SourceView) (a b : View) (law : Lawful a) (ab : S
   same_map : Told a → map_of b.held ≡ meant_map a.held
   same_map told = ap (λ (x : ArrayState). x.map) (opened.state told) ∙ opened_map a.held
 
-  meant : (m : Map) → MeansMap (layout_in a.held) a.held m → m ≡ meant_map a.held
-  meant m here = (meant_one a.held m here.1.0 here.1.1).0
+  meant : (m : Map) → Means (layout_in a.held) a.held m → m ≡ meant_map a.held
+  meant m here = (meant_one a.held m here).0
 
   module _ (status : ℕ) (d : View) (merges : MergesOpened status most v.place.layout v.tally.height (clear_cost v.place.layout) (clear_calls v.place.layout) s0 s1 b d) where
     disk_rose : status ≡ DISK_FAULT → Rose a.disk_faults d.disk_faults
@@ -699,5 +697,5 @@ module _ (most : ℕ) (s0 s1 : SourceView) (a b : View) (law : Lawful a) (ab : S
       | inr (inl e) ↦ no_memory e
       | inr (inr (inl never)) ↦ never.0
       | inr (inr (inr (inl never))) ↦ never
-      | inr (inr (inr (inr (told, no_store)))) ↦ no_store (meant_map a.held) (refl, (height_of a.held, means_of_none a.held (opened.sound told)))
+      | inr (inr (inr (inr (told, no_store)))) ↦ no_store (meant_map a.held) (means_of_none a.held (opened.sound told))
     ]

@@ -9,7 +9,8 @@ use Rattle.header_gate.specs.Places.{height_limit}
 use Rattle.header_gate.specs.declared.layout.Layout.{Layout}
 use Rattle.map_model.specs.ArrayState.{ArrayState, plain, next_state, next_states}
 use Rattle.map_model.specs.Image.{height_of, map_of}
-use Rattle.map_model.specs.Items.{ItemCounts, charge_after_items, state_after_items}
+use Rattle.map_model.specs.Items.{state_after_items}
+use Rattle.map_model.specs.ItemWords.{ItemCounts, charge_after_items}
 use Rattle.map_model.specs.Store.{State, Update, IsWithin}
 use Rattle.map_model.proofs.Resuming.{items_within, plain_items}
 use Rattle.map_model.proofs.SessionLaws.{holds_of}
@@ -22,12 +23,12 @@ use Rattle.command_text.specs.declared.command.Command.{Command}
 use Rattle.command_text.specs.declared.reply.Reply.TheVariants as reply
 use Rattle.pma_store.specs.declared.answers.Batch as store
 use Rattle.pma_store.specs.declared.answers.Batch.TheVariants as batch
-use Rattle.pma_store.specs.Answers.{state_in}
+use Rattle.pma_store.specs.StoreAnswers.{state_in}
 use Rattle.pma_store.specs.Batching.{done_by, intent_cost_in, IsRefusal}
 use Rattle.pma_store.specs.Changing.{most_written}
 use Rattle.pma_store.specs.Costing.{updates_cost}
-use Rattle.pma_store.specs.Store.{StoreView, Stands}
-use Rattle.pma_engine.specs.Costs.{intents_cost}
+use Rattle.pma_store.specs.StoreView.{StoreView, Stands}
+use Rattle.pma_engine.specs.CommandCosts.{intents_cost}
 use Rattle.pma_engine.specs.Replies.{batch_reply, lines_of, IsQuiet}
 
 -- The ledger.

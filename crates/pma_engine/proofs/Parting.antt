@@ -5,8 +5,8 @@ use Rattle.header_gate.specs.InPlace.{IsBare}
 use Rattle.map_model.specs.Standing.{StandsWith}
 use Rattle.redo_journal.specs.declared.place.Place.{Place}
 use Rattle.redo_journal.specs.Rest.{RestsAt}
-use Rattle.window_tally.specs.View.{TallyView}
-use Rattle.pma_store.specs.Store.{StoreView, IsOpenOn}
+use Rattle.window_tally.specs.TallyView.{TallyView}
+use Rattle.pma_store.specs.StoreView.{StoreView, IsOpenOn}
 
 -- they stand for its file
 pub parts_stand : (s : StoreView) (place : Place) (tally : TallyView) (v : View) → place ≡ s.place → tally ≡ s.tally → IsOpenOn s v → EachHeld (StandsWith place.layout place.region tally.height tally.counts) v

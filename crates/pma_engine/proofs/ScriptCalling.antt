@@ -9,9 +9,9 @@ use Rattle.command_text.specs.Session.{Session, session_reply, session_step, ses
 use Rattle.command_text.specs.declared.command.Command.{Command}
 use Rattle.command_text.specs.declared.command.Command.TheVariants.{Nothing, Put, Remove, Batch, Get, Range, Check, Probe, Cost, Open, Next, Prev, Close, OversizedKey, OversizedValue, RepeatedKey, Bad}
 use Rattle.pma_store.specs.BatchCalls.{IsForBatch, IsForIntent}
-use Rattle.pma_store.specs.Store.{StoreView, IsOpenOn}
+use Rattle.pma_store.specs.StoreView.{StoreView, IsOpenOn}
 use Rattle.pma_store.proofs.BatchCalls.{are_from}
-use Rattle.pma_engine.specs.Calling.{IsForCommand}
+use Rattle.pma_engine.specs.CommandCalls.{IsForCommand}
 use Rattle.pma_engine.specs.Carrying.{CallsOnLine, SessionView, layout_on, session_in}
 use Rattle.pma_engine.specs.ScriptCalls.{IsForLine, AreForLines}
 use Rattle.pma_engine.proofs.ScriptCommands.{if_any_is, commands_in-nothing, commands_in-some}

@@ -1,5 +1,6 @@
 -- A load behind which and before which nothing is pending.
 use Rattle.std.proofs.Common.{◌≡◌, inl, inr, ℕ, ◌<◌, List, Some, Result, refl, sym, ◌∙◌, ap, subst, arith, sum}
+use Rattle.std.specs.FinMap.{from_sorted}
 use Rattle.station.specs.Steps.{Says}
 use Rattle.station.specs.View.{View, Fixed, Told, SaidTold, MayHold, NothingPending, Lawful, Rose}
 use Rattle.station.specs.declared.travel.Travel.{Travel}
@@ -14,14 +15,15 @@ use Rattle.command_text.specs.declared.reply.Reply.TheVariants as reply
 use Rattle.bulk_load.proofs.ReadLaws.{takes_none}
 use Rattle.pma_store.specs.Readying.{clear_cost}
 use Rattle.pma_store.specs.Settling.{SettlesStore}
-use Rattle.pma_store.specs.Store.{StoreView, IsOpenOn}
-use Rattle.pma_engine.specs.Loading.{LoadsOpened, HasText, MayLoad}
+use Rattle.pma_store.specs.StoreView.{StoreView, IsOpenOn}
+use Rattle.pma_engine.specs.LoadOutcome.{LoadsOpened, HasText, MayLoad}
 use Rattle.pma_engine.specs.Refusing.{SaysLine}
 use Rattle.pma_engine.specs.Upgrading.{KeepsMeaning}
 use Rattle.pma_engine.specs.declared.status.TheConstants.{REFUSED, DISK_FAULT}
 use Rattle.pma_engine.proofs.Loading.{may_keep}
 use Rattle.pma_engine.proofs.Settling.{image_keeps, keeps_settled, layout_settled, told_settled}
 use Rattle.pma_engine.proofs.Upgrading.{keeps_on, said_since}
+use Rattle.batch_intent.proofs.Meanings.{in_own, in_layout}
 
 -- A store that has records is refused, and nothing is read.
 pub loads_refused : (s : StoreView) (a : View) → Lawful a → IsOpenOn s a → NothingPending a → (most : ℕ) (s0 : SourceView) (records : ℕ) → records ≡ sum s.tally.counts → 0 < records → (d : View) → {text : List ℕ} → Says text a d
@@ -99,17 +101,15 @@ module _ {T : Type 0} {r : Result T StoreFault} (s t : StoreView) (a b : View) (
     may_on told image moved m here =
         let mid = keeps_settled s t a b opened settles told m here in
         let same : layout_in b.held ≡ layout_in a.held = layout_settled s t a b opened settles told in
-        elim (moved m (refl, mid.1)) [
-          | inl keeps ↦ inl (keeps.0 ∙ same, keeps.1)
+        elim (moved m (in_own b.held m mid)) [
+          | inl keeps ↦ inl (in_layout image m same keeps)
           | inr text ↦ inr (
             text.0,
             record {
               rows = text.1.rows;
-              height = text.1.height;
               text = subst (λ (x : Layout). HasText x s0 text.1.rows) same text.1.text;
               least = text.1.least;
-              layout = text.1.layout ∙ same;
-              means = text.1.means;
+              means = in_layout image (from_sorted text.1.rows) same text.1.means;
             },
           )
         ]

@@ -4,8 +4,6 @@ use Rattle.station.specs.View.{View, Fixed, Told, SaidTold, MayHold, Lawful, Ros
 use Rattle.station.specs.Steps.{Run}
 use Rattle.station.proofs.Sayings.{run_of_steps, run_on}
 use Rattle.line_source.specs.SourceView.{SourceView}
-use Rattle.header_gate.specs.Header.{layout_in}
-use Rattle.header_gate.specs.declared.layout.Layout.{Layout}
 use Rattle.map_model.specs.ArrayState.{ArrayState}
 use Rattle.map_model.specs.Image.{map_of}
 use Rattle.map_model.specs.Store.{Map}
@@ -13,12 +11,12 @@ use Rattle.segment.specs.declared.fault.StoreFault.{StoreFault}
 use Rattle.command_text.specs.declared.reply.Reply.{Reply}
 use Rattle.command_text.specs.declared.reply.Reply.TheVariants as reply
 use Rattle.bulk_load.proofs.ReadLaws.{takes_none}
-use Rattle.pma_store.specs.Answers.{state_in}
-use Rattle.pma_store.specs.Calling.{clear_calls}
+use Rattle.pma_store.specs.StoreAnswers.{state_in}
+use Rattle.pma_store.specs.UpdateCalls.{clear_calls}
 use Rattle.pma_store.specs.Readying.{clear_cost}
 use Rattle.pma_store.specs.Settling.{SettlesStore}
-use Rattle.pma_store.specs.Store.{StoreView, IsOpenOn}
-use Rattle.pma_engine.specs.Merging.{AnswersMerge, BeginsLine, HasEdits, IsFileMerged, IsMergeCutEarly, MayMerge, MergesOpened, SaysMerged, merged_line}
+use Rattle.pma_store.specs.StoreView.{StoreView, IsOpenOn}
+use Rattle.pma_engine.specs.MergeOutcome.{AnswersMerge, BeginsLine, HasEdits, IsFileMerged, IsMergeCutEarly, MayMerge, MergesOpened, SaysMerged, merged_line}
 use Rattle.pma_engine.specs.Refusing.{SaysLine}
 use Rattle.pma_engine.specs.declared.status.TheConstants.{DISK_FAULT}
 use Rattle.pma_engine.proofs.Merging.{may_keep, may_since, may_tell, none_begun}

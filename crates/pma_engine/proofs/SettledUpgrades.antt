@@ -19,15 +19,16 @@ use Rattle.resize_region.specs.Upgraded.{TooManyFor, Upgrades, upgraded_height, 
 use Rattle.resize_region.specs.declared.outcome.Upgrade.{Upgrade}
 use Rattle.resize_region.specs.declared.outcome.Upgrade.TheVariants.{Done, Already, OneSegment, TooMany}
 use Rattle.command_text.specs.declared.reply.Reply.{Reply}
-use Rattle.pma_store.specs.Answers.{state_in}
+use Rattle.pma_store.specs.StoreAnswers.{state_in}
 use Rattle.pma_store.specs.Readying.{clear_cost}
 use Rattle.pma_store.specs.Settling.{SettlesStore}
-use Rattle.pma_store.specs.Store.{StoreView, IsOpenOn}
+use Rattle.pma_store.specs.StoreView.{StoreView, IsOpenOn}
 use Rattle.pma_engine.specs.Refusing.{SaysLine, line_text}
 use Rattle.pma_engine.specs.Upgrading.{AnswersUpgrade, MayUpgrade, UpgradesOpened, line_of_upgrade, status_of_upgrade}
 use Rattle.pma_engine.specs.declared.status.TheConstants.{REFUSED, DISK_FAULT}
 use Rattle.pma_engine.proofs.Settling.{array_settled, image_keeps, keeps_settled, layout_settled, map_settled, represents_settled, told_settled}
 use Rattle.pma_engine.proofs.Upgrading.{Facts, may_upgrade, said_since, upgraded_from, upgrades_on}
+use Rattle.batch_intent.proofs.Meanings.{in_layout}
 
 -- more may be written before it is widened
 pub upgrades_more : {status : ℕ} {l : Layout} {height : ℕ} {a b : View} (before : ℕ) → UpgradesOpened status l height 0 a b → UpgradesOpened status l height before a b
@@ -150,7 +151,9 @@ module _ {T : Type 0} {r : Result T StoreFault} (s t : StoreView) (a b : View) (
           (λ honest image said moved. upgrades_on (keeps_settled s t a b opened settles (law.tells honest).0) moved);
       held = λ told. upgrades_on (keeps_settled s t a b opened settles told) (upgrades.held (on told));
       due = λ e told copy line answers. upgrades.due e (on told) copy line (subst (λ (x : Layout × Map). AnswersUpgrade x.0 copy (len x.1) line) (λ i. (sym (same_layout told) i, sym (same_map told) i)) answers);
-      means = λ e told m here. upgrades.means e (on told) m (represents_settled s t a b opened settles state open_yet told m s.tally.height here);
+      means = λ e told m here.
+          let is = upgrades.means e (on told) m (represents_settled s t a b opened settles state open_yet told m s.tally.height here) in
+          (in_layout d.held m (ap widened (same_layout told)) is.0, is.1);
       no_intent = λ e told. upgrades.no_intent e (on told);
       layout = λ e told. upgrades.layout e (on told) ∙ ap widened (same_layout told);
       array = λ e told. upgrades.array e (on told) ∙ ap (λ (x : Array). resized x (upgraded_height s.place.layout s.tally.height)) (array_settled s t a b opened settles state open_yet told);

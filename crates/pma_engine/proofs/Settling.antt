@@ -8,15 +8,16 @@ use Rattle.map_model.specs.ArrayState.{ArrayState}
 use Rattle.map_model.specs.Image.{Represents, array_in, array_of, height_of, map_of}
 use Rattle.map_model.specs.Store.{Map}
 use Rattle.map_model.proofs.Recovering.{determined}
-use Rattle.batch_intent.specs.Means.{Means, MeansMap}
+use Rattle.batch_intent.specs.Means.{Means}
 use Rattle.segment.specs.declared.fault.StoreFault.{StoreFault}
 use Rattle.std.specs.Prelude.{Result}
-use Rattle.pma_store.specs.Answers.{state_in}
+use Rattle.pma_store.specs.StoreAnswers.{state_in}
 use Rattle.pma_store.specs.Settling.{SettlesStore}
-use Rattle.pma_store.specs.Store.{StoreView, IsOpenOn}
+use Rattle.pma_store.specs.StoreView.{StoreView, IsOpenOn}
 use Rattle.pma_engine.specs.Serving.{IsAtState}
 use Rattle.pma_engine.specs.Upgrading.{KeepsMeaning}
-use Rattle.pma_engine.proofs.Upgrading.{unpending}
+use Rattle.pma_engine.proofs.Upgrading.{represents_idle}
+use Rattle.batch_intent.proofs.Meanings.{in_layout}
 
 module _ {T : Type 0} {r : Result T StoreFault} (s t : StoreView) (a b : View) (opened : IsOpenOn s a) (settles : SettlesStore r s t a b) where
   pub told_settled : Told a → Told b
@@ -26,19 +27,19 @@ module _ {T : Type 0} {r : Result T StoreFault} (s t : StoreView) (a b : View) (
   layout_told told = (opened.on.stands a.held (inl (told, refl))).balanced.stands.settled.layout_is
 
   -- the map that the file means is that of its records
-  pub means_own : Told a → (l : Layout) (m : Map) → MeansMap l a.held m → m ≡ map_of a.held
-  means_own told l m here = (determined a.held m here.1.0 (unpending a.held m here.1.0 here.1.1 (opened.no_intent a.held (inl (told, refl))))).0
+  pub means_own : Told a → (l : Layout) (m : Map) → Means l a.held m → m ≡ map_of a.held
+  means_own told l m here = (determined a.held m here.height (represents_idle a.held m here (opened.no_intent a.held (inl (told, refl))))).0
 
   -- so what means it means each map that the file does
-  pub image_keeps : Told a → (image : List ℕ) → MeansMap s.place.layout image (map_of a.held) → KeepsMeaning a.held image
+  pub image_keeps : Told a → (image : List ℕ) → Means s.place.layout image (map_of a.held) → KeepsMeaning a.held image
   image_keeps told image means m here =
-      (means.0 ∙ sym (layout_told told), subst (λ (n : Map). (height : ℕ) × Means image n height) (sym (means_own told (layout_in a.held) m here)) means.1)
+      subst (λ (n : Map). Means (layout_in a.held) image n) (sym (means_own told (layout_in a.held) m here)) (in_layout image (map_of a.held) (sym (layout_told told)) means)
 
   pub keeps_settled : Told a → KeepsMeaning a.held b.held
   keeps_settled told = image_keeps told b.held (settles.meant.held told)
 
   pub layout_settled : Told a → layout_in b.held ≡ layout_in a.held
-  layout_settled told = (settles.meant.held told).0 ∙ sym (layout_told told)
+  layout_settled told = (settles.meant.held told).layout_is ∙ sym (layout_told told)
 
   -- Where it was done, the state stays.
   module _ (state : Told a → state_in t b.held ≡ state_in s a.held) (open_yet : IsOpenOn t b) where

@@ -12,22 +12,22 @@ use Rattle.map_model.specs.Cursors.{Cursor, Cursors, after_open, onward, after_s
 use Rattle.map_model.specs.Image.{map_of}
 use Rattle.segment.specs.declared.fault.StoreFault.{StoreFault}
 use Rattle.segment.specs.declared.fault.StoreFault.TheVariants.{Failed}
-use Rattle.range_scan.specs.Seeking.{KeptRegion, ReadsNear, later}
+use Rattle.range_scan.specs.SeekReads.{KeptRegion, ReadsNear, later}
 use Rattle.range_scan.proofs.Walks.{walk_written}
 use Rattle.command_text.specs.CursorLines.{open_line, next_line, close_line}
 use Rattle.command_text.specs.declared.command.Command.{Command}
 use Rattle.command_text.specs.declared.command.Command.TheVariants as command
 use Rattle.command_text.specs.declared.reply.Reply.{Reply}
-use Rattle.cursor_set.specs.Answers.{after_answer, given_by, told_by}
+use Rattle.cursor_set.specs.SetAnswers.{after_answer, given_by, told_by}
 use Rattle.cursor_set.specs.declared.answers.Step.{Step}
 use Rattle.cursor_set.specs.declared.answers.Step.TheVariants as step
 use Rattle.pma_store.specs.Metered.{MeteredView}
-use Rattle.pma_store.specs.Seeking.{StandsIdle, kept_region, unclosed}
-use Rattle.pma_store.specs.Store.{IsOpenOn}
+use Rattle.pma_store.specs.StoreSeeks.{StandsIdle, kept_region, unclosed}
+use Rattle.pma_store.specs.StoreView.{IsOpenOn}
 use Rattle.pma_store.proofs.Sought.{is_as_before, opens_again}
 use Rattle.pma_engine.specs.Carrying.{with_cursors, moved_by, AsksCursors, Executes, IsOneLine, MovesCursors}
-use Rattle.pma_engine.specs.Calling.{IsForStep, MakesCalls}
-use Rattle.pma_engine.specs.Costs.{LooksAhead}
+use Rattle.pma_engine.specs.CommandCalls.{IsForStep, MakesCalls}
+use Rattle.pma_engine.specs.CommandCosts.{LooksAhead}
 use Rattle.pma_engine.proofs.Executing.{looked, looked_in_vain, nothing_asked, idle_open, idle_next, idle_close}
 
 -- what asks something of the cursors has one line of reply

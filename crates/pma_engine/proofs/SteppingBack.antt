@@ -13,22 +13,22 @@ use Rattle.map_model.specs.Cursors.{Cursor, Cursors, back, after_step, step_in}
 use Rattle.map_model.specs.Image.{map_of}
 use Rattle.segment.specs.declared.fault.StoreFault.{StoreFault}
 use Rattle.segment.specs.declared.fault.StoreFault.TheVariants.{Failed}
-use Rattle.range_scan.specs.Seeking.{KeptRegion, ReadsBehind, earlier}
+use Rattle.range_scan.specs.SeekReads.{KeptRegion, ReadsBehind, earlier}
 use Rattle.range_scan.specs.Walk.{after_walk, after_walk_back}
 use Rattle.range_scan.proofs.Walks.{walk_written}
 use Rattle.command_text.specs.CursorLines.{next_line}
 use Rattle.command_text.specs.declared.command.Command.TheVariants as command
 use Rattle.command_text.specs.declared.reply.Reply.{Reply}
-use Rattle.cursor_set.specs.Answers.{after_answer, told_by}
+use Rattle.cursor_set.specs.SetAnswers.{after_answer, told_by}
 use Rattle.cursor_set.specs.declared.answers.Step.{Step}
 use Rattle.cursor_set.specs.declared.answers.Step.TheVariants as step
 use Rattle.pma_store.specs.Metered.{MeteredView}
-use Rattle.pma_store.specs.Seeking.{StandsIdle, kept_region, unclosed}
-use Rattle.pma_store.specs.Store.{IsOpenOn}
+use Rattle.pma_store.specs.StoreSeeks.{StandsIdle, kept_region, unclosed}
+use Rattle.pma_store.specs.StoreView.{IsOpenOn}
 use Rattle.pma_store.proofs.Sought.{is_as_before, opens_again}
 use Rattle.pma_engine.specs.Carrying.{with_cursors, Executes, MovesCursors}
-use Rattle.pma_engine.specs.Calling.{IsForStep, MakesCalls}
-use Rattle.pma_engine.specs.Costs.{LooksBehind}
+use Rattle.pma_engine.specs.CommandCalls.{IsForStep, MakesCalls}
+use Rattle.pma_engine.specs.CommandCosts.{LooksBehind}
 use Rattle.pma_engine.proofs.Executing.{looked, looked_in_vain, idle_prev}
 use Rattle.pma_engine.proofs.Stepping.{row_moves, end_moves, none_moves}
 

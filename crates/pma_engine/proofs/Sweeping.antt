@@ -10,7 +10,7 @@ use Rattle.range_scan.specs.Sweeping.{scan_of}
 use Rattle.command_text.specs.Reply.{reply_text}
 use Rattle.command_text.specs.declared.reply.Reply.TheVariants.{End}
 use Rattle.pma_engine.specs.Ranging.{LeavesLast, SaysFront, SaysNext, SaysSweep, row_text, scan_text}
-use Rattle.pma_engine.specs.Session.{IsPartSaid}
+use Rattle.pma_engine.specs.Headline.{IsPartSaid}
 use Rattle.pma_engine.specs.declared.fault.ServeFault.{ServeFault}
 use Rattle.pma_engine.specs.declared.fault.ServeFault.TheVariants.{Reply}
 use Rattle.pma_engine.proofs.Buffers.{front_on, part_behind, buffer_front, row_text-append}

@@ -19,13 +19,13 @@ use Rattle.key_slot.specs.Format.{narrow, wide}
 use Rattle.map_model.specs.Array.{resized}
 use Rattle.map_model.specs.ArrayState.{ArrayState}
 use Rattle.map_model.specs.Image.{Represents, array_of, map_of}
-use Rattle.map_model.specs.Items.{map_after_items}
+use Rattle.map_model.specs.After.{map_after_items}
 use Rattle.map_model.specs.Regions.{IsSparePlace}
 use Rattle.map_model.specs.Standing.{StandsWith}
 use Rattle.map_model.specs.Store.{Map}
 use Rattle.map_model.proofs.Recovering.{determined}
-use Rattle.batch_intent.specs.Means.{Means, MeansMap, has_pending, meant_map}
-use Rattle.batch_intent.proofs.Meanings.{meant_one, means_idle, map_made}
+use Rattle.batch_intent.specs.Means.{Means, has_waiting, meant_map}
+use Rattle.batch_intent.proofs.Meanings.{meant_one, means_idle, map_made, in_own, in_layout}
 use Rattle.batch_intent.proofs.OpeningReasons.{none_of_means}
 use Rattle.range_scan.proofs.Checks.{counted_all}
 use Rattle.redo_journal.specs.declared.place.Place.{Place}
@@ -40,9 +40,9 @@ use Rattle.command_text.specs.Reply.{reply_text}
 use Rattle.command_text.specs.declared.reply.Reply.{Reply}
 use Rattle.command_text.specs.declared.reply.Reply.TheVariants as reply
 use Rattle.pma_store.specs.Readying.{clear_cost}
-use Rattle.pma_store.specs.Store.{StoreView, IsOpenOn}
+use Rattle.pma_store.specs.StoreView.{StoreView, IsOpenOn}
 use Rattle.pma_engine.specs.Closing.{IsButClosed, StaysShut, WritesGate}
-use Rattle.pma_engine.specs.Opening.{IsOpened, IsUnopened, Reopens, reopening_cost}
+use Rattle.pma_engine.specs.RunOpening.{IsOpened, IsUnopened, Reopens, reopening_cost}
 use Rattle.pma_engine.specs.Refusing.{IsRefusal, SaysLine, line_text, line_of_opening, status_of_opening}
 use Rattle.pma_engine.specs.Upgrading.{IsUpgradeStatus, AnswersUpgrade, IsUpgradeRefused, IsUpgraded, KeepsMeaning, MayUpgrade, next_height, opened_height, UpgradesFile, UpgradesOpened, line_of_upgrade, status_of_upgrade, upgrade_cost, widen_cost}
 use Rattle.pma_engine.specs.declared.status.TheConstants.{DONE, REFUSED, DISK_FAULT, OUT_OF_MEMORY}
@@ -53,19 +53,20 @@ pub keeps_opened : {old new : List ℕ} → Reopens old new → KeepsMeaning old
 keeps_opened opens m has = opens.means m has
 
 pub keeps_on : {old middle new : List ℕ} → KeepsMeaning old middle → KeepsMeaning middle new → KeepsMeaning old new
-keeps_on {old} {middle} {new} first second m has = let mid = first m has in subst (λ (l : Layout). MeansMap l new m) mid.0 (second m (refl, mid.1))
+keeps_on {old} {middle} {new} first second m has = let mid = first m has in in_layout new m mid.layout_is (second m (in_own middle m mid))
 
 -- what keeps it may be an upgrade, and so what keeps it first
 pub may_upgrade : {old new : List ℕ} → KeepsMeaning old new → MayUpgrade old new
 may_upgrade keeps m has = inl (keeps m has)
 
 pub upgrades_on : {old middle new : List ℕ} → KeepsMeaning old middle → MayUpgrade middle new → MayUpgrade old new
-upgrades_on {old} {middle} {new} first second m has = let mid = first m has in subst (λ (l : Layout). MeansMap l new m ⊎ MeansMap (widened l) new m) mid.0 (second m (refl, mid.1))
+upgrades_on {old} {middle} {new} first second m has = let mid = first m has in subst (λ (l : Layout). Means l new m ⊎ Means (widened l) new m) mid.layout_is (second m (in_own middle m mid))
 
 -- a file without an intent that is to be applied represents what it means
-pub unpending : (image : List ℕ) (m : Map) (height : ℕ) → Means image m height → has_pending image ≡ false → Represents image m height
-unpending image m height means none =
-    subst (λ (n : Map). Represents image n height) (sym (ap (map_after_items (height_limit (layout_in image)) means.base) (means.idle none)) ∙ map_made image m height means) means.represents
+pub represents_idle : {l : Layout} (image : List ℕ) (m : Map) (means : Means l image m) → has_waiting image ≡ false → Represents image m means.height
+represents_idle {l} image m means none =
+    subst (λ (n : Map). Represents image n means.height)
+    (sym (ap (map_after_items (height_limit l) means.base) ((in_own image m means).idle none)) ∙ map_made image m means) means.represents
 
 -- an upgrade leaves the version and the intent's gate, as all that touches but what isn't live
 widened_version : {l m : Layout} → MayWiden l m → m.version ≡ l.version
@@ -77,24 +78,24 @@ not_spare l spare (inl is) = omega (arith, is)
 not_spare l spare (inr (inl is)) = omega (arith, is.0, is.1)
 not_spare l spare (inr (inr is)) = omega (arith, is.0)
 
-pub spared_none : (l : Layout) (spare : ℕ) (old new : List ℕ) → (layout_in new).version ≡ (layout_in old).version → Touched (IsSparePlace l spare) old new → has_pending old ≡ false → has_pending new ≡ false
+pub spared_none : (l : Layout) (spare : ℕ) (old new : List ℕ) → (layout_in new).version ≡ (layout_in old).version → Touched (IsSparePlace l spare) old new → has_waiting old ≡ false → has_waiting new ≡ false
 spared_none l spare old new version touched none =
     (λ i. nat_le INTENT_VERSION (version i) && (touched.rest 640 (not_spare l spare) i % 2 == 1)) ∙ none
 
-still_none : {place : Place} {height : ℕ} (old new : List ℕ) → Upgrades place height old new → has_pending old ≡ false → has_pending new ≡ false
+still_none : {place : Place} {height : ℕ} (old new : List ℕ) → Upgrades place height old new → has_waiting old ≡ false → has_waiting new ≡ false
 still_none {place} old new upgrades none = spared_none place.layout (1 - place.region) old new (widened_version upgrades.layout_is) upgrades.touched none
 
 -- so what upgrades a file without one keeps its map too, and its layout or gives it slots of format 2
-keeps_upgraded : {place : Place} {height : ℕ} {old new : List ℕ} → has_pending old ≡ false → Upgrades place height old new → MayUpgrade old new
+keeps_upgraded : {place : Place} {height : ℕ} {old new : List ℕ} → has_waiting old ≡ false → Upgrades place height old new → MayUpgrade old new
 keeps_upgraded {place} {height} {old} {new} none upgrades m has =
     let next_none = still_none old new upgrades none in
-    elim (upgrades.map_is m has.1.0 (unpending old m has.1.0 has.1.1 none)) [
-      | inl same ↦ laid (has.1.0, means_idle new m has.1.0 same next_none)
-      | inr next ↦ laid (height, means_idle new m height next next_none)
+    elim (upgrades.map_is m has.height (represents_idle old m has none)) [
+      | inl same ↦ laid (means_idle new m has.height same next_none)
+      | inr next ↦ laid (means_idle new m height next next_none)
     ]
   where
-    laid : (h : ℕ) × Means new m h → MeansMap (layout_in old) new m ⊎ MeansMap (widened (layout_in old)) new m
-    laid is = elim upgrades.layout_is [ inl same ↦ inl (same, is) | inr wider ↦ inr (wider, is) ]
+    laid : Means (layout_in new) new m → Means (layout_in old) new m ⊎ Means (widened (layout_in old)) new m
+    laid is = elim upgrades.layout_is [ inl same ↦ inl (in_layout new m same is) | inr wider ↦ inr (in_layout new m wider is) ]
 
 -- a line said behind disk calls was said since before them
 pub said_since : (a b d : View) (line : Reply) → b.said ≡ a.said → a.say_faults ≡ b.say_faults → SaysLine line b.said b d → SaysLine line a.said a d
@@ -156,10 +157,10 @@ module _ (a : View) (s : StoreView) (opened : IsOpenOn s a) where
       subst (λ (x : Type 0). x) (sym (answer_is told (live_copy held) line)) (subst (λ (n : ℕ). AnswersUpgrade s.place.layout n (sum s.tally.counts) line) (sym region) answers)
 
   -- no intent is to be applied, at any moment before
-  pub none_told : Told a → has_pending a.held ≡ false
+  pub none_told : Told a → has_waiting a.held ≡ false
   none_told told = opened.no_intent a.held (inl (told, refl))
 
-  pub none_left : (image : List ℕ) → Honest a → a.may_leave image → has_pending image ≡ false
+  pub none_left : (image : List ℕ) → Honest a → a.may_leave image → has_waiting image ≡ false
   none_left image honest left = opened.no_intent image (inr (honest, left))
 
   module _ (nothing : NothingPending a) (place : Place) (b d : View) where
@@ -217,9 +218,10 @@ module _ (a : View) (s : StoreView) (opened : IsOpenOn s a) where
       means = λ e told m here.
           let new = stands_new told in
           let is : m ≡ map_of b.held = elim ((facts.steps.held told).map_is m s.tally.height here) [ inl same ↦ (determined b.held m s.tally.height same).0 | inr other ↦ (determined b.held m next other).0 ] in
-          means_idle b.held m next (subst (λ (n : Map). Represents b.held n next) (sym is) (subst (Represents b.held (map_of b.held)) new.height_is new.settled.represents)) (none_new told);
+          let represents = subst (λ (n : Map). Represents b.held n next) (sym is) (subst (Represents b.held (map_of b.held)) new.height_is new.settled.represents) in
+          (in_layout b.held m (layout_new told) (means_idle b.held m next represents (none_new told)), refl);
       no_intent = λ e told. none_new told;
-      layout = λ e told. (stands_new told).settled.layout_is ∙ ap (λ (p : Place). p.layout) (facts.place_is refl) ∙ sym (ap widened (stands_told told).settled.layout_is);
+      layout = λ e told. layout_new told;
       array = λ e told. facts.array refl told;
       settled = λ e. facts.settled;
       silent = λ other. facts.steps.frame.said;
@@ -233,11 +235,14 @@ module _ (a : View) (s : StoreView) (opened : IsOpenOn s a) where
         next : ℕ
         next = upgraded_height s.place.layout s.tally.height
 
-        none_new : Told a → has_pending b.held ≡ false
+        none_new : Told a → has_waiting b.held ≡ false
         none_new told = still_none a.held b.held (facts.steps.held told) (none_told told)
 
         stands_new : Told a → StandsWith place.layout place.region next (resized_counts s.tally.counts next) b.held
         stands_new told = facts.stands refl b.held (inl (ap (λ f. f.tells_held) facts.steps.frame.fixed ∙ told, refl))
+
+        layout_new : Told a → layout_in b.held ≡ widened (layout_in a.held)
+        layout_new told = (stands_new told).settled.layout_is ∙ ap (λ (p : Place). p.layout) (facts.place_is refl) ∙ sym (ap widened (stands_told told).settled.layout_is)
 
         not_due : (copy : ℕ) (line : Reply) → AnswersUpgrade s.place.layout copy (sum s.tally.counts) line → ⊥
         not_due copy line (inl already) = let e : Ok Done ≡ Ok Already = facts.already.1 already.0 in cc
@@ -314,7 +319,7 @@ module _ (a b : View) (law : Lawful a) (ab : Steps Reopens (attached_by false a)
         other n none e = elim is [ inl x ↦ none.0 (sym e ∙ x) | inr x ↦ none.1 (sym e ∙ x) ]
 
     -- it is refused, and represents no map
-    refused_file : (line : Reply) → IsRefusal line → IsUpgradeRefused a d → {text : List ℕ} → Says text b d → (Told a → b.travel.written ≤ a.travel.written + reopening_cost a.held) → (Told a → (m : Map) → MeansMap (layout_in a.held) a.held m → ⊥) → Comes REFUSED a d
+    refused_file : (line : Reply) → IsRefusal line → IsUpgradeRefused a d → {text : List ℕ} → Says text b d → (Told a → b.travel.written ≤ a.travel.written + reopening_cost a.held) → (Told a → (m : Map) → Means (layout_in a.held) a.held m → ⊥) → Comes REFUSED a d
     refused_file line refuses refused says cost never = record {
       status_is = inr (inl refl);
       attached = says.attached ∙ ab.frame.attached;
@@ -346,7 +351,7 @@ module _ (a b : View) (law : Lawful a) (ab : Steps Reopens (attached_by false a)
           bare = λ told r is bare. subst (IsButClosed a.held a.held) (sym says.held) (unopened.bare reason refl told bare);
           copy = λ told none. ap live_copy says.held ∙ (ab.held told).copy none;
           kept = λ told rest. (subst (IsButClosed a.held a.held) (sym says.held) (unopened.bare reason refl told rest.rest.bare), subst (WritesGate a.held a.travel.written) (sym (ap (λ (t : Travel). t.written) says.travel)) (unopened.unwritten told rest));
-        }) says unopened.cost (λ told m here. none_some (sym (none_of_means a.held m here.1.0 here.1.1) ∙ unopened.refused reason refl told))
+        }) says unopened.cost (λ told m here. none_some (sym (none_of_means a.held m here) ∙ unopened.refused reason refl told))
       where
         none_some : {r : Reason} → None ≡ Some r → ⊥
         none_some is = cc
@@ -399,11 +404,12 @@ module _ (a b : View) (law : Lawful a) (ab : Steps Reopens (attached_by false a)
       was_upgraded e told = record {
         sound = opened.sound told;
         due = λ copy line answers. upgrades.due e (on told) copy line (subst (λ (x : Type 0). x) (sym (same_answer told copy line)) answers);
-        means = λ m height here.
-            let own : map_of b.held ≡ m = same_map told ∙ sym (meant_one a.held m height here).0 in
+        means = λ l m here.
+            let own : map_of b.held ≡ m = same_map told ∙ sym (meant_one a.held m here).0 in
             let stands = stands_opened told in
             let represents : Represents b.held m v.tally.height = subst (λ (n : Map). Represents b.held n v.tally.height) own (subst (Represents b.held (map_of b.held)) stands.height_is stands.settled.represents) in
-            subst (Means d.held m) (same_next told) (upgrades.means e (on told) m represents);
+            let is = upgrades.means e (on told) m represents in
+            (in_layout d.held m (ap widened (same_layout told ∙ here.layout_is)) is.0, is.1 ∙ same_next told);
         no_intent = upgrades.no_intent e (on told);
         layout = upgrades.layout e (on told) ∙ ap widened (same_layout told);
         array = upgrades.array e (on told) ∙ (λ i. resized (opened.state told i).array (same_next told i));

@@ -7,14 +7,13 @@ use Rattle.header_gate.specs.Header.{layout_in}
 use Rattle.header_gate.specs.Places.{height_limit}
 use Rattle.header_gate.specs.declared.layout.Layout.{Layout}
 use Rattle.map_model.specs.Image.{slot_format}
-use Rattle.map_model.specs.Items.{map_after_items}
+use Rattle.map_model.specs.After.{map_after_items}
 use Rattle.map_model.specs.Store.{Map}
-use Rattle.batch_intent.specs.Means.{Means, MeansMap}
+use Rattle.batch_intent.specs.Means.{Means}
 use Rattle.command_text.specs.Script.{commands_of}
 use Rattle.command_text.specs.Updates.{updates_made}
 use Rattle.command_text.specs.declared.command.Command.{Command}
-use Rattle.pma_engine.specs.Outcome.{RunHeadline}
-use Rattle.pma_engine.specs.Session.{AreReplies, replies_begun}
+use Rattle.pma_engine.specs.Headline.{AreReplies, replies_begun, Headline}
 
 -- one boot: the script of its run, what had been said before it, and what was left when it ended: a file, and what was said by then
 pub record Boot : Type 0 where
@@ -29,7 +28,8 @@ commands_on start b = commands_of (slot_format start) b.script
 
 -- it left what the clause `headline` of `run_words` promises of a run that began on this file
 abbrev pub IsRun : List ℕ → Boot → Type 0
-IsRun start b = (m : Map) (height : ℕ) (means : Means start m height) → RunHeadline means.begins start b.script b.said_before b.image b.said
+IsRun start b = (l : Layout) (m : Map) (means : Means l start m) →
+    Headline l means.begins empty (commands_of l.format b.script) b.said_before b.image b.said
 
 -- boots, one after another: the first on this file, each other on the file that the one before it left
 abbrev pub AreBoots : List ℕ → List Boot → Type 0
@@ -50,8 +50,7 @@ map_after_commands l m (c ∷ cs) = map_after_commands l (map_after_items (heigh
 -- map, height and cursors determine, with no cursor open at its start. It carried out as many commands as replies have a byte in
 -- what it said, or one more.
 pub record CarriesOut (start : List ℕ) (m : Map) (b : Boot) (count : ℕ) : Type 0 where
-  pub height : ℕ
-  pub means : Means start m height
+  pub means : Means (layout_in start) start m
   pub texts : List Bytes
   pub are : AreReplies (layout_in start) means.begins empty (commands_on start b) texts
   pub new : List ℕ
@@ -85,4 +84,4 @@ pub record BootsLead (start : List ℕ) (m : Map) (boots : List Boot) : Type 0 w
   -- The last map is that after all these commands as one list: those of each boot behind those of the one before it.
   pub as_one : last ≡ map_after_commands (layout_in start) m (carried_out start boots counts)
   -- The file that the last boot left has the layout of the first one, and means the last map.
-  pub means : MeansMap (layout_in start) (left_by start boots) last
+  pub means : Means (layout_in start) (left_by start boots) last

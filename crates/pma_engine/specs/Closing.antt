@@ -8,10 +8,10 @@ use Rattle.header_gate.specs.declared.layout.Layout.{Layout}
 use Rattle.header_gate.specs.declared.layout.TheConstants.{INDEXED}
 use Rattle.recovery.specs.Restores.{LeavesFile}
 use Rattle.index_file.specs.Clean.{IsClean, IsCleanPlace, IsLeft, IsOpenIndex, IsShut, Leaves}
-use Rattle.index_file.specs.Reading.{area_calls}
-use Rattle.pma_store.specs.Calling.{clear_calls}
+use Rattle.index_file.specs.IndexReading.{area_calls}
+use Rattle.pma_store.specs.UpdateCalls.{clear_calls}
 use Rattle.pma_store.specs.Readying.{clear_cost}
-use Rattle.pma_store.specs.Store.{StoreView}
+use Rattle.pma_store.specs.StoreView.{StoreView}
 use Rattle.pma_engine.specs.declared.status.TheConstants.{DONE, DISK_FAULT}
 
 -- The new image is the old one, but that the clean gate may have been closed: both come of a file, and without an open index of

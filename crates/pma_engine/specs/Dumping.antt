@@ -9,16 +9,16 @@ use Rattle.header_gate.specs.Places.{page_size, segment_size}
 use Rattle.index_file.specs.Clean.{IsShut}
 use Rattle.map_model.specs.Image.{map_of}
 use Rattle.map_model.specs.Store.{Map}
-use Rattle.batch_intent.specs.Means.{MeansMap, meant_map, opening_reason}
-use Rattle.recovery.specs.Costs.{opening_reads}
+use Rattle.batch_intent.specs.Means.{Means, meant_map, opening_reason}
+use Rattle.recovery.specs.OpeningCosts.{opening_reads}
 use Rattle.command_text.specs.Answers.{range_lines}
 use Rattle.command_text.specs.Reply.{reply_text}
 use Rattle.pma_store.specs.Opens.{CallsOpening, IsAllAtRest}
-use Rattle.pma_store.specs.Store.{StoreView}
+use Rattle.pma_store.specs.StoreView.{StoreView}
 use Rattle.pma_engine.specs.Carrying.{Looks}
-use Rattle.pma_engine.specs.Costs.{Walks}
+use Rattle.pma_engine.specs.CommandCosts.{Walks}
 use Rattle.pma_engine.specs.Closing.{IsButClosed, WritesGate}
-use Rattle.pma_engine.specs.Opening.{IsOutOfMemory, reopening_calls, reopening_cost}
+use Rattle.pma_engine.specs.RunOpening.{IsOutOfMemory, reopening_calls, reopening_cost}
 use Rattle.pma_engine.specs.Outcome.{IsRefused}
 use Rattle.pma_engine.specs.Refusing.{SaysLastLine}
 use Rattle.pma_engine.specs.Upgrading.{KeepsMeaning, opened_height}
@@ -61,7 +61,7 @@ pub record DumpsFile (status : ℕ) (a b : View) : Type 0 where
   pub settled : (status ≡ DONE) ⊎ (status ≡ REPLY_FAULT) → NothingPending b
   pub shut : (status ≡ DONE) ⊎ (status ≡ REPLY_FAULT) → Told a → IsShut b.held
   -- A valid store ends with 0, or for want of memory with 7, if the counts of disk faults and of failed sayings didn't rise.
-  pub complete : Told a → (m : Map) → MeansMap (layout_in a.held) a.held m → (Rose a.disk_faults b.disk_faults → ⊥) →
+  pub complete : Told a → (m : Map) → Means (layout_in a.held) a.held m → (Rose a.disk_faults b.disk_faults → ⊥) →
       (Rose a.say_faults b.say_faults → ⊥) → (status ≡ DONE) ⊎ (status ≡ OUT_OF_MEMORY)
   -- Over a file to which nothing is to be done nothing is written but the gate of an open index, and with every status but 4
   -- every other byte stays.

@@ -9,7 +9,7 @@ use Rattle.map_model.specs.Image.{map_of}
 use Rattle.index_file.specs.Clean.{IsClean, IsLeft, IsShut}
 use Rattle.pma_store.specs.Meaning.{MeansNow}
 use Rattle.pma_store.specs.Readying.{clear_cost}
-use Rattle.pma_store.specs.Store.{StoreView}
+use Rattle.pma_store.specs.StoreView.{StoreView}
 use Rattle.pma_engine.specs.Closing.{ending_calls, ending_cost}
 use Rattle.pma_engine.specs.Outcome.{IsRest}
 use Rattle.pma_engine.specs.Serving.{IsAtState}

@@ -4,8 +4,8 @@ use Rattle.station.specs.View.{View}
 use Rattle.header_gate.specs.declared.layout.Layout.{Layout}
 use Rattle.command_text.specs.Session.{Session, session_reply, session_step}
 use Rattle.command_text.specs.declared.command.Command.{Command}
-use Rattle.pma_store.specs.Store.{Stands}
-use Rattle.pma_engine.specs.Calling.{IsForCommand}
+use Rattle.pma_store.specs.StoreView.{Stands}
+use Rattle.pma_engine.specs.CommandCalls.{IsForCommand}
 use Rattle.pma_engine.specs.Carrying.{SessionView, layout_on, session_in}
 
 -- That many calls are those of a command's line in a state of a session: those of the command, in a store that stands for bytes with

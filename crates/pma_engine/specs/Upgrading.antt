@@ -16,7 +16,7 @@ use Rattle.key_slot.specs.Format.{narrow, wide}
 use Rattle.map_model.specs.Array.{resized}
 use Rattle.map_model.specs.Image.{Represents, array_of, map_of}
 use Rattle.map_model.specs.Store.{Map}
-use Rattle.batch_intent.specs.Means.{Means, MeansMap, has_pending, meant_map, opened_items_state, opening_reason}
+use Rattle.batch_intent.specs.Means.{Means, has_waiting, meant_map, opened_items_state, opening_reason}
 use Rattle.segment.specs.declared.fault.StoreFault.{StoreFault}
 use Rattle.segment.specs.declared.fault.StoreFault.TheVariants.{Failed, Damaged}
 use Rattle.resize_region.specs.Upgraded.{widened, upgraded_height}
@@ -27,7 +27,7 @@ use Rattle.command_text.specs.declared.reply.Reply.TheVariants as reply
 use Rattle.pma_store.specs.Opens.{IsAllAtRest}
 use Rattle.pma_store.specs.Readying.{clear_cost}
 use Rattle.pma_engine.specs.Closing.{IsButClosed, WritesGate}
-use Rattle.pma_engine.specs.Opening.{IsOutOfMemory, reopening_cost}
+use Rattle.pma_engine.specs.RunOpening.{IsOutOfMemory, reopening_cost}
 use Rattle.pma_engine.specs.Refusing.{IsRefusal, SaysLine}
 use Rattle.pma_engine.specs.declared.status.TheConstants.{DONE, REFUSED, DISK_FAULT, OUT_OF_MEMORY}
 
@@ -71,11 +71,11 @@ IsUpgradeRefusal old new line = ((r : Reason) × (opening_reason old ≡ Some r)
 
 -- the new image has the layout of the old one, and means each map that it does
 abbrev pub KeepsMeaning : List ℕ → List ℕ → Type 0
-KeepsMeaning old new = (m : Map) → MeansMap (layout_in old) old m → MeansMap (layout_in old) new m
+KeepsMeaning old new = (m : Map) → Means (layout_in old) old m → Means (layout_in old) new m
 
 -- the new image means each map that the old one does, in the layout of the old one or with slot format 2
 abbrev pub MayUpgrade : List ℕ → List ℕ → Type 0
-MayUpgrade old new = (m : Map) → MeansMap (layout_in old) old m → MeansMap (layout_in old) new m ⊎ MeansMap (widened (layout_in old)) new m
+MayUpgrade old new = (m : Map) → Means (layout_in old) old m → Means (layout_in old) new m ⊎ Means (widened (layout_in old)) new m
 
 -- the height of a store once it is opened, and once it is upgraded
 abbrev pub opened_height : List ℕ → ℕ
@@ -91,9 +91,9 @@ pub record IsUpgraded (old new : List ℕ) : Type 0 where
   pub sound : opening_reason old ≡ None
   pub due : (copy : ℕ) (line : Reply) → AnswersUpgrade (layout_in old) copy (len (meant_map old)) line → ⊥
   -- It means the same map, at the height that its opening leaves, or at H - 1 if that is H, the greatest one.
-  pub means : (m : Map) (height : ℕ) → Means old m height → Means new m (next_height old)
+  pub means : (l : Layout) (m : Map) → Means l old m → (means : Means (widened l) new m) × (means.height ≡ next_height old)
   -- No intent is to be applied.
-  pub no_intent : has_pending new ≡ false
+  pub no_intent : has_waiting new ≡ false
   -- It has slot format 2, and its layout is else as it was.
   pub layout : layout_in new ≡ widened (layout_in old)
   -- Its array is the opened one, spread over the segments of that height.
@@ -112,7 +112,7 @@ pub record IsUpgradeRefused (a b : View) : Type 0 where
   pub recovers : Told a → (r : Reason) → opening_reason a.held ≡ Some r → IsButClosed a.held (recovered (layout_in a.held) a.held) (recovered (layout_in a.held) b.held)
   pub bare : Told a → (r : Reason) → opening_reason a.held ≡ Some r → IsBare (layout_in a.held) a.held → IsButClosed a.held a.held b.held
   -- The live copy is the one at the entry, if no intent was to be applied.
-  pub copy : Told a → has_pending a.held ≡ false → live_copy b.held ≡ live_copy a.held
+  pub copy : Told a → has_waiting a.held ≡ false → live_copy b.held ≡ live_copy a.held
   -- A file to which nothing is to be done keeps every byte, and nothing is written, but that an odd clean gate may be closed.
   pub kept : Told a → IsAllAtRest a.held → IsButClosed a.held a.held b.held × WritesGate a.held a.travel.written b.travel.written
 
@@ -144,7 +144,7 @@ pub record UpgradesFile (status : ℕ) (a b : View) : Type 0 where
   -- With 7 it is as `IsOutOfMemory` says.
   pub memory : status ≡ OUT_OF_MEMORY → IsOutOfMemory (attached_by false a) b
   -- A valid store, if the count of disk faults didn't rise, ends with 0 or 7, or with 3 and an answer that is due.
-  pub complete : Told a → (m : Map) → MeansMap (layout_in a.held) a.held m → (Rose a.disk_faults b.disk_faults → ⊥) →
+  pub complete : Told a → (m : Map) → Means (layout_in a.held) a.held m → (Rose a.disk_faults b.disk_faults → ⊥) →
       (status ≡ DONE) ⊎ ((status ≡ OUT_OF_MEMORY) ⊎ ((status ≡ REFUSED) × ((line : Reply) × IsUpgradeAnswer a.held b.held line)))
   -- Whatever the status, no more is written than an opening may, and `8192 * 2^h + 9` bytes, at version 4 5 more, with h the
   -- height that an upgrade gives the file.
@@ -157,8 +157,9 @@ pub record UpgradesOpened (status : ℕ) (l : Layout) (height before : ℕ) (a b
   pub run : Run (λ image said. MayUpgrade a.held image) a b
   pub held : Told a → MayUpgrade a.held b.held
   pub due : status ≡ DONE → Told a → (copy : ℕ) (line : Reply) → AnswersUpgrade (layout_in a.held) copy (len (map_of a.held)) line → ⊥
-  pub means : status ≡ DONE → Told a → (m : Map) → Represents a.held m height → Means b.held m (upgraded_height l height)
-  pub no_intent : status ≡ DONE → Told a → has_pending b.held ≡ false
+  pub means : status ≡ DONE → Told a → (m : Map) → Represents a.held m height →
+      (means : Means (widened (layout_in a.held)) b.held m) × (means.height ≡ upgraded_height l height)
+  pub no_intent : status ≡ DONE → Told a → has_waiting b.held ≡ false
   pub layout : status ≡ DONE → Told a → layout_in b.held ≡ widened (layout_in a.held)
   pub array : status ≡ DONE → Told a → array_of b.held ≡ resized (array_of a.held) (upgraded_height l height)
   pub settled : status ≡ DONE → NothingPending b

@@ -6,15 +6,15 @@ ghost use Rattle.station.specs.View.{Told, SaidTold, EachHeld, NamedBy, attached
 ghost use Rattle.header_gate.specs.Header.{layout_in};
 ghost use Rattle.header_gate.specs.Places.{file_length, page_size};
 ghost use Rattle.index_file.specs.Clean.{IsClean, IsOpenIndex};
-ghost use Rattle.index_file.specs.Opening.{IsQuick};
-ghost use Rattle.index_file.specs.Reading.{area_calls};
+ghost use Rattle.index_file.specs.IndexOpening.{IsQuick};
+ghost use Rattle.index_file.specs.IndexReading.{area_calls};
 ghost use Rattle.map_model.specs.Image.{height_of};
-ghost use Rattle.recovery.specs.Costs.{asked_opening, back_calls, opening_calls, opening_reads};
+ghost use Rattle.recovery.specs.OpeningCosts.{asked_opening, back_calls, opening_calls, opening_reads};
 ghost use Rattle.pma_store.specs.Opens.{CallsOpening, IsAllAtRest};
-ghost use Rattle.pma_store.specs.Store.{IsOpenOn};
+ghost use Rattle.pma_store.specs.StoreView.{IsOpenOn};
 ghost use Rattle.redo_journal.specs.Rest.{RestsAt};
-ghost use Rattle.recovery.specs.Parts.{Fits, AgreesWith};
-ghost use Rattle.pma_engine.specs.Opening.{OpensStore, SyncsOpened, TakesParts, reopening_calls, sync_calls};
+ghost use Rattle.recovery.specs.StoreParts.{Fits, AgreesWith};
+ghost use Rattle.pma_engine.specs.RunOpening.{OpensStore, SyncsOpened, TakesParts, reopening_calls, sync_calls};
 ghost use Rattle.pma_engine.specs.Refusing.{SaysLine, line_text, line_of_opening, status_of_opening};
 
 use crate::refusing::say_refusal;
@@ -42,7 +42,8 @@ pub(crate) fn open_file<S: Station>(
     ensures opens { OpensStore quick result (attached_by false (S.view station.old)) (S.view station.new) }
     ensures reads { quick ≡ false → Told (S.view station.old) → IsAllAtRest (S.view station.old).held →
         (S.view station.new).travel.read ≤ (S.view station.old).travel.read + (page_size + opening_reads (S.view station.old).held) }
-    ensures calls { quick ≡ false → Told (S.view station.old) → CallsOpening (reopening_calls (S.view station.old).held) (attached_by false (S.view station.old)) (S.view station.new) }
+    ensures calls { quick ≡ false → Told (S.view station.old) →
+        CallsOpening (reopening_calls (S.view station.old).held) (attached_by false (S.view station.old)) (S.view station.new) }
 {
     let Ok(()) = station.attach(name, false) else {
         return Err(OpenFault::Failed);
@@ -58,12 +59,12 @@ pub(crate) fn open_file<S: Station>(
 fn open_by_index<S: Station>(alloc: Global, station: &mut S) -> Result<Store, OpenFault>
     requires clean { Told (S.view station.old) → IsClean (S.view station.old).held }
     ensures opens { OpensStore true result (S.view station.old) (S.view station.new) }
-    ensures calls { Told (S.view station.old) → IsQuick (S.view station.old).held → (S.view station.new).calls ≤ (S.view station.old).calls + (5 + area_calls (height_of (S.view station.old).held)) }
+    ensures calls { Told (S.view station.old) → IsQuick (S.view station.old).held →
+        (S.view station.new).calls ≤ (S.view station.old).calls + (5 + area_calls (height_of (S.view station.old).held)) }
 {
-    match open_quick(alloc, station) {
-        Ok(Some(parts)) => open_parts(station, parts),
-        Ok(None) => open_by_region(alloc, station),
-        Err(fault) => Err(fault),
+    match open_quick(alloc, station)? {
+        Some(parts) => open_parts(station, parts),
+        None => open_by_region(alloc, station),
     }
 }
 
@@ -90,7 +91,9 @@ fn open_by_region<S: Station>(alloc: Global, station: &mut S) -> Result<Store, O
     ensures opens { OpensStore false result (S.view station.old) (S.view station.new) }
     ensures calls { Told (S.view station.old) → let old = (S.view station.old).held in
         CallsOpening (4 + opening_calls (layout_in old) (height_of old) + sync_calls (layout_in old)) (S.view station.old) (S.view station.new) }
-    ensures calls_asked { OnOk result (Told (S.view station.old) → CallsOpening (4 + asked_opening (S.view station.old).held + sync_calls (layout_in (S.view station.old).held)) (S.view station.old) (S.view station.new)) }
+    ensures calls_asked { OnOk result (Told (S.view station.old) →
+        CallsOpening (4 + asked_opening (S.view station.old).held +
+        sync_calls (layout_in (S.view station.old).held)) (S.view station.old) (S.view station.new)) }
     ensures calls_at_rest { Told (S.view station.old) → let old = (S.view station.old).held in
         IsAllAtRest old → (S.view station.new).calls ≤ (S.view station.old).calls + (4 + 3 + back_calls old + sync_calls (layout_in old)) }
     ensures reads_at_rest { Told (S.view station.old) → let old = (S.view station.old).held in
@@ -128,7 +131,8 @@ pub(crate) fn end_unopened<S: Station>(station: &mut S, fault: OpenFault) -> u8
     ensures calls { (S.view station.new).calls ≤ (S.view station.old).calls + 512 }
     ensures says { Says (line_text (line_of_opening fault)) (S.view station.old) (S.view station.new) }
     ensures silent { line_of_opening fault ≡ None → station.new ≡ station.old }
-    ensures line { (line : Reply) → line_of_opening fault ≡ Some line → SaidTold (S.view station.old) → SaysLine line (S.view station.old).said (S.view station.old) (S.view station.new) }
+    ensures line { (line : Reply) → line_of_opening fault ≡ Some line → SaidTold (S.view station.old) →
+        SaysLine line (S.view station.old).said (S.view station.old) (S.view station.new) }
 {
     match fault {
         OpenFault::Memory => OUT_OF_MEMORY,

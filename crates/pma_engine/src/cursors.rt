@@ -4,11 +4,11 @@ ghost use Rattle.std.specs.Prelude.{◌≡◌, Option, Some};
 ghost use Rattle.std.specs.FinMap.{get, remove};
 ghost use Rattle.station.specs.View.{Told};
 ghost use Rattle.command_text.specs.CursorLines.{open_line, next_line, close_line};
-ghost use Rattle.cursor_set.specs.Answers.{told_by};
+ghost use Rattle.cursor_set.specs.SetAnswers.{told_by};
 ghost use Rattle.map_model.specs.Cursors.{Cursor, after_open};
-ghost use Rattle.pma_store.specs.Seeking.{kept_region};
-ghost use Rattle.pma_store.specs.Store.{IsOpenOn};
-ghost use Rattle.range_scan.specs.Seeking.{ReadsNear, ReadsBehind, earlier, later};
+ghost use Rattle.pma_store.specs.StoreSeeks.{kept_region};
+ghost use Rattle.pma_store.specs.StoreView.{IsOpenOn};
+ghost use Rattle.range_scan.specs.SeekReads.{ReadsNear, ReadsBehind, earlier, later};
 ghost use Rattle.pma_engine.specs.Carrying.{with_cursors, AsksCursors, Executes};
 ghost use Rattle.pma_engine.specs.Replies.{one_line};
 
@@ -30,7 +30,8 @@ pub(crate) fn ask_cursors<S: Station>(
 ) -> Result<Reply, StoreFault>
     requires open { IsOpenOn store.old.store (S.view station.old) }
     requires asks { AsksCursors command.now }
-    ensures { Executes command.now (one_line result) (with_cursors store.old cursors.old) (with_cursors store.new cursors.new) (S.view station.old) (S.view station.new) }
+    ensures { Executes command.now (one_line result) (with_cursors store.old cursors.old) (with_cursors store.new cursors.new)
+        (S.view station.old) (S.view station.new) }
 {
     match command {
         Command::Open { name, low, high } => Ok(open_cursor(cursors, name, *low, *high)),
@@ -61,13 +62,13 @@ fn step_cursor<S: Station>(
     name: &Key,
 ) -> Result<Reply, StoreFault>
     requires open { IsOpenOn store.old.store (S.view station.old) }
-    ensures executes { Executes (Command.Next name.now) (one_line result) (with_cursors store.old cursors.old) (with_cursors store.new cursors.new) (S.view station.old) (S.view station.new) }
-    ensures reads { (k : Cursor) → get cursors.old name.now ≡ Some k → ReadsNear (later k.low k.past) (kept_region store.old.store) result (S.view station.old) (S.view station.new) }
+    ensures executes { Executes (Command.Next name.now) (one_line result) (with_cursors store.old cursors.old)
+        (with_cursors store.new cursors.new) (S.view station.old) (S.view station.new) }
+    ensures reads { (at : Cursor) → get cursors.old name.now ≡ Some at →
+        ReadsNear (later at.low at.past) (kept_region store.old.store) result (S.view station.old) (S.view station.new) }
 {
-    match cursors.next_row(store, station, name) {
-        Ok(step) => Ok(reply_to_step(&step)),
-        Err(fault) => Err(fault),
-    }
+    let step = cursors.next_row(store, station, name)?;
+    Ok(reply_to_step(&step))
 }
 
 // The reply to a step of a cursor to its previous record.
@@ -78,13 +79,13 @@ fn step_cursor_back<S: Station>(
     name: &Key,
 ) -> Result<Reply, StoreFault>
     requires open { IsOpenOn store.old.store (S.view station.old) }
-    ensures executes { Executes (Command.Prev name.now) (one_line result) (with_cursors store.old cursors.old) (with_cursors store.new cursors.new) (S.view station.old) (S.view station.new) }
-    ensures reads { (k : Cursor) → get cursors.old name.now ≡ Some k → ReadsBehind (earlier k.past k.high) (kept_region store.old.store) result (S.view station.old) (S.view station.new) }
+    ensures executes { Executes (Command.Prev name.now) (one_line result) (with_cursors store.old cursors.old)
+        (with_cursors store.new cursors.new) (S.view station.old) (S.view station.new) }
+    ensures reads { (at : Cursor) → get cursors.old name.now ≡ Some at →
+        ReadsBehind (earlier at.past at.high) (kept_region store.old.store) result (S.view station.old) (S.view station.new) }
 {
-    match cursors.step_back(store, station, name) {
-        Ok(step) => Ok(reply_to_step(&step)),
-        Err(error) => Err(error),
-    }
+    let step = cursors.step_back(store, station, name)?;
+    Ok(reply_to_step(&step))
 }
 
 // The line that tells what a step gave.

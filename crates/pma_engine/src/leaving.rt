@@ -6,7 +6,7 @@ ghost use Rattle.header_gate.specs.InPlace.{IsBare};
 ghost use Rattle.header_gate.specs.declared.layout.TheConstants.{PAIRED};
 ghost use Rattle.index_file.specs.Clean.{IsShut};
 ghost use Rattle.pma_store.specs.Settling.{SettlesStore};
-ghost use Rattle.pma_store.specs.Store.{IsOpenOn};
+ghost use Rattle.pma_store.specs.StoreView.{IsOpenOn};
 ghost use Rattle.pma_engine.specs.Closing.{LeavesIndex};
 ghost use Rattle.pma_engine.specs.Ending.{EndsRun, IsSettledStatus};
 

@@ -2,15 +2,15 @@
 
 ghost use Rattle.std.specs.Prelude.{◌≡◌, ◌+◌, ◌<◌, ◌≤◌, None, Some, false, sum};
 ghost use Rattle.station.specs.Steps.{Says};
-ghost use Rattle.station.specs.View.{Told, SaidTold, NamedBy, NothingPending, Rose};
-ghost use Rattle.line_source.specs.SourceView.{SourceRose, Went};
+ghost use Rattle.station.specs.View.{Told, SaidTold, NamedBy, NothingPending};
+ghost use Rattle.line_source.specs.SourceView.{Went};
 ghost use Rattle.header_gate.specs.InPlace.{IsBare};
 ghost use Rattle.index_file.specs.Clean.{KeepsClean};
 ghost use Rattle.pma_store.specs.Readying.{clear_cost};
-ghost use Rattle.pma_store.specs.Store.{IsOpenOn};
+ghost use Rattle.pma_store.specs.StoreView.{IsOpenOn};
 ghost use Rattle.pma_engine.specs.Closing.{ClosesFirst, StaysShut};
-ghost use Rattle.pma_engine.specs.Jobs.{TakesNothing};
-ghost use Rattle.pma_engine.specs.Loading.{LoadsFile, LoadsOpened, IsLoadStatus, line_of_load, status_of_load};
+ghost use Rattle.pma_engine.specs.Jobs.{HasCauses, TakesNothing};
+ghost use Rattle.pma_engine.specs.LoadOutcome.{LoadsFile, LoadsOpened, IsLoadStatus, line_of_load, status_of_load};
 ghost use Rattle.pma_engine.specs.Refusing.{SaysLine, line_text};
 ghost use Rattle.pma_engine.specs.declared.words.Job.TheVariants.{Load};
 
@@ -44,9 +44,7 @@ pub(crate) fn load_file<I: Source, S: Station>(
     ensures closes { ClosesFirst (S.view station.old) (S.view station.new) }
     ensures loaded { LoadsFile result most (I.view source.old) (I.view source.new) (S.view station.old) (S.view station.new) }
     ensures untaken { TakesNothing (Some Load) result (S.view station.old) → source.new ≡ source.old }
-    ensures disk { result ≡ DISK_FAULT → Rose (S.view station.old).disk_faults (S.view station.new).disk_faults }
-    ensures script { result ≡ SCRIPT_FAULT → SourceRose (I.view source.old) (I.view source.new) }
-    ensures went { Went (I.view source.old) (I.view source.new) }
+    ensures causes { HasCauses result (I.view source.old) (I.view source.new) (S.view station.old) (S.view station.new) }
 {
     match open_file(alloc, station, name, false) {
         Ok(store) => load_opened(source, station, store, most),
@@ -64,7 +62,8 @@ fn load_opened<I: Source, S: Station>(
 ) -> u8
     requires open { IsOpenOn store (S.view station.old) }
     requires nothing { NothingPending (S.view station.old) }
-    ensures loads { LoadsOpened result most store.place.layout (sum store.tally.counts) (clear_cost store.place.layout) (I.view source.old) (I.view source.new) (S.view station.old) (S.view station.new) }
+    ensures loads { LoadsOpened result most store.place.layout (sum store.tally.counts) (clear_cost store.place.layout)
+        (I.view source.old) (I.view source.new) (S.view station.old) (S.view station.new) }
     ensures shut { StaysShut (S.view station.old) (S.view station.new) }
     ensures untaken { 0 < sum store.tally.counts → source.new ≡ source.old }
     ensures went { Went (I.view source.old) (I.view source.new) }
@@ -90,7 +89,8 @@ fn load_settled<I: Source, S: Station>(
     requires open { IsOpenOn store (S.view station.old) }
     requires nothing { NothingPending (S.view station.old) }
     requires bare { Told (S.view station.old) → IsBare store.place.layout (S.view station.old).held }
-    ensures loads { LoadsOpened result most store.place.layout (sum store.tally.counts) 0 (I.view source.old) (I.view source.new) (S.view station.old) (S.view station.new) }
+    ensures loads { LoadsOpened result most store.place.layout (sum store.tally.counts) 0 (I.view source.old) (I.view source.new)
+        (S.view station.old) (S.view station.new) }
     ensures shut { StaysShut (S.view station.old) (S.view station.new) }
     ensures untaken { 0 < sum store.tally.counts → source.new ≡ source.old }
     ensures went { Went (I.view source.old) (I.view source.new) }
@@ -116,7 +116,8 @@ pub(crate) fn end_loaded<S: Station>(station: &mut S, loaded: Result<Loaded, Loa
     ensures says { Says (line_text (line_of_load loaded)) (S.view station.old) (S.view station.new) }
     ensures silent { line_of_load loaded ≡ None → station.new ≡ station.old }
     ensures calls { (S.view station.new).calls ≤ (S.view station.old).calls + 512 }
-    ensures line { (line : Reply) → line_of_load loaded ≡ Some line → SaidTold (S.view station.old) → SaysLine line (S.view station.old).said (S.view station.old) (S.view station.new) }
+    ensures line { (line : Reply) → line_of_load loaded ≡ Some line → SaidTold (S.view station.old) →
+        SaysLine line (S.view station.old).said (S.view station.old) (S.view station.new) }
 {
     let line = match loaded {
         Ok(_) => return DONE,

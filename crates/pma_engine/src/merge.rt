@@ -3,18 +3,18 @@
 ghost use Rattle.std.specs.Prelude.{◌≡◌, ◌+◌, ◌≤◌, None, Some, Err, OnOk, IfOk, IfErr, false};
 ghost use Rattle.station.specs.Steps.{Says};
 ghost use Rattle.station.specs.View.{Told, SaidTold, NamedBy, NothingPending, Rose};
-ghost use Rattle.line_source.specs.SourceView.{SourceRose, Went};
-ghost use Rattle.bulk_load.specs.Updates.{counts_by};
+ghost use Rattle.line_source.specs.SourceView.{Went};
+ghost use Rattle.bulk_load.specs.MergeUpdates.{counts_by};
 ghost use Rattle.command_text.specs.Reply.{reply_text};
 ghost use Rattle.header_gate.specs.InPlace.{IsBare};
 ghost use Rattle.index_file.specs.Clean.{KeepsClean};
-ghost use Rattle.pma_store.specs.Calling.{clear_calls};
+ghost use Rattle.pma_store.specs.UpdateCalls.{clear_calls};
 ghost use Rattle.pma_store.specs.Readying.{clear_cost};
-ghost use Rattle.pma_store.specs.Store.{IsOpenOn};
+ghost use Rattle.pma_store.specs.StoreView.{IsOpenOn};
 ghost use Rattle.pma_engine.specs.Closing.{ClosesFirst, StaysShut};
-ghost use Rattle.pma_engine.specs.Jobs.{TakesNothing};
-ghost use Rattle.pma_engine.specs.Loading.{line_of_load};
-ghost use Rattle.pma_engine.specs.Merging.{MergesFile, MergesOpened, EndsMerge, IsMergeDone, SaysMerged, line_of_merge, merged_line};
+ghost use Rattle.pma_engine.specs.Jobs.{HasCauses, TakesNothing};
+ghost use Rattle.pma_engine.specs.LoadOutcome.{line_of_load};
+ghost use Rattle.pma_engine.specs.MergeOutcome.{MergesFile, MergesOpened, EndsMerge, IsMergeDone, SaysMerged, line_of_merge, merged_line};
 ghost use Rattle.pma_engine.specs.Outcome.{IsRunStatus};
 ghost use Rattle.pma_engine.specs.Refusing.{SaysLine, line_text};
 ghost use Rattle.pma_engine.specs.declared.words.Job.TheVariants.{Merge};
@@ -22,7 +22,7 @@ ghost use Rattle.pma_engine.specs.declared.words.Job.TheVariants.{Merge};
 use crate::attaching::{end_unopened, open_file};
 use crate::load::end_loaded;
 use crate::saying::say_line;
-use crate::status::{DISK_FAULT, DONE, REPLY_FAULT, SCRIPT_FAULT};
+use crate::status::{DISK_FAULT, DONE, REPLY_FAULT};
 use bulk_load::{LoadFault, Merged, merge_rows};
 use command_text::{Reply, ReplyText};
 use line_source::{LineReader, Source};
@@ -51,10 +51,8 @@ pub(crate) fn merge_file<I: Source, S: Station>(
     ensures closes { ClosesFirst (S.view station.old) (S.view station.new) }
     ensures merged { MergesFile result most (I.view source.old) (I.view source.new) (S.view station.old) (S.view station.new) }
     ensures untaken { TakesNothing (Some Merge) result (S.view station.old) → source.new ≡ source.old }
-    ensures disk { result ≡ DISK_FAULT → Rose (S.view station.old).disk_faults (S.view station.new).disk_faults }
-    ensures script { result ≡ SCRIPT_FAULT → SourceRose (I.view source.old) (I.view source.new) }
+    ensures causes { HasCauses result (I.view source.old) (I.view source.new) (S.view station.old) (S.view station.new) }
     ensures reply { result ≡ REPLY_FAULT → Rose (S.view station.old).say_faults (S.view station.new).say_faults }
-    ensures went { Went (I.view source.old) (I.view source.new) }
 {
     match open_file(alloc, station, name, false) {
         Ok(store) => merge_opened(source, station, store, most),

@@ -6,7 +6,7 @@ ghost use Rattle.station.specs.View.{Told, SaidTold, NamedBy, NothingPending, Ro
 ghost use Rattle.header_gate.specs.InPlace.{IsBare};
 ghost use Rattle.index_file.specs.Clean.{KeepsClean};
 ghost use Rattle.pma_store.specs.Readying.{clear_cost};
-ghost use Rattle.pma_store.specs.Store.{IsOpenOn};
+ghost use Rattle.pma_store.specs.StoreView.{IsOpenOn};
 ghost use Rattle.pma_engine.specs.Closing.{ClosesFirst, StaysShut};
 ghost use Rattle.pma_engine.specs.Refusing.{SaysLine, line_text};
 ghost use Rattle.pma_engine.specs.Upgrading.{UpgradesFile, UpgradesOpened, IsUpgradeStatus, line_of_upgrade, status_of_upgrade};
@@ -50,7 +50,8 @@ pub(crate) fn upgrade_file<S: Station>(alloc: Global, station: &mut S, name: &st
 fn upgrade_opened<S: Station>(station: &mut S, store: Store) -> u8
     requires open { IsOpenOn store (S.view station.old) }
     requires nothing { NothingPending (S.view station.old) }
-    ensures upgrades { UpgradesOpened result store.place.layout store.tally.height (clear_cost store.place.layout) (S.view station.old) (S.view station.new) }
+    ensures upgrades { UpgradesOpened result store.place.layout store.tally.height (clear_cost store.place.layout)
+        (S.view station.old) (S.view station.new) }
     ensures shut { StaysShut (S.view station.old) (S.view station.new) }
 {
     let layout = store.layout();
@@ -85,7 +86,8 @@ fn end_upgraded<S: Station>(station: &mut S, copy: u32, upgraded: Result<Upgrade
     ensures status { result ≡ status_of_upgrade upgraded }
     ensures says { Says (line_text (line_of_upgrade copy upgraded)) (S.view station.old) (S.view station.new) }
     ensures silent { line_of_upgrade copy upgraded ≡ None → station.new ≡ station.old }
-    ensures line { (line : Reply) → line_of_upgrade copy upgraded ≡ Some line → SaidTold (S.view station.old) → SaysLine line (S.view station.old).said (S.view station.old) (S.view station.new) }
+    ensures line { (line : Reply) → line_of_upgrade copy upgraded ≡ Some line → SaidTold (S.view station.old) →
+        SaysLine line (S.view station.old).said (S.view station.old) (S.view station.new) }
 {
     let line = match upgraded {
         Ok(Upgrade::Done) => return DONE,

@@ -15,8 +15,11 @@ use Rattle.key_slot.proofs.SegmentLaws.{times_up}
 use Rattle.map_model.specs.Array.{counts_of, segment_at}
 use Rattle.map_model.specs.ArrayState.{ArrayState, HasState, next_states}
 use Rattle.map_model.specs.Image.{array_in, array_of, height_of, map_of}
-use Rattle.map_model.specs.Items.{accepts, charge_after_items, count_items, first_full, map_after_items, no_items}
+use Rattle.map_model.specs.Items.{accepts, first_full}
+use Rattle.map_model.specs.ItemWords.{charge_after_items, count_items, no_items}
+use Rattle.map_model.specs.After.{map_after_items}
 use Rattle.map_model.specs.Store.{Update}
+use Rattle.map_model.proofs.ItemEffects.{accepts_by}
 use Rattle.map_model.specs.Batches.{KeepsHeader}
 use Rattle.map_model.proofs.Batches.{batch_header}
 use Rattle.map_model.proofs.Recovering.{determined, represents_own}
@@ -29,22 +32,22 @@ use Rattle.segment.specs.Rows.{key_at}
 use Rattle.segment.specs.declared.fault.StoreFault.TheVariants.{Failed}
 use Rattle.segment_frames.specs.Lists.{segments_in}
 use Rattle.veb_index.specs.Arrays.{IsIndexOf}
-use Rattle.veb_index.specs.View.{IndexView, fence_of}
-use Rattle.window_tally.specs.View.{TallyView}
+use Rattle.veb_index.specs.IndexView.{IndexView, fence_of}
+use Rattle.window_tally.specs.TallyView.{TallyView}
 use Rattle.pma_store.specs.declared.answers.Batch.TheVariants.{Full, NoBatch}
 use Rattle.pma_store.specs.declared.validation.Validated.{Validated}
 use Rattle.pma_store.specs.declared.batch_scan.BatchScan.{BatchScan}
-use Rattle.pma_store.specs.Answers.{state_in}
+use Rattle.pma_store.specs.StoreAnswers.{state_in}
 use Rattle.pma_store.specs.AtOnce.{CommitsEdits, CommitsFrames, CommitsPages}
 use Rattle.pma_store.specs.Batching.{AppliesBatch, MakesAtOnce, done_by, items_made, map_after_batch, version_of}
 use Rattle.pma_store.specs.BatchCalls.{CallsBatch, LooksOnce}
-use Rattle.pma_store.specs.Calling.{runs_calls}
+use Rattle.pma_store.specs.UpdateCalls.{runs_calls}
 use Rattle.pma_store.specs.Changing.{most_written}
 use Rattle.pma_store.specs.Costing.{updates_cost, WritesSome}
-use Rattle.pma_store.specs.Validating.{counts_of as counts_validated, edits_of, validated_of, total}
+use Rattle.pma_store.specs.ItemEffects.{counts_of as counts_validated, edits_of, validated_of, total}
 use Rattle.pma_store.specs.Once.{edited_segments}
 use Rattle.pma_store.specs.Rewrites.{spared_bytes}
-use Rattle.pma_store.specs.Store.{StoreView, Stands, limit_of}
+use Rattle.pma_store.specs.StoreView.{StoreView, Stands, limit_of}
 use Rattle.pma_store.proofs.BatchCalls.{commit_behind, runs_few}
 use Rattle.pma_store.proofs.Batched.{fault_batch}
 use Rattle.pma_store.proofs.Resting.{each_rest}
@@ -95,7 +98,7 @@ module _ {a : View} (items : List Update) (s : StoreView) (numbers : List ℕ) (
         some_is e = cc
 
     accepted : accepts (version_of s) (limit_of s) (map_of a.held) items ≡ true
-    accepted = λ τ. le_true INTENT_VERSION (version_of s) version τ && is_none (room τ)
+    accepted = accepts_by (version_of s) (limit_of s) (map_of a.held) items ∙ (λ τ. le_true INTENT_VERSION (version_of s) version τ && is_none (room τ))
 
     all_items : items_made (version_of s) (limit_of s) (map_of a.held) items ≡ items
     all_items = ap (λ (b : Bool). cond b items []) accepted

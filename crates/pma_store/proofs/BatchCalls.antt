@@ -19,13 +19,13 @@ use Rattle.redo_journal.specs.Neighbours.{run_count}
 use Rattle.redo_journal.proofs.RunCounts.{run_count_joined}
 use Rattle.redo_journal.specs.declared.place.Place.{Place}
 use Rattle.segment_frames.proofs.PageNumbers.{call_few}
-use Rattle.window_tally.specs.View.{TallyView}
-use Rattle.pma_store.specs.Answers.{state_in}
+use Rattle.window_tally.specs.TallyView.{TallyView}
+use Rattle.pma_store.specs.StoreAnswers.{state_in}
 use Rattle.pma_store.specs.BatchCalls.{AreForItems, AreOwnSegments, CallsBatch, CallsIntent, IsForItem, IsForItems, LooksOnce}
-use Rattle.pma_store.specs.Calling.{runs_calls}
+use Rattle.pma_store.specs.UpdateCalls.{runs_calls}
 use Rattle.pma_store.specs.Looked.{BelongThere, ReadsOnce}
 use Rattle.pma_store.specs.Once.{AreOneCommit, edited_segments}
-use Rattle.pma_store.specs.Store.{StoreView}
+use Rattle.pma_store.specs.StoreView.{StoreView}
 
 -- Numbers that ascend are no more than those of a list in which each of them stands.
 

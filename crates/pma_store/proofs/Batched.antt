@@ -9,33 +9,36 @@ use Rattle.station.specs.View.{View, Told, EachHeld, NothingPending, Lawful, Ros
 use Rattle.station.specs.Steps.{Steps}
 use Rattle.station.proofs.Composition.{told_on, weaken, touched_on, touched_in, each_on, on_same, andthen, frame_on}
 use Rattle.batch_intent.specs.Gate.{IsIntentPlace, Intends}
-use Rattle.batch_intent.specs.Means.{has_pending, map_after_all}
+use Rattle.batch_intent.specs.Means.{has_waiting, map_after_all}
 use Rattle.batch_intent.specs.Spelling.{IsIntent, fits_item}
 use Rattle.density_rule.specs.Bounds.{upper_of}
 use Rattle.header_gate.specs.declared.layout.Layout.{Layout}
 use Rattle.header_gate.specs.declared.layout.TheConstants.{INTENT_VERSION}
 use Rattle.map_model.specs.ArrayState.{ArrayState, next_states}
 use Rattle.map_model.specs.Image.{RepresentsMap, array_of, map_of}
-use Rattle.map_model.specs.Items.{ItemCounts, no_items, count_items, first_full, accepts, array_state_after_batch, charge_after_items, map_after_items}
+use Rattle.map_model.specs.Items.{first_full, accepts}
+use Rattle.map_model.specs.ItemWords.{ItemCounts, no_items, count_items, array_state_after_batch, charge_after_items}
+use Rattle.map_model.specs.After.{map_after_items}
 use Rattle.map_model.specs.Store.{Map, Update}
+use Rattle.map_model.proofs.ItemEffects.{accepts_by}
 use Rattle.redo_journal.specs.Rest.{RestsAt}
 use Rattle.recovery.specs.Intents.{puts_in}
 use Rattle.segment.specs.declared.fault.StoreFault.{StoreFault}
 use Rattle.segment.specs.declared.fault.StoreFault.TheVariants.{Failed}
 use Rattle.pma_store.specs.declared.answers.Batch.{Batch}
 use Rattle.pma_store.specs.declared.answers.Batch.TheVariants.{Done, Full, NoBatch}
-use Rattle.pma_store.specs.Answers.{state_in}
+use Rattle.pma_store.specs.StoreAnswers.{state_in}
 use Rattle.pma_store.specs.Batching.{AppliesBatch, CountsBatch, CountsEach, CountsEachOf, MakesAtOnce, IsBatchPlace, IsRefusal, batch_answer, charge_in, done_by, intent_cost_in, items_made, map_after_batch, version_of}
 use Rattle.pma_store.specs.BatchCalls.{CallsBatch, CallsIntent, LooksOnce}
 use Rattle.pma_store.specs.Costing.{most_of, updates_cost, WritesSome}
-use Rattle.pma_store.specs.Items.{IsItemPlace, MakesItems}
-use Rattle.pma_store.specs.Validating.{ValidatesItems, validated_of}
+use Rattle.pma_store.specs.ItemsMade.{IsItemPlace, MakesItems}
+use Rattle.pma_store.specs.ItemEffects.{ValidatesItems, validated_of}
 use Rattle.pma_store.specs.Damaging.{IsMetLooking, IsMetMid}
 use Rattle.pma_store.specs.Looking.{TellsOther}
 use Rattle.pma_store.specs.Meaning.{BecomesMeant}
 use Rattle.pma_store.specs.Once.{AreOneCommit, edited_segments}
 use Rattle.pma_store.specs.Rewrites.{spared_bytes}
-use Rattle.pma_store.specs.Store.{StoreView, Stands, StandsOn, IsOpenOn, limit_of}
+use Rattle.pma_store.specs.StoreView.{StoreView, Stands, StandsOn, IsOpenOn, limit_of}
 use Rattle.pma_store.proofs.BatchCalls.{are_from, intent_alone, look_alone, no_looks}
 use Rattle.pma_store.proofs.FoundItems.{each_before}
 use Rattle.pma_store.proofs.Making.{no_fault, same_fault, stands_again, stands_on, stands_there}
@@ -134,7 +137,7 @@ module _ {a c : View} (items : List Update) (s : StoreView) (law : Lawful a) (is
       complete = λ told calm. refl;
     };
     store = stands_on s law is.on steps;
-    no_intent = each_on (λ image. has_pending image ≡ false) (λ image. has_pending image ≡ false) steps is.no_intent (λ d i idle same. ap has_pending same ∙ idle);
+    no_intent = each_on (λ image. has_waiting image ≡ false) (λ image. has_waiting image ≡ false) steps is.no_intent (λ d i idle same. ap has_waiting same ∙ idle);
     closed = refl;
     damaged = tt;
     counted = tt;
@@ -161,7 +164,7 @@ pub no_batch : {a : View} (items : List Update) (s : StoreView) → IsOpenOn s a
 no_batch {a} items s is law steps early =
     let below : nat_le INTENT_VERSION (version_of s) ≡ false = le_false INTENT_VERSION (version_of s) early in
     refused_batch items s law is steps refl (no_looks items s.tally.height a) NoBatch tt (λ _. (refl, refl))
-    (λ told. ap (λ (b : Bool). b && is_none (first_full (limit_of s) (map_of a.held) items)) below)
+    (λ told. accepts_by (version_of s) (limit_of s) (map_of a.held) items ∙ ap (λ (b : Bool). b && is_none (first_full (limit_of s) (map_of a.held) items)) below)
     (λ told. sym (ap (λ (b : Bool). cond b (cond (is_some (first_full (limit_of s) (map_of a.held) items)) (Full (upper_of (limit_of s))) (done_by (count_items (limit_of s) (map_of a.held) items no_items) (charge_after_items (limit_of s) (state_in s a.held) items))) NoBatch) below))
     (λ most is. absurd cc)
   where
@@ -195,7 +198,7 @@ full_batch {a} {c} items s t most is law version most_is validates =
     let full = λ (told : Told a). none_by (first_full (limit_of s) (map_of a.held) items) (count_items (limit_of s) (map_of a.held) items no_items) (validates.validated told) in
     subst (λ (t : StoreView). AppliesBatch items (Ok (Full most)) s t a c) (sym validates.store)
     (refused_batch items s law is validates.steps validates.unwritten validates.looks (Full most) tt (λ e. absurd cc)
-    (λ told. (λ τ. at_version τ && is_none (first_full (limit_of s) (map_of a.held) items)) ∙ not_none (first_full (limit_of s) (map_of a.held) items) (full told))
+    (λ told. accepts_by (version_of s) (limit_of s) (map_of a.held) items ∙ (λ τ. at_version τ && is_none (first_full (limit_of s) (map_of a.held) items)) ∙ not_none (first_full (limit_of s) (map_of a.held) items) (full told))
     (λ told. ap Full most_is ∙ sym (λ τ. cond (at_version τ) (cond (full told τ) (Full (upper_of (limit_of s))) (done_by (count_items (limit_of s) (map_of a.held) items no_items) (charge_after_items (limit_of s) (state_in s a.held) items))) NoBatch))
     (λ top is. let same : most ≡ top = cc in omega (arith, validates.full refl, most_is, same)))
 
@@ -267,7 +270,7 @@ module _ {a b : View} (items : List Update) (s : StoreView) (is : IsOpenOn s a) 
   at_version = le_true INTENT_VERSION (version_of s) version
 
   accepted : Told a → accepts (version_of s) (limit_of s) (map_of a.held) items ≡ true
-  accepted told = λ τ. at_version τ && is_none ((facts told).0 τ)
+  accepted told = accepts_by (version_of s) (limit_of s) (map_of a.held) items ∙ (λ τ. at_version τ && is_none ((facts told).0 τ))
 
   all_items : Told a → items_made (version_of s) (limit_of s) (map_of a.held) items ≡ items
   all_items told = ap (λ (b : Bool). cond b items []) (accepted told)

@@ -4,7 +4,7 @@ use Rattle.std.specs.FinMap.{contains_key}
 use Rattle.std.proofs.lemmas.Bool.{cases_eq}
 use Rattle.density_rule.specs.Bounds.{upper_of}
 use Rattle.density_rule.specs.declared.Window.{Window}
-use Rattle.density_rule.specs.Updates.{charge_of}
+use Rattle.density_rule.specs.CountUpdates.{charge_of}
 use Rattle.header_gate.specs.declared.layout.Layout.{Layout}
 use Rattle.header_gate.specs.Places.{IsSlotFormat}
 use Rattle.key_slot.specs.Record.{Bytes}
@@ -14,16 +14,17 @@ use Rattle.map_model.specs.ArrayUpdates.{has_key, change_of, broken_for, array_a
 use Rattle.map_model.specs.Charges.{charge_after, effect_charge}
 use Rattle.map_model.specs.Holding.{IsNext}
 use Rattle.map_model.specs.Image.{array_of, height_of, map_of}
-use Rattle.map_model.specs.Store.{Update, bind, unbind, height_after, key_of, effect_by}
+use Rattle.map_model.specs.Store.{Update, bind, unbind, key_of, effect_by}
+use Rattle.map_model.specs.After.{height_after}
 use Rattle.map_model.proofs.UpdateLaws.{next_after}
 use Rattle.cost_ledger.specs.Work.{charge_by}
 use Rattle.cost_ledger.specs.declared.work.Work.TheVariants as work
 use Rattle.cost_ledger.proofs.Charging.{charge_is}
-use Rattle.pma_store.specs.Answers.{state_in, put_answer, reported}
+use Rattle.pma_store.specs.StoreAnswers.{state_in, put_answer, reported}
 use Rattle.pma_store.specs.Charging.{charge_told, put_changes, spread_work, changes}
 use Rattle.pma_store.specs.Changing.{outcome_of, update_cost, effect_outcome}
 use Rattle.pma_store.specs.Costing.{has_effect, report_cost, update_cost_in}
-use Rattle.pma_store.specs.Store.{StoreView, Stands, limit_of}
+use Rattle.pma_store.specs.StoreView.{StoreView, Stands, limit_of}
 use Rattle.pma_store.specs.declared.answers.Put.{Put}
 use Rattle.pma_store.specs.declared.answers.Report.{Report}
 use Rattle.pma_store.specs.declared.answers.Outcome.{Outcome}

@@ -4,7 +4,7 @@ use Rattle.std.proofs.lemmas.Bool.{cases_eq}
 use Rattle.std.proofs.lemmas.Bool.Decides.{nat_tests}
 use Rattle.header_gate.specs.declared.layout.Layout.{Layout}
 use Rattle.header_gate.specs.declared.layout.TheConstants.{PAIRED}
-use Rattle.pma_store.specs.Calling.{clear_calls, runs_calls, spared_calls}
+use Rattle.pma_store.specs.UpdateCalls.{clear_calls, runs_calls, spared_calls}
 use Rattle.pma_store.specs.Readying.{clear_cost}
 use Rattle.pma_store.specs.Rewrites.{spared_bytes}
 

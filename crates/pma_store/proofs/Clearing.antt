@@ -9,7 +9,7 @@ use Rattle.redo_journal.specs.Rest.{RestsAt}
 use Rattle.resize_region.specs.Resized.{Settles}
 use Rattle.segment_frames.proofs.Alike.{alike_cleared}
 use Rattle.pma_store.specs.Readying.{KeepsMap}
-use Rattle.pma_store.specs.Store.{StoreView, StandsOn}
+use Rattle.pma_store.specs.StoreView.{StoreView, StandsOn}
 use Rattle.pma_store.specs.Touching.{IsClearPlace, IsTouchedPlace, IsPlaceAfter}
 use Rattle.pma_store.proofs.Making.{stands_again}
 use Rattle.pma_store.proofs.Resting.{each_rest, stands_like, turned}

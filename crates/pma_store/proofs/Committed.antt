@@ -3,7 +3,7 @@ use Rattle.std.proofs.Common.{◌+◌, ◌≡◌, ◌⊎◌, inl, inr, ℕ, zero
 use Rattle.std.specs.Prelude.{is_ok, IfSome}
 use Rattle.std.specs.FinMap.{len}
 use Rattle.std.proofs.Math.Pow.{pow_mono}
-use Rattle.batch_intent.specs.Means.{MeansMap, has_pending}
+use Rattle.batch_intent.specs.Means.{Means, has_waiting}
 use Rattle.density_rule.specs.Windows.{IsBalanced}
 use Rattle.key_slot.specs.Record.{Record}
 use Rattle.key_slot.proofs.SegmentLaws.{segment_len}
@@ -30,7 +30,7 @@ use Rattle.map_model.specs.ArrayState.{ArrayState, HasState, next_states}
 use Rattle.map_model.specs.Batches.{IsNone, IsSegmentImage, LaysBatch}
 use Rattle.map_model.specs.Holding.{HoldsMap, IsBalancedArray}
 use Rattle.map_model.specs.Image.{Represents, array_of, height_of, map_of, slot_format}
-use Rattle.map_model.specs.Items.{map_after_items}
+use Rattle.map_model.specs.After.{map_after_items}
 use Rattle.map_model.specs.Store.{Map, Update, key_of}
 use Rattle.map_model.proofs.Recovering.{kept}
 use Rattle.map_model.proofs.SessionLaws.{holds_of}
@@ -57,13 +57,13 @@ use Rattle.station.proofs.Composition.{told_of, weaken, each_on}
 use Rattle.pma_store.specs.declared.validation.Validated.{Validated}
 use Rattle.pma_store.specs.declared.batch_scan.BatchScan.{BatchScan}
 use Rattle.pma_store.specs.AtOnce.{CommitsPages, FitsCommit}
-use Rattle.pma_store.specs.Answers.{state_in}
+use Rattle.pma_store.specs.StoreAnswers.{state_in}
 use Rattle.pma_store.specs.Batching.{IsBatchPlace}
-use Rattle.pma_store.specs.Validating.{AreAllFound, AreFoundAt, ValidatesItems, counts_in, found_in, validated_of}
+use Rattle.pma_store.specs.ItemEffects.{AreAllFound, AreFoundAt, ValidatesItems, counts_in, found_in, validated_of}
 use Rattle.pma_store.specs.Looked.{AreLoaded, BelongThere, HasLooked, LoadsEdits, LooksOver}
 use Rattle.pma_store.specs.Meaning.{BecomesMeant}
 use Rattle.pma_store.specs.Once.{AreUsed}
-use Rattle.pma_store.specs.Store.{StoreView, IsStore, Stands, StandsOn, IsOpenOn, limit_of}
+use Rattle.pma_store.specs.StoreView.{StoreView, IsStore, Stands, StandsOn, IsOpenOn, limit_of}
 use Rattle.pma_store.proofs.BatchScanLaws.{count_lists}
 use Rattle.pma_store.proofs.Making.{no_fault, same_fault, stands_there, found_within}
 use Rattle.pma_store.proofs.Moments.{keeps_idle, meant_idle, update_apart}
@@ -141,7 +141,7 @@ pub record IsReadyAtOnce (items : List Update) (s : StoreView) (numbers : List �
 
 -- a store stands for an image without an intent
 abbrev Stood : StoreView → List ℕ → Type 0
-Stood s image = Stands s image × (has_pending image ≡ false)
+Stood s image = Stands s image × (has_waiting image ≡ false)
 
 -- a number stands in a list, or in none of its places
 pub member : (ns : List ℕ) (i : ℕ) → ((k : ℕ) × (k < length ns) × (get_or ns k 0 ≡ i)) ⊎ IsNone ns i
@@ -214,7 +214,7 @@ module _ {a : View} (items : List Update) (s : StoreView) (numbers : List ℕ) (
   updates : (d i : List ℕ) → Stands s d → CommitsPages s.place look.count b d i → Touched (IsUpdatePlace (layout_in d)) d i
   updates d i stands step = moves_touch s d i stands (moves d i step)
 
-  idle : (d i : List ℕ) → Stands s d → CommitsPages s.place look.count b d i → has_pending d ≡ false → has_pending i ≡ false
+  idle : (d i : List ℕ) → Stands s d → CommitsPages s.place look.count b d i → has_waiting d ≡ false → has_waiting i ≡ false
   idle d i stands step none =
       keeps_idle d i (update_keeps d i (ap (λ (l : Layout). l.format) (moves_layout s.place d i (moves d i step))) (wider d i (update_apart (layout_in d)) (updates d i stands step))) ∙ none
 
@@ -228,8 +228,8 @@ module _ {a : View} (items : List Update) (s : StoreView) (numbers : List ℕ) (
       let stands = ready.is.on.stands d left in
       wider d i (λ p there. inl there) (subst (λ (l : Layout). Touched (IsUpdatePlace l) d i) stands.balanced.stands.settled.layout_is (updates d i stands step)))
 
-  pub commit_idle : {c : View} → Steps (CommitsPages s.place look.count b) a c → EachHeld (λ image. has_pending image ≡ false) c
-  commit_idle steps = each_on (Stood s) (λ image. has_pending image ≡ false) steps (λ d left. (ready.is.on.stands d left, ready.is.no_intent d left)) (λ d i was step. idle d i was.0 step was.1)
+  pub commit_idle : {c : View} → Steps (CommitsPages s.place look.count b) a c → EachHeld (λ image. has_waiting image ≡ false) c
+  commit_idle steps = each_on (Stood s) (λ image. has_waiting image ≡ false) steps (λ d left. (ready.is.on.stands d left, ready.is.no_intent d left)) (λ d i was step. idle d i was.0 step was.1)
 
   -- what is left of an image that the station may hold is left of the held bytes, too
   pub leaves_held : Lawful a → (d : List ℕ) → MayHold a d → (i : List ℕ) → CommitsPages s.place look.count b d i → LeavesBy s.place look.count b a.held i
@@ -350,7 +350,7 @@ module _ {a : View} (items : List Update) (s : StoreView) (numbers : List ℕ) (
       ]
 
     -- at each moment the file means the map before the items or after them
-    moment : (i : List ℕ) → LeavesBy s.place look.count b a.held i → layout_in i ≡ s.place.layout → has_pending i ≡ false → MeansMap s.place.layout i (map_of a.held) ⊎ MeansMap s.place.layout i (map_after_items (limit_of s) (map_of a.held) items)
+    moment : (i : List ℕ) → LeavesBy s.place look.count b a.held i → layout_in i ≡ s.place.layout → has_waiting i ≡ false → Means s.place.layout i (map_of a.held) ⊎ Means s.place.layout i (map_after_items (limit_of s) (map_of a.held) items)
     moment i step laid none =
         elim (becomes i step) [
           | inl same ↦ inl (meant_idle s.place.layout i (map_of a.held) laid (height_of a.held, same) none)
@@ -362,5 +362,5 @@ module _ {a : View} (items : List Update) (s : StoreView) (numbers : List ℕ) (
       let told = told_of law d left in
       elim (moment told i (leaves_held law d left i step) (moves_layout s.place d i (moves d i step) ∙ (ready.is.on.stands d left).balanced.stands.settled.layout_is) (idle d i (ready.is.on.stands d left) step (ready.is.no_intent d left))) [
         | inl same ↦ inl same
-        | inr next ↦ inr (subst (MeansMap s.place.layout i) (sym (after told)) next)
+        | inr next ↦ inr (subst (Means s.place.layout i) (sym (after told)) next)
       ])

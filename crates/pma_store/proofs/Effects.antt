@@ -12,12 +12,14 @@ use Rattle.map_model.specs.Array.{Array}
 use Rattle.map_model.specs.ArrayState.{ArrayState, UpdateReport, next_state, report_of}
 use Rattle.map_model.specs.ArrayUpdates.{has_key}
 use Rattle.map_model.specs.Holding.{HoldsMap, IsBalancedArray}
-use Rattle.map_model.specs.Items.{ItemCounts, count_items, are_distinct, has_item, first_full, is_full, effect_count, AreAdmitted}
+use Rattle.map_model.specs.Items.{are_distinct, first_full, is_full}
+use Rattle.map_model.specs.ItemWords.{ItemCounts, count_items, has_item, effect_count, AreAdmitted}
 use Rattle.std.specs.Cmp.Lexicographic.{nat_list_eq_equiv}
 use Rattle.key_slot.specs.Record.{Bytes}
 use Rattle.key_slot.proofs.SegmentLaws.{times_up}
 use Rattle.map_model.proofs.Resuming.{get_other, meets_full, room_cons}
-use Rattle.map_model.specs.Store.{Map, Update, bind, unbind, map_after, key_of, Effect, effect_by, effect_of}
+use Rattle.map_model.specs.Store.{Map, Update, bind, unbind, key_of, Effect, effect_by, effect_of}
+use Rattle.map_model.specs.After.{map_after}
 use Rattle.map_model.proofs.UpdateLaws.{holds_after, balanced_after}
 use Rattle.map_model.proofs.Effects.{same_effect}
 use Rattle.one_commit.specs.Editing.{charge_one, charge_by}

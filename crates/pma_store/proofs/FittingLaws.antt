@@ -9,7 +9,7 @@ use Rattle.map_model.specs.Array.{segment_at}
 use Rattle.redo_journal.specs.Frames.{Batch}
 use Rattle.segment.specs.Rows.{key_at}
 use Rattle.segment_frames.specs.Lists.{held_lists, segments_in}
-use Rattle.veb_index.specs.View.{IndexView, fence_of}
+use Rattle.veb_index.specs.IndexView.{IndexView, fence_of}
 use Rattle.pma_store.specs.AtOnce.{RenewsFences, number_of}
 
 pub not_false : (b : Bool) → b ≡ true → b ≡ true

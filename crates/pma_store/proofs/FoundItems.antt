@@ -4,18 +4,18 @@ use Rattle.std.specs.Prelude.{sum}
 use Rattle.std.specs.FinMap.{contains_key}
 use Rattle.std.proofs.lemmas.List.{take_all}
 use Rattle.map_model.specs.Image.{map_of}
-use Rattle.map_model.specs.Items.{ItemCounts, no_items}
+use Rattle.map_model.specs.ItemWords.{ItemCounts, no_items}
 use Rattle.map_model.specs.Store.{Map, Update, bind, unbind, key_of}
 use Rattle.one_commit.specs.declared.changes.ItemChange.{ItemChange}
 use Rattle.one_commit.specs.Editing.{counts_by, marks_by_changes}
 use Rattle.one_commit.specs.Fitting.{finds, fits_behind, fit_one_commit, follows, is_put, keep_places, kind_in, kind_of, stay_within, with_change}
 use Rattle.one_commit.proofs.Alike.{both_true}
-use Rattle.density_rule.specs.Updates.{counts_after, highest_broken}
+use Rattle.density_rule.specs.CountUpdates.{counts_after, highest_broken}
 use Rattle.recovery.specs.Intents.{meets_by}
 use Rattle.window_tally.specs.declared.Change.{Change}
 use Rattle.window_tally.specs.declared.Change.TheVariants.{Add, Take}
 use Rattle.window_tally.specs.Choice.{adds}
-use Rattle.window_tally.specs.View.{TallyView}
+use Rattle.window_tally.specs.TallyView.{TallyView}
 use Rattle.station.specs.Bytes.{Same}
 use Rattle.station.specs.View.{View, Told}
 use Rattle.station.specs.Steps.{Steps}
@@ -23,12 +23,12 @@ use Rattle.station.proofs.Composition.{told_on}
 use Rattle.pma_store.specs.declared.answers.Batch.{Batch}
 use Rattle.pma_store.specs.declared.answers.Batch.TheVariants.{Done, Full, NoBatch}
 use Rattle.pma_store.specs.Batching.{CountsEach, CountsEachOf}
-use Rattle.pma_store.specs.Counting.{counted}
+use Rattle.pma_store.specs.SegmentCounts.{counted}
 use Rattle.pma_store.specs.Damaging.{AreFoundTallies, CountsOne, IsFoundTally, IsNextTally}
-use Rattle.pma_store.specs.Items.{CountsAsFound}
+use Rattle.pma_store.specs.ItemsMade.{CountsAsFound}
 use Rattle.pma_store.specs.Readying.{broken_in}
-use Rattle.pma_store.specs.Store.{StoreView}
-use Rattle.pma_store.specs.Validating.{AreFound, CountsFound, HaveRoom, SumsItem, TalliesFound, counted_all, counted_by, counted_first, flags, found_at, kinds_in, kinds_of, there_in, with_kind}
+use Rattle.pma_store.specs.StoreView.{StoreView}
+use Rattle.pma_store.specs.ItemEffects.{AreFound, CountsFound, HaveRoom, SumsItem, TalliesFound, counted_all, counted_by, counted_first, flags, found_at, kinds_in, kinds_of, there_in, with_kind}
 use Rattle.pma_store.proofs.Picks.{ready_fits}
 use Rattle.pma_store.proofs.Sums.{SumsFirst, adds_in, takes_in}
 

@@ -3,10 +3,10 @@ use Rattle.std.proofs.Common.{◌≡◌, ℕ, zero, suc, ◌+◌, ◌<◌, ◌�
 use mathlib.Core.Bool.{true≢false}
 use Rattle.std.proofs.lemmas.Bool.{cases_lt}
 use Rattle.std.proofs.lemmas.Bool.Decides.{nat_tests}
-use Rattle.batch_intent.specs.Items.{is_put}
+use Rattle.batch_intent.specs.ItemView.{is_put}
 use Rattle.map_model.specs.Store.{Update, bind, unbind}
 use Rattle.recovery.specs.Intents.{meets_by, puts_in, records_by}
-use Rattle.pma_store.specs.Validating.{records_first}
+use Rattle.pma_store.specs.ItemEffects.{records_first}
 use Rattle.pma_store.proofs.Sums.{puts_next}
 
 abbrev none : Update

@@ -18,10 +18,10 @@ use Rattle.pma_store.specs.declared.update.Location.{Location}
 use Rattle.pma_store.specs.declared.answers.Outcome.{Outcome}
 use Rattle.pma_store.specs.Changing.{update_cost}
 use Rattle.pma_store.specs.Charging.{changes, charge_told}
-use Rattle.pma_store.specs.Items.{MakesItem}
+use Rattle.pma_store.specs.ItemsMade.{MakesItem}
 use Rattle.pma_store.specs.Makes.{AppliesUpdate}
 use Rattle.pma_store.specs.Locations.{FindsLocation, IsLocation}
-use Rattle.pma_store.specs.Store.{StoreView, IsStore, StandsOn, limit_of}
+use Rattle.pma_store.specs.StoreView.{StoreView, IsStore, StandsOn, limit_of}
 use Rattle.pma_store.specs.Updating.{FitsFormat}
 use Rattle.pma_store.proofs.Charged.{charged, cost_told, effect_is, unchanged_is, written_changed, written_images}
 use Rattle.pma_store.specs.Damaging.{UpdatesAt, moved}

@@ -7,7 +7,7 @@ use Rattle.station.specs.View.{View, Told, EachHeld, NothingPending, Lawful, Ros
 use Rattle.station.specs.Steps.{Steps}
 use Rattle.station.proofs.Composition.{told_on, told_back, weaken, touched_on, touched_in, no_steps, each_held, each_on}
 use Rattle.batch_intent.specs.Gate.{IsIntentGatePlace}
-use Rattle.batch_intent.specs.Means.{InBatch, map_after_all, has_pending}
+use Rattle.batch_intent.specs.Means.{InBatch, map_after_all, has_waiting}
 use Rattle.cost_ledger.specs.Potential.{potential_of}
 use Rattle.header_gate.specs.declared.layout.Layout.{Layout}
 use Rattle.header_gate.specs.Header.{intent_gate}
@@ -17,28 +17,30 @@ use Rattle.map_model.specs.Array.{segment_at, segment_for}
 use Rattle.segment.specs.Rows.{value_of}
 use Rattle.map_model.specs.Charges.{charge_after}
 use Rattle.map_model.specs.Image.{RepresentsMap, array_of, map_of}
-use Rattle.map_model.specs.Items.{AreAdmitted, are_distinct, charge_after_items, map_after_items}
-use Rattle.map_model.specs.Store.{Map, Update, map_after, key_of}
+use Rattle.map_model.specs.Items.{are_distinct}
+use Rattle.map_model.specs.ItemWords.{AreAdmitted, charge_after_items}
+use Rattle.map_model.specs.After.{map_after_items, map_after}
+use Rattle.map_model.specs.Store.{Map, Update, key_of}
 use Rattle.key_slot.proofs.SegmentLaws.{times_up}
 use Rattle.map_model.proofs.Recovering.{determined}
 use Rattle.map_model.proofs.Resuming.{get_before}
 use Rattle.redo_journal.specs.Rest.{RestsAt}
 use Rattle.segment.specs.declared.fault.StoreFault.{StoreFault}
 use Rattle.segment.specs.declared.fault.StoreFault.TheVariants.{Failed}
-use Rattle.pma_store.specs.Answers.{state_in}
+use Rattle.pma_store.specs.StoreAnswers.{state_in}
 use Rattle.pma_store.specs.BatchCalls.{AreForItems, IsForItem, IsForItems}
-use Rattle.pma_store.specs.Calling.{asked_calls}
+use Rattle.pma_store.specs.UpdateCalls.{asked_calls}
 use Rattle.pma_store.specs.Changing.{most_written}
 use Rattle.pma_store.specs.Costing.{most_of, update_cost_in, updates_cost, WritesSome}
-use Rattle.pma_store.specs.Items.{IsAsFound, IsItemPlace, MakesItem, MakesItems}
-use Rattle.pma_store.specs.Validating.{AreAllFound, found_at}
+use Rattle.pma_store.specs.ItemsMade.{IsAsFound, IsItemPlace, MakesItem, MakesItems}
+use Rattle.pma_store.specs.ItemEffects.{AreAllFound, found_at}
 use Rattle.pma_store.specs.Looking.{TellsOther}
 use Rattle.pma_store.specs.Meaning.{MeansNow}
-use Rattle.pma_store.specs.Store.{StoreView, Stands, StandsOn, limit_of}
+use Rattle.pma_store.specs.StoreView.{StoreView, Stands, StandsOn, limit_of}
 use Rattle.pma_store.specs.Touching.{Updates, IsUpdatePlace}
 use Rattle.pma_store.proofs.Making.{no_fault, same_fault, stands_again, stands_there}
 use Rattle.pma_store.specs.Damaging.{AreNextTallies, IsNextTally, change_in, picked}
-use Rattle.window_tally.specs.View.{TallyView}
+use Rattle.window_tally.specs.TallyView.{TallyView}
 use Rattle.pma_store.proofs.BatchCalls.{more_items}
 use Rattle.pma_store.proofs.Meeting.{met_mid, tallies_next}
 use Rattle.pma_store.proofs.Moments.{even_idle_at, none_yet, then_now, item_steps, item_made, closing_steps, gate_touched}
@@ -287,7 +289,7 @@ module _ (items : List Update) (charge : ℕ) (s t : StoreView) (a b c : View) (
             spared_state t b.held c.held (stands_there t is.on told_b) (gate_touched b.held c.held (closing.held told_b)) ∙ is.state told ∙ ap (next_states (limit_of s) (state_in s a.held)) whole;
         charge = λ told. is.charged told ∙ ap (charge_after_items (limit_of s) (state_in s a.held)) whole;
         store = stands_again t t is.on refl closing.frame stands rests;
-        no_intent = each_held c (λ image. has_pending image ≡ false) law settled (λ told. even_idle_at c.held (even (told_back closing.frame told)));
+        no_intent = each_held c (λ image. has_waiting image ≡ false) law settled (λ told. even_idle_at c.held (even (told_back closing.frame told)));
         steps = closes;
         touched = touches_gate;
         layout = is.layout;

@@ -14,7 +14,7 @@ use Rattle.map_model.specs.Array.{Array, segment_at}
 use Rattle.raw_slots.specs.Slots.{slots_in}
 use Rattle.raw_slots.proofs.SlotLists.{length-slots_in}
 use Rattle.redo_journal.specs.Frames.{Batch, IsFrames}
-use Rattle.segment_frames.specs.Held.{grouped, HoldsRows, HoldsLists}
+use Rattle.segment_frames.specs.HeldRecords.{grouped, HoldsRows, HoldsLists}
 use Rattle.segment_frames.specs.Lists.{frames_of, rows_in, segments_in, held_lists, IsHeld}
 use Rattle.segment_frames.proofs.Alike.{held_turned}
 use Rattle.segment_frames.proofs.FrameLaws.{holds_decoded, lists_back, length-rows_in}

@@ -9,10 +9,10 @@ use Rattle.key_slot.specs.Record.{Record}
 use Rattle.map_model.specs.Store.{Update, bind, unbind}
 use Rattle.segment.specs.declared.fault.StoreFault.{StoreFault}
 use Rattle.window_tally.specs.declared.Change.{Change}
-use Rattle.window_tally.specs.View.{TallyView}
+use Rattle.window_tally.specs.TallyView.{TallyView}
 use Rattle.header_gate.specs.Places.{segment_place, segment_size}
 use Rattle.redo_journal.specs.declared.place.Place.{Place}
-use Rattle.range_scan.specs.Faults.{IsDamageAt}
+use Rattle.range_scan.specs.SegmentFaults.{IsDamageAt}
 use Rattle.pma_store.specs.declared.answers.Report.{Report}
 use Rattle.pma_store.specs.declared.update.Location.{Location}
 use Rattle.pma_store.specs.declared.update.Need.TheVariants as need
@@ -20,14 +20,14 @@ use Rattle.pma_store.specs.declared.answers.Outcome.{Outcome}
 use Rattle.pma_store.specs.declared.answers.Outcome.TheVariants.{Unchanged, Replaced, Changed}
 use Rattle.pma_store.specs.Updating.{need_of}
 use Rattle.pma_store.proofs.Making.{quiet_report}
-use Rattle.pma_store.specs.Answers.{reported}
-use Rattle.pma_store.specs.Calling.{commit_calls, update_calls}
-use Rattle.pma_store.specs.Counting.{SumsIf}
+use Rattle.pma_store.specs.StoreAnswers.{reported}
+use Rattle.pma_store.specs.UpdateCalls.{commit_calls, update_calls}
+use Rattle.pma_store.specs.SegmentCounts.{SumsIf}
 use Rattle.pma_store.specs.Damaging.{AreNextTallies, IsMetBehind, IsMetLate, IsMetMid, IsNextTally, IsOrderly, MeetsItem, UpdatesAt, UpdatesIn, change_in, moved, picked, report_at}
 use Rattle.pma_store.specs.Readying.{broken_in, readied, resizes}
 use Rattle.pma_store.specs.Rewrites.{commit_cost}
 use Rattle.pma_store.specs.Locations.{FindsLocation}
-use Rattle.pma_store.specs.Store.{StoreView}
+use Rattle.pma_store.specs.StoreView.{StoreView}
 use Rattle.pma_store.specs.Touching.{place_after}
 
 -- the location is looked for again, once what was asked for is done

@@ -1,5 +1,5 @@
 -- A store and its ledger: the charges, with what is set aside, stay within their bound.
-use Rattle.std.proofs.Common.{◌≡◌, ℕ, ◌+◌, ◌*◌, ◌≤◌, ◌&&◌, nat_le, cond, Bool, true, false, List, [], ◌∷◌, length, Option, Some, None, is_some, is_none, Ok, Err, refl, sym, ◌∙◌, ap, subst, arith}
+use Rattle.std.proofs.Common.{◌≡◌, ℕ, ◌+◌, ◌*◌, ◌≤◌, ◌&&◌, nat_le, cond, Bool, true, false, List, [], ◌∷◌, length, Option, Some, None, is_some, is_none, Result, Ok, Err, IsErr, refl, sym, ◌∙◌, ap, subst, arith}
 use Rattle.std.specs.Prelude.{sum}
 use Rattle.std.specs.FinMap.{contains_key}
 use Rattle.station.proofs.Composition.{told_on}
@@ -8,23 +8,25 @@ use Rattle.header_gate.specs.declared.layout.TheConstants.{INTENT_VERSION}
 use Rattle.map_model.specs.ArrayState.{ArrayState}
 use Rattle.map_model.specs.Charges.{charge_after}
 use Rattle.map_model.specs.Image.{array_of, height_of, map_of}
-use Rattle.map_model.specs.Items.{count_items, charge_after_items, first_full, no_items}
+use Rattle.map_model.specs.Items.{first_full}
+use Rattle.map_model.specs.ItemWords.{count_items, charge_after_items, no_items}
 use Rattle.map_model.specs.Store.{Update, bind, unbind}
+use Rattle.map_model.proofs.ItemEffects.{accepts_by}
 use Rattle.segment.specs.declared.fault.StoreFault.{StoreFault}
 use Rattle.station.specs.View.{View, Told}
-use Rattle.window_tally.specs.View.{TallyView}
+use Rattle.window_tally.specs.TallyView.{TallyView}
 use Rattle.cost_ledger.specs.Ledger.{LedgerView, IsLedger, ledger_bound, empty_ledger, noted}
 use Rattle.cost_ledger.specs.Potential.{potential_of}
 use Rattle.cost_ledger.proofs.Paying.{potential_at_first}
 use Rattle.key_slot.specs.Record.{Bytes}
-use Rattle.pma_store.specs.Answers.{put_answer, state_in}
+use Rattle.pma_store.specs.StoreAnswers.{put_answer, state_in}
 use Rattle.pma_store.specs.Batching.{Batches, batch_answer, charge_in, done_by, items_made, made_in, version_of}
 use Rattle.pma_store.specs.Changing.{outcome_of}
 use Rattle.pma_store.specs.Charging.{charge_told, put_changes}
 use Rattle.pma_store.specs.Costing.{has_effect}
 use Rattle.pma_store.specs.Makes.{MakesUpdate}
 use Rattle.pma_store.specs.Metered.{MeteredView, IsMetered, Notes}
-use Rattle.pma_store.specs.Store.{StoreView, IsStore, IsOpenOn, Stands, limit_of}
+use Rattle.pma_store.specs.StoreView.{StoreView, IsStore, IsOpenOn, Stands, limit_of}
 use Rattle.pma_store.specs.declared.answers.Batch.{Batch}
 use Rattle.pma_store.specs.declared.answers.Batch.TheVariants as batch
 use Rattle.pma_store.specs.declared.answers.Put.{Put}
@@ -69,7 +71,13 @@ answer_by hmax x items v o = cond v (cond (is_some o) (batch.Full (upper_of hmax
 -- by its answer, the items that it made and their charge
 told_batch : (version hmax : ℕ) (x : ArrayState) (items : List Update)
     → (made_in (length items) (batch_answer version hmax x items) ≡ length (items_made version hmax x.map items)) × (charge_in (batch_answer version hmax x items) ≡ charge_after_items hmax x (items_made version hmax x.map items))
-told_batch version hmax x items = by_tests (nat_le INTENT_VERSION version) (first_full hmax x.map items)
+told_batch version hmax x items =
+    subst
+    (λ (b : Bool).
+    (made_in (length items) (batch_answer version hmax x items) ≡ length (cond b items []))
+    × (charge_in (batch_answer version hmax x items) ≡ charge_after_items hmax x (cond b items [])))
+    (sym (accepts_by version hmax x.map items))
+    (by_tests (nat_le INTENT_VERSION version) (first_full hmax x.map items))
   where
     by_tests : (v : Bool) (o : Option ℕ) → (made_in (length items) (answer_by hmax x items v o) ≡ length (cond (v && is_none o) items [])) × (charge_in (answer_by hmax x items v o) ≡ charge_after_items hmax x (cond (v && is_none o) items []))
     by_tests true None = (refl, refl)
@@ -112,6 +120,11 @@ update_notes {T} {a} {b} x u changed_in report_in m s l is on effect made e kept
 -- a call that answered a fault
 pub fault_notes : {T : Type 0} {a : View} (fault : StoreFault) (us : List Update) (updates_in charge_in : T → ℕ) (m : MeteredView) (s : StoreView) → IsMetered m → s.closed ≡ true → Notes us (Err fault) updates_in charge_in m (record { store = s; ledger = m.ledger }) a
 fault_notes fault us updates_in charge_in m s is closed = record { by_answer = tt; session = tt; unnoted = refl; metered = gives_up s m.ledger closed is.ledger }
+
+pub err_notes : {T : Type 0} {a : View} (r : Result T StoreFault) → IsErr r → (us : List Update) (updates_in charges : T → ℕ) (m : MeteredView) (s : StoreView) → IsMetered m → s.closed ≡ true
+    → Notes us r updates_in charges m (record { store = s; ledger = m.ledger }) a
+err_notes (Err fault) failed us updates_in charges m s is closed = fault_notes fault us updates_in charges m s is closed
+err_notes (Ok x) failed us updates_in charges m s is closed = absurd (cc)
 
 -- nothing is noted
 none_noted : (l : LedgerView) → l ≡ noted 0 0 l

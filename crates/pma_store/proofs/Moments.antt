@@ -11,16 +11,17 @@ use Rattle.header_gate.specs.declared.layout.Layout.{Layout}
 use Rattle.header_gate.specs.declared.layout.TheConstants.{INTENT_VERSION}
 use Rattle.header_gate.specs.Header.{layout_in, intent_gate}
 use Rattle.header_gate.specs.Places.{height_limit}
-use Rattle.map_model.specs.Store.{Map, Update, map_after}
-use Rattle.map_model.specs.Items.{map_after_items, AreAdmitted}
+use Rattle.map_model.specs.Store.{Map, Update}
+use Rattle.map_model.specs.After.{map_after, map_after_items}
+use Rattle.map_model.specs.ItemWords.{AreAdmitted}
 use Rattle.map_model.specs.Image.{RepresentsMap, map_of}
 use Rattle.map_model.proofs.Resuming.{next_item}
 use Rattle.batch_intent.specs.Spelling.{IsIntent, fits_item}
 use Rattle.batch_intent.specs.Gate.{IsIntentGatePlace, IsIntentPlace, Intends}
-use Rattle.batch_intent.specs.Means.{MeansMap, KeepsIntent, IsApart, InBatch, map_after_all, has_pending}
-use Rattle.batch_intent.proofs.Meanings.{update_keeps, means_idle, batch_means, batch_next_at, batch_closed, intent_open, intent_whole}
+use Rattle.batch_intent.specs.Means.{Means, KeepsIntent, IsApart, InBatch, map_after_all, has_waiting}
+use Rattle.batch_intent.proofs.Meanings.{update_keeps, in_layout, means_idle, batch_means, batch_next_at, batch_closed, intent_open, intent_whole}
 use Rattle.pma_store.specs.Meaning.{MeansNow, BecomesMeant}
-use Rattle.pma_store.specs.Store.{StoreView, StandsOn, IsOpenOn, limit_of}
+use Rattle.pma_store.specs.StoreView.{StoreView, StandsOn, IsOpenOn, limit_of}
 use Rattle.pma_store.specs.Touching.{Updates, IsUpdatePlace}
 use Rattle.pma_store.specs.Readying.{KeepsMap}
 use Rattle.pma_store.proofs.Resting.{covered_held, held_layout, alike_held, map_held, map_of_held}
@@ -69,18 +70,18 @@ pub update_keeps_intent : (hmax : ℕ) (u : Update) (start image : List ℕ) →
 update_keeps_intent hmax u start image step = update_keeps start image (ap (λ (l : Layout). l.format) step.layout_is) (wider start image (update_apart (layout_in start)) step.touched)
 
 -- so none waits behind it, where none did
-pub keeps_idle : (start image : List ℕ) → KeepsIntent start image → has_pending image ≡ has_pending start
+pub keeps_idle : (start image : List ℕ) → KeepsIntent start image → has_waiting image ≡ has_waiting start
 keeps_idle start image keeps = λ t. nat_le INTENT_VERSION (keeps.layout_is t).version && (keeps.gate_is t == 1)
 
-pub update_idle : (hmax : ℕ) (u : Update) (start image : List ℕ) → Updates hmax u start image → has_pending start ≡ false → has_pending image ≡ false
+pub update_idle : (hmax : ℕ) (u : Update) (start image : List ℕ) → Updates hmax u start image → has_waiting start ≡ false → has_waiting image ≡ false
 update_idle hmax u start image step idle = keeps_idle start image (update_keeps_intent hmax u start image step) ∙ idle
 
-pub still_idle : {a b : View} (hmax : ℕ) (u : Update) → Steps (Updates hmax u) a b → EachHeld (λ image. has_pending image ≡ false) a → EachHeld (λ image. has_pending image ≡ false) b
-still_idle hmax u ab idle = each_on (λ image. has_pending image ≡ false) (λ image. has_pending image ≡ false) ab idle (λ d i is step. update_idle hmax u d i step is)
+pub still_idle : {a b : View} (hmax : ℕ) (u : Update) → Steps (Updates hmax u) a b → EachHeld (λ image. has_waiting image ≡ false) a → EachHeld (λ image. has_waiting image ≡ false) b
+still_idle hmax u ab idle = each_on (λ image. has_waiting image ≡ false) (λ image. has_waiting image ≡ false) ab idle (λ d i is step. update_idle hmax u d i step is)
 
 -- an image without an intent means what it represents
-pub meant_idle : (layout : Layout) (image : List ℕ) (m : Map) → layout_in image ≡ layout → RepresentsMap image m → has_pending image ≡ false → MeansMap layout image m
-meant_idle layout image m laid is idle = (laid, (is.0, means_idle image m is.0 is.1 idle))
+pub meant_idle : (layout : Layout) (image : List ℕ) (m : Map) → layout_in image ≡ layout → RepresentsMap image m → has_waiting image ≡ false → Means layout image m
+meant_idle layout image m laid is idle = in_layout image m laid (means_idle image m is.0 is.1 idle)
 
 -- what keeps the map of a file without an intent keeps what it means
 pub keeps_meant : {a b : View} (s : StoreView) → Lawful a → IsOpenOn s a → Steps KeepsMap a b → Steps (MeansNow s.place.layout (map_of a.held)) a b
@@ -89,8 +90,8 @@ keeps_meant {a} {b} s law is ab = weaken ab (λ d i left step.
     meant_idle s.place.layout i (map_of a.held) (step.layout_is ∙ (is.on.stands d left).balanced.stands.settled.layout_is) (subst (RepresentsMap i) (map_held s law is.on d left) (step.map_is (map_of d) (own_of s d (is.on.stands d left)))) (keeps_idle d i keeps ∙ is.no_intent d left))
 
 -- so it has no intent behind it
-pub keeps_none : {a b : View} → Steps KeepsMap a b → EachHeld (λ image. has_pending image ≡ false) a → EachHeld (λ image. has_pending image ≡ false) b
-keeps_none ab idle = each_on (λ image. has_pending image ≡ false) (λ image. has_pending image ≡ false) ab idle (λ d i is step.
+pub keeps_none : {a b : View} → Steps KeepsMap a b → EachHeld (λ image. has_waiting image ≡ false) a → EachHeld (λ image. has_waiting image ≡ false) b
+keeps_none ab idle = each_on (λ image. has_waiting image ≡ false) (λ image. has_waiting image ≡ false) ab idle (λ d i is step.
     keeps_idle d i (update_keeps d i (ap (λ (l : Layout). l.format) step.layout_is) (wider d i (update_apart (layout_in d)) step.touched)) ∙ is)
 
 -- what a store's station may hold has one intent
@@ -101,7 +102,7 @@ intent_held {a} s law on d left =
     update_keeps a.held d (ap (λ (l : Layout). l.format) layout) (wider a.held d (update_apart (layout_in a.held)) (moves_touch s a.held d stands (covered_held s law on d left)))
 
 -- none waits, where none does in the held bytes
-pub idle_held : {a : View} (s : StoreView) → Lawful a → StandsOn s a → (Told a → has_pending a.held ≡ false) → EachHeld (λ image. has_pending image ≡ false) a
+pub idle_held : {a : View} (s : StoreView) → Lawful a → StandsOn s a → (Told a → has_waiting a.held ≡ false) → EachHeld (λ image. has_waiting image ≡ false) a
 idle_held {a} s law on idle d left = keeps_idle a.held d (intent_held s law on d left) ∙ idle (told_of law d left)
 
 -- and each is as far in a batch as they are
@@ -130,7 +131,7 @@ module _ (layout : Layout) (base : Map) (items : List Update) (admitted : AreAdm
 
   -- no call yet
   pub none_yet : (a : View) (k : ℕ) → EachHeld (InBatch layout base items k) a → Steps (MeansNow layout all) a a
-  none_yet a k each = weaken (no_steps a) (λ d i left same. subst (λ (x : List ℕ). MeansMap layout x all) (sym same) (batch_means layout base items admitted k d (each d left)))
+  none_yet a k each = weaken (no_steps a) (λ d i left same. subst (λ (x : List ℕ). Means layout x all) (sym same) (batch_means layout base items admitted k d (each d left)))
 
   module _ (k : ℕ) (d : Update) (lt : k < length items) where
     -- after an item
@@ -168,7 +169,7 @@ pub gate_touched : (old new : List ℕ) → Touched IsIntentGatePlace old new �
 gate_touched old new touched = wider old new (λ k is. inr is) touched
 
 -- no intent waits where the gate is even
-pub even_idle_at : (image : List ℕ) → intent_gate image ≡ 0 → has_pending image ≡ false
+pub even_idle_at : (image : List ℕ) → intent_gate image ≡ 0 → has_waiting image ≡ false
 even_idle_at image even = idle_by (nat_le INTENT_VERSION (layout_in image).version) (intent_gate image) even
   where
     idle_by : (b : Bool) (n : ℕ) → n ≡ 0 → (b && (n == 1)) ≡ false
@@ -176,7 +177,7 @@ even_idle_at image even = idle_by (nat_le INTENT_VERSION (layout_in image).versi
     idle_by false n e = refl
 
 -- and where none waits in a file of a version with intents, it is even
-pub idle_even : (image : List ℕ) → INTENT_VERSION ≤ (layout_in image).version → has_pending image ≡ false → intent_gate image ≡ 0
+pub idle_even : (image : List ℕ) → INTENT_VERSION ≤ (layout_in image).version → has_waiting image ≡ false → intent_gate image ≡ 0
 idle_even image version idle = even_by (intent_gate image) (omega arith) (sym (ap (λ (b : Bool). b && (intent_gate image == 1)) (le_true INTENT_VERSION (layout_in image).version version)) ∙ idle)
   where
     le_true : (m n : ℕ) → m ≤ n → nat_le m n ≡ true
@@ -204,7 +205,7 @@ module _ (layout : Layout) (base : Map) (items : List Update) (version : INTENT_
   begin_steps a b admitted each ab = weaken ab (λ s i left step.
       let ready = each s left in
       elim (intent_whole s i base ready.represents.0 items ready.represents.1 ready.gate_even (at_layout s ready) some intent ready.fit step) [
-        | inl old ↦ inl (old.0 ∙ ready.layout_is, (ready.represents.0, old.1))
+        | inl old ↦ inl (in_layout i base ready.layout_is old.0)
         | inr begun ↦ inr (batch_means layout base items admitted 0 i (subst (λ (l : Layout). InBatch l base items 0 i) ready.layout_is begun))
       ])
 

@@ -4,7 +4,7 @@ use mathlib.Core.Bool.{true≢false}
 use Rattle.std.specs.Str.{bytes_eq}
 use Rattle.std.proofs.lemmas.Bool.{cases_eq, cases_lt, ne_eqb}
 use Rattle.std.proofs.lemmas.List.{get_or-map, get_or-take, length-map, length-take-le, take_all}
-use Rattle.density_rule.specs.Updates.{counts_after}
+use Rattle.density_rule.specs.CountUpdates.{counts_after}
 use Rattle.header_gate.specs.declared.layout.Layout.{Layout}
 use Rattle.header_gate.specs.Recovered.{Ascends}
 use Rattle.key_slot.specs.Record.{Bytes, Record, IsAscending}
@@ -13,7 +13,8 @@ use Rattle.map_model.specs.Array.{Array, counts_of, rows, segment_at, segment_fo
 use Rattle.map_model.specs.ArrayState.{ArrayState, next_states}
 use Rattle.map_model.specs.ArrayUpdates.{has_key}
 use Rattle.map_model.specs.Holding.{HoldsMap, IsBalancedArray}
-use Rattle.map_model.specs.Items.{are_distinct, has_item}
+use Rattle.map_model.specs.Items.{are_distinct}
+use Rattle.map_model.specs.ItemWords.{has_item}
 use Rattle.map_model.specs.Store.{Update, bind, unbind, key_of}
 use Rattle.one_commit.specs.declared.changes.ItemChange.{ItemChange}
 use Rattle.one_commit.specs.Editing.{AreEdits, charge_by, charge_one, edited_by, items_for}

@@ -7,8 +7,8 @@ use Rattle.station.specs.View.{View, Told, Honest, MayHold, EachHeld, Lawful, Ro
 use Rattle.station.specs.Steps.{Frame, Steps}
 use Rattle.station.proofs.Composition.{frame_on, honest_on, told_on, weaken}
 use Rattle.station.proofs.Sayings.{leaves_in}
-use Rattle.batch_intent.specs.Means.{InBatch, KeepsIntent, Means, MeansMap, has_pending, map_after_all, meant_map, opening_reason, pending}
-use Rattle.batch_intent.proofs.Meanings.{batch_begun, items_are, meant_one, pending_kept, map_made}
+use Rattle.batch_intent.specs.Means.{InBatch, KeepsIntent, Means, has_waiting, map_after_all, meant_map, opening_reason, waiting}
+use Rattle.batch_intent.proofs.Meanings.{batch_begun, in_layout, items_are, meant_one, waiting_kept, map_made}
 use Rattle.batch_intent.proofs.OpeningReasons.{means_of_none}
 use Rattle.header_gate.specs.declared.layout.Layout.{Layout}
 use Rattle.header_gate.specs.declared.reason.Reason.{Reason}
@@ -17,11 +17,11 @@ use Rattle.header_gate.specs.Places.{height_limit}
 use Rattle.header_gate.specs.Reasons.{header_reason}
 use Rattle.header_gate.proofs.Soundness.{none_of_sound}
 use Rattle.map_model.specs.ArrayState.{ArrayState, opened_state, next_states}
-use Rattle.map_model.specs.Image.{height_of}
-use Rattle.map_model.specs.Items.{map_after_items, AreAdmitted}
+use Rattle.map_model.specs.After.{map_after_items}
+use Rattle.map_model.specs.ItemWords.{AreAdmitted}
 use Rattle.map_model.specs.Store.{Map, Update}
-use Rattle.recovery.specs.Costs.{opening_cost, opening_reads}
-use Rattle.recovery.specs.Faults.{IsNoDamage, IsRereadFault, repair_fault}
+use Rattle.recovery.specs.OpeningCosts.{opening_cost, opening_reads}
+use Rattle.recovery.specs.OpeningFaults.{IsNoDamage, IsRereadFault, repair_fault}
 use Rattle.recovery.specs.Opening.{OpensFile, GoesOn, SyncsFirst}
 use Rattle.recovery.specs.Restores.{Opens, IsAtRest}
 use Rattle.recovery.specs.declared.fault.OpenFault.{OpenFault}
@@ -32,13 +32,13 @@ use Rattle.redo_journal.specs.Commit.{IsJournalPlace, IsRegionPlace}
 use Rattle.segment.specs.declared.fault.Damage.TheVariants.{NotSegment, OtherCount, OutOfOrder}
 use Rattle.segment.specs.declared.fault.StoreFault.{StoreFault}
 use Rattle.segment.specs.declared.fault.StoreFault.TheVariants as store
-use Rattle.pma_store.specs.Answers.{state_in}
+use Rattle.pma_store.specs.StoreAnswers.{state_in}
 use Rattle.pma_store.specs.Costing.{updates_cost}
-use Rattle.pma_store.specs.Items.{IsItemPlace, MakesItems}
+use Rattle.pma_store.specs.ItemsMade.{IsItemPlace, MakesItems}
 use Rattle.pma_store.specs.Looking.{TellsOther}
 use Rattle.pma_store.specs.Meaning.{MeansNow}
 use Rattle.pma_store.specs.Opens.{OpensMeant, IsAllAtRest, WritesOpening, TellsOtherCount}
-use Rattle.pma_store.specs.Store.{StoreView, StandsOn, limit_of}
+use Rattle.pma_store.specs.StoreView.{StoreView, StandsOn, limit_of}
 use Rattle.pma_store.specs.Touching.{IsUpdatePlace}
 use Rattle.pma_store.proofs.Making.{stands_there}
 use Rattle.pma_store.proofs.Moments.{batch_held, if_told}
@@ -56,7 +56,7 @@ wider l k is = inl (inr (inr (inr is)))
 
 pub opens_meant : (old new : List ℕ) → Opens old new → OpensMeant old new
 opens_meant old new opens = record {
-  means = λ m height is. ((opens_keeps old new opens).layout_is, (height, opens_means old new opens m height is));
+  means = λ l m is. opens_means old new opens m is;
   recovers = opens.recovers;
   touched = record { size = opens.touched.size; rest = λ k out. opens.touched.rest k (λ x. out (wider (layout_in old) k x)) };
   idle = λ none. opens;
@@ -66,8 +66,8 @@ pub steps_meant : {a b : View} → Steps Opens a b → Steps OpensMeant a b
 steps_meant ab = weaken ab (λ d i left step. opens_meant d i step)
 
 -- none waits behind it
-pub none_behind : (old new : List ℕ) → Opens old new → has_pending old ≡ false → has_pending new ≡ false
-none_behind old new opens idle = pending_kept old new (opens_keeps old new opens) ∙ idle
+pub none_behind : (old new : List ℕ) → Opens old new → has_waiting old ≡ false → has_waiting new ≡ false
+none_behind old new opens idle = waiting_kept old new (opens_keeps old new opens) ∙ idle
 
 -- nothing is wrong with the header of a file that means a map
 pub header_right : (image : List ℕ) → opening_reason image ≡ None → header_reason image ≡ None
@@ -81,7 +81,7 @@ module _ {T U : Type 0} {a b : View} where
   fault_opens fault opens = record {
     sound = tt;
     refused = opens.refused;
-    complete = λ told m height is calm. inr (ap Err (memory_is (opens.complete told m height is calm)));
+    complete = λ told l m is calm. inr (ap Err (memory_is (opens.complete told l m is calm)));
     steps = steps_meant opens.steps;
     late = opens.late;
     early = opens.early;
@@ -181,7 +181,7 @@ reread_counted (NotStore reason) is = tt
 
 module _ {X : Type 0} {a b c : View} (x : X) (items : List Update) (s t : StoreView) (r : Result ℕ StoreFault) (law_a : Lawful a) (law_b : Lawful b)
     (opens : OpensFile Opens IsAtRest opening_reads (Ok x) a b) (on_b : StandsOn s b) (layout_is : Told b → layout_in b.held ≡ s.place.layout)
-    (waits : Told a → (has_pending a.held ≡ true) × (pending a.held ≡ items)) (made : MakesItems items r s t b c) where
+    (waits : Told a → (has_waiting a.held ≡ true) × (waiting a.held ≡ items)) (made : MakesItems items r s t b c) where
   on : Told a → Told b
   on told = told_on opens.steps.frame told
 
@@ -189,7 +189,7 @@ module _ {X : Type 0} {a b c : View} (x : X) (items : List Update) (s t : StoreV
   frame = frame_on opens.steps.frame made.touched.frame
 
   module _ (told : Told a) where
-    means : Means a.held (meant_map a.held) (height_of a.held)
+    means : Means (layout_in a.held) a.held (meant_map a.held)
     means = means_of_none a.held (opens.sound told)
 
     opened : Opens a.held b.held
@@ -198,37 +198,37 @@ module _ {X : Type 0} {a b c : View} (x : X) (items : List Update) (s t : StoreV
     keeps : KeepsIntent a.held b.held
     keeps = opens_keeps a.held b.held opened
 
-    behind : Means b.held (meant_map a.held) (height_of a.held)
-    behind = opens_means a.held b.held opened (meant_map a.held) (height_of a.held) means
+    behind : Means (layout_in a.held) b.held (meant_map a.held)
+    behind = opens_means a.held b.held opened (meant_map a.held) means
 
     pub own_layout : s.place.layout ≡ layout_in a.held
     own_layout = sym (layout_is (on told)) ∙ keeps.layout_is
 
-    own_items : pending b.held ≡ items
+    own_items : waiting b.held ≡ items
     own_items = items_same a.held b.held keeps ∙ (waits told).1
 
     behind_items : behind.items ≡ items
-    behind_items = items_are b.held (meant_map a.held) (height_of a.held) behind ∙ own_items
+    behind_items = items_are b.held (meant_map a.held) behind ∙ own_items
 
     batch : EachHeld (InBatch s.place.layout behind.base items 0) b
     batch = batch_held s s.place.layout behind.base items 0 law_b on_b (λ told_b.
-        let begun = batch_begun b.held (meant_map a.held) (height_of a.held) behind (pending_kept a.held b.held keeps ∙ (waits told).0) in
-        subst (λ (l : Layout). InBatch l behind.base items 0 b.held) (layout_is told_b) (subst (λ (us : List Update). InBatch (layout_in b.held) behind.base us 0 b.held) own_items begun))
+        let begun = batch_begun b.held (meant_map a.held) behind (waiting_kept a.held b.held keeps ∙ (waits told).0) in
+        subst (λ (l : Layout). InBatch l behind.base items 0 b.held) (sym own_layout) (subst (λ (us : List Update). InBatch (layout_in a.held) behind.base us 0 b.held) own_items begun))
 
     admitted : AreAdmitted (limit_of s) behind.base items
     admitted =
-        subst (λ (l : Layout). AreAdmitted (height_limit l) behind.base items) (layout_is (on told))
-        (subst (AreAdmitted (height_limit (layout_in b.held)) behind.base) behind_items behind.admitted)
+        subst (λ (l : Layout). AreAdmitted (height_limit l) behind.base items) (sym own_layout)
+        (subst (AreAdmitted (height_limit (layout_in a.held)) behind.base) behind_items behind.admitted)
 
     after : map_after_all s.place.layout behind.base items ≡ meant_map a.held
-    after = (λ τ. map_after_items (height_limit (sym (layout_is (on told)) τ)) behind.base (sym behind_items τ)) ∙ map_made b.held (meant_map a.held) (height_of a.held) behind
+    after = (λ τ. map_after_items (height_limit (own_layout τ)) behind.base (sym behind_items τ)) ∙ map_made b.held (meant_map a.held) behind
 
     now : Steps (MeansNow s.place.layout (meant_map a.held)) b c
     now = subst (λ (m : Map). Steps (MeansNow s.place.layout m) b c) after (made.steps behind.base admitted batch)
 
-    meant_at : (image : List ℕ) → Touched (IsItemPlace s.place.layout) b.held image → MeansMap s.place.layout image (meant_map a.held) → OpensMeant a.held image
+    meant_at : (image : List ℕ) → Touched (IsItemPlace s.place.layout) b.held image → Means s.place.layout image (meant_map a.held) → OpensMeant a.held image
     meant_at image touched is = record {
-      means = λ m height own. subst (MeansMap (layout_in a.held) image) (sym (meant_one a.held m height own).0) (is.0 ∙ own_layout, is.1);
+      means = λ l m own. in_layout image m (own_layout ∙ own.layout_is) (subst (Means s.place.layout image) (sym (meant_one a.held m own).0) is);
       recovers = λ reason wrong. let both : None ≡ Some reason = sym (opens.sound told) ∙ wrong in absurd cc;
       touched = record {
         size = touched.size ∙ opened.touched.size;
@@ -244,7 +244,7 @@ module _ {X : Type 0} {a b c : View} (x : X) (items : List Update) (s t : StoreV
         record { size = touched.size; rest = λ k out. touched.rest k (λ there. out (inl there)) }
 
     module _ (honest : Honest a) (image said : List ℕ) where
-      at_start : (start : List ℕ) → b.may_leave start → Touched (IsItemPlace s.place.layout) start image → MeansMap s.place.layout image (meant_map a.held) → OpensMeant a.held image
+      at_start : (start : List ℕ) → b.may_leave start → Touched (IsItemPlace s.place.layout) start image → Means s.place.layout image (meant_map a.held) → OpensMeant a.held image
       at_start start left touched is = meant_at image (touched_on_top b.held start image (item_held start (inr (honest_on opens.steps.frame honest, left))) touched) is
 
       -- a moment before the items, or one at which they are made
@@ -277,14 +277,14 @@ module _ {X : Type 0} {a b c : View} (x : X) (items : List Update) (s t : StoreV
     }
 
     -- the state that the opening ends in, from the one before the items
-    pub state_made : state_in s b.held ≡ opened_state a.held → next_states (limit_of s) (state_in s b.held) items ≡ next_states (height_limit (layout_in a.held)) (opened_state a.held) (pending a.held)
+    pub state_made : state_in s b.held ≡ opened_state a.held → next_states (limit_of s) (state_in s b.held) items ≡ next_states (height_limit (layout_in a.held)) (opened_state a.held) (waiting a.held)
     state_made first = (λ τ. next_states (height_limit (own_layout τ)) (first τ) (sym (waits told).1 τ))
 
     -- and what it writes
     pub items_writes : state_in s b.held ≡ opened_state a.held → b.travel.written ≤ a.travel.written + opening_cost (layout_in a.held) → WritesOpening a.held a.travel.written c.travel.written
     items_writes first within =
         let some = made.most (on told) in
-        let bytes : c.travel.written ≤ b.travel.written + 1 + updates_cost (layout_in a.held) (opened_state a.held) (take some.made (pending a.held)) =
+        let bytes : c.travel.written ≤ b.travel.written + 1 + updates_cost (layout_in a.held) (opened_state a.held) (take some.made (waiting a.held)) =
         subst (λ (us : List Update). c.travel.written ≤ b.travel.written + 1 + updates_cost (layout_in a.held) (opened_state a.held) (take some.made us)) (sym (waits told).1)
         (subst (λ (y : ArrayState). c.travel.written ≤ b.travel.written + 1 + updates_cost (layout_in a.held) y (take some.made items)) first
         (subst (λ (l : Layout). c.travel.written ≤ b.travel.written + 1 + updates_cost l (state_in s b.held) (take some.made items)) own_layout some.bytes)) in

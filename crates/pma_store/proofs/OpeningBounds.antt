@@ -6,7 +6,7 @@ use Rattle.header_gate.specs.declared.layout.TheConstants.{GREATEST_HEIGHT}
 use Rattle.header_gate.specs.Places.{IsFormat, IsLayout, height_limit}
 use Rattle.header_gate.proofs.PagedSegments.{each_format}
 use Rattle.key_slot.proofs.SegmentLaws.{times_up}
-use Rattle.recovery.specs.Costs.{opening_cost, greatest_layout}
+use Rattle.recovery.specs.OpeningCosts.{opening_cost, greatest_layout}
 use Rattle.pma_store.specs.Changing.{most_written}
 use Rattle.pma_store.specs.Costing.{most_of}
 use Rattle.pma_store.specs.Opens.{most_opening}

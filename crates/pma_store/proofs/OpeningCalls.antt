@@ -9,12 +9,12 @@ use Rattle.map_model.specs.Array.{counts_of}
 use Rattle.map_model.specs.ArrayState.{ArrayState, next_state, opened_state}
 use Rattle.map_model.specs.Image.{array_in}
 use Rattle.map_model.specs.Store.{Update}
-use Rattle.batch_intent.specs.Means.{pending}
-use Rattle.window_tally.specs.View.{TallyView}
-use Rattle.pma_store.specs.Answers.{state_in}
+use Rattle.batch_intent.specs.Means.{waiting}
+use Rattle.window_tally.specs.TallyView.{TallyView}
+use Rattle.pma_store.specs.StoreAnswers.{state_in}
 use Rattle.pma_store.specs.BatchCalls.{AreForItems, IsForItem, IsForItems}
 use Rattle.pma_store.specs.Opens.{AreForPending, opened_tally}
-use Rattle.pma_store.specs.Store.{StoreView, StandsOn}
+use Rattle.pma_store.specs.StoreView.{StoreView, StandsOn}
 
 -- seen from before calls that tell as much
 pub items_seen : (a b : View) (l : Layout) (x : ArrayState) (t last : TallyView) (items : List Update) (n : ℕ) → (Told a → Told b) → IsForItems l b x t items last n → IsForItems l a x t items last n
@@ -24,9 +24,9 @@ items_seen a b l x t last (u ∷ us) n on is =
     (is.0, is.1, is.2, record { at = one.at; within = one.within; own = λ told. one.own (on told); nexts = one.nexts; is = one.is }, items_seen a b l (next_state (height_limit l) x u) is.1 last us is.2 on is.4, is.5)
 
 -- the items of an intent, made in a store that was opened so
-pub pending_called : (a b : View) (s : StoreView) (items : List Update) (n : ℕ) → (Told a → Told b) → Told b → StandsOn s b → s.tally.hmax ≡ height_limit s.place.layout → s.place.layout ≡ layout_in a.held → state_in s b.held ≡ opened_state a.held → pending a.held ≡ items
+pub waiting_called : (a b : View) (s : StoreView) (items : List Update) (n : ℕ) → (Told a → Told b) → Told b → StandsOn s b → s.tally.hmax ≡ height_limit s.place.layout → s.place.layout ≡ layout_in a.held → state_in s b.held ≡ opened_state a.held → waiting a.held ≡ items
     → AreForItems items s b n → AreForPending a n
-pending_called a b s items n on told stands hmax layout state same are = record {
+waiting_called a b s items n on told stands hmax layout state same are = record {
   begun = are.begun;
   some = omega (arith, are.some, ap length same);
   last = are.last;

@@ -10,7 +10,8 @@ use Rattle.key_slot.specs.Record.{Bytes, Record, key_cmp, IsAscending}
 use Rattle.map_model.specs.Store.{Update, bind, unbind, key_of}
 use Rattle.map_model.specs.Array.{Array, rows, segment_at, segment_for}
 use Rattle.map_model.specs.ArrayUpdates.{has_key, edited}
-use Rattle.map_model.specs.Items.{has_item, are_distinct}
+use Rattle.map_model.specs.Items.{are_distinct}
+use Rattle.map_model.specs.ItemWords.{has_item}
 use Rattle.map_model.proofs.Belonging.{segment_for_is, rows-find}
 use Rattle.one_commit.specs.Editing.{edited_by, edits, items_for}
 use Rattle.one_commit.proofs.Heads.{without_absent}

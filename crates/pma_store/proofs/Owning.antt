@@ -9,7 +9,8 @@ use Rattle.std.specs.FinMap.{find}
 use Rattle.std.specs.FinMap.Entries.{find-put}
 use Rattle.key_slot.specs.Record.{Bytes, Record, key_cmp}
 use Rattle.map_model.specs.Store.{Update, bind, unbind, key_of}
-use Rattle.map_model.specs.Items.{has_item, are_distinct}
+use Rattle.map_model.specs.Items.{are_distinct}
+use Rattle.map_model.specs.ItemWords.{has_item}
 use Rattle.map_model.proofs.Resuming.{none_before}
 use Rattle.map_model.specs.ArrayUpdates.{edited}
 use Rattle.one_commit.specs.Editing.{edited_by}

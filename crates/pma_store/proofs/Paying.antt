@@ -4,23 +4,23 @@ use Rattle.std.specs.Prelude.{sum}
 use Rattle.std.proofs.lemmas.Bool.{cases_eq}
 use Rattle.density_rule.specs.Bounds.{upper_of}
 use Rattle.density_rule.specs.Marks.{Marks, mark_of}
-use Rattle.density_rule.specs.Updates.{resized_height, height_by_broken}
+use Rattle.density_rule.specs.CountUpdates.{resized_height, height_by_broken}
 use Rattle.density_rule.specs.Windows.{IsBalanced}
 use Rattle.map_model.specs.ArrayState.{UpdateReport, report_by}
 use Rattle.window_tally.specs.declared.Change.{Change}
 use Rattle.window_tally.specs.declared.Change.TheVariants.{Add, Take}
 use Rattle.window_tally.specs.Choice.{adds}
-use Rattle.window_tally.specs.View.{TallyView, IsTally}
+use Rattle.window_tally.specs.TallyView.{TallyView, IsTally}
 use Rattle.cost_ledger.specs.Potential.{potential_of}
 use Rattle.cost_ledger.specs.Work.{charge_by, work_of, IsWork}
 use Rattle.cost_ledger.specs.declared.work.Work.{Work}
 use Rattle.cost_ledger.specs.declared.work.Work.TheVariants as work
 use Rattle.cost_ledger.proofs.Charging.{charge_is}
 use Rattle.cost_ledger.proofs.Paying.{paid_by_counts, low_work}
-use Rattle.pma_store.specs.Answers.{reported}
+use Rattle.pma_store.specs.StoreAnswers.{reported}
 use Rattle.pma_store.specs.Changing.{put_of, took_of}
 use Rattle.pma_store.specs.Charging.{work_by, spread_work, IsPaid, changes, put_changes}
-use Rattle.pma_store.specs.Counting.{counted}
+use Rattle.pma_store.specs.SegmentCounts.{counted}
 use Rattle.pma_store.specs.Readying.{broken_in, readied}
 use Rattle.pma_store.specs.declared.answers.Report.{Report}
 use Rattle.pma_store.specs.declared.answers.Outcome.{Outcome}

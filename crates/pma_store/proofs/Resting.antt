@@ -24,11 +24,11 @@ use Rattle.redo_journal.specs.declared.place.Place.{Place}
 use Rattle.redo_journal.specs.Rest.{RestsAt}
 use Rattle.redo_journal.proofs.Live.{rest_each, rest_held, rest_live, rest_recovers}
 use Rattle.redistribute.specs.Rearranged.{IsMovePlace}
-use Rattle.segment_frames.specs.Standing.{IsSettledAt}
+use Rattle.segment_frames.specs.FrameStanding.{IsSettledAt}
 use Rattle.segment_frames.proofs.Alike.{Alike, alike_rest, each_alike, stands_alike}
 use Rattle.veb_index.specs.Arrays.{IsIndexOf}
 use Rattle.pma_store.specs.Rewrites.{HasRewritten, rewritten}
-use Rattle.pma_store.specs.Store.{StoreView, Stands, StandsOn}
+use Rattle.pma_store.specs.StoreView.{StoreView, Stands, StandsOn}
 use Rattle.pma_store.proofs.Rewriting.{named_inside}
 use Rattle.pma_store.proofs.Touching.{wider}
 

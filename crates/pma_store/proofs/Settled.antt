@@ -12,11 +12,11 @@ use Rattle.map_model.specs.Store.{Map}
 use Rattle.map_model.proofs.Recovering.{determined}
 use Rattle.segment.specs.declared.fault.StoreFault.{StoreFault}
 use Rattle.segment.specs.declared.fault.StoreFault.TheVariants.{Failed}
-use Rattle.pma_store.specs.Answers.{state_in}
-use Rattle.pma_store.specs.Calling.{clear_calls}
+use Rattle.pma_store.specs.StoreAnswers.{state_in}
+use Rattle.pma_store.specs.UpdateCalls.{clear_calls}
 use Rattle.pma_store.specs.Readying.{KeepsStore, clear_cost}
 use Rattle.pma_store.specs.Settling.{SettlesStore}
-use Rattle.pma_store.specs.Store.{StoreView, StandsOn, IsOpenOn}
+use Rattle.pma_store.specs.StoreView.{StoreView, StandsOn, IsOpenOn}
 use Rattle.pma_store.specs.Touching.{IsClearPlace}
 use Rattle.pma_store.proofs.Moments.{keeps_meant, keeps_none}
 use Rattle.pma_store.proofs.Steps.{own_of}

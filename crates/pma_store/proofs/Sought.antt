@@ -7,8 +7,8 @@ use Rattle.cost_ledger.specs.Potential.{potential_of}
 use Rattle.header_gate.specs.Places.{file_length}
 use Rattle.redo_journal.specs.Rest.{RestsAt}
 use Rattle.pma_store.specs.Metered.{MeteredView, IsMetered}
-use Rattle.pma_store.specs.Seeking.{StandsIdle, unclosed}
-use Rattle.pma_store.specs.Store.{StoreView, IsOpenOn}
+use Rattle.pma_store.specs.StoreSeeks.{StandsIdle, unclosed}
+use Rattle.pma_store.specs.StoreView.{StoreView, IsOpenOn}
 
 -- what an open store says of the held bytes
 pub stands_idle : {a : View} (s : StoreView) → IsOpenOn s a → EachHeld (StandsIdle s) a

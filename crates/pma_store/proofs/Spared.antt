@@ -17,8 +17,8 @@ use Rattle.map_model.proofs.Recovering.{determined}
 use Rattle.map_model.proofs.Unnamed.{unnamed_represents, layout_same, live_same, gate_same, format_same, segment_same}
 use Rattle.range_scan.proofs.Standing.{array_size, array_at}
 use Rattle.veb_index.specs.Arrays.{IsIndexOf}
-use Rattle.pma_store.specs.Answers.{state_in}
-use Rattle.pma_store.specs.Store.{StoreView, IsStore, Stands}
+use Rattle.pma_store.specs.StoreAnswers.{state_in}
+use Rattle.pma_store.specs.StoreView.{StoreView, IsStore, Stands}
 
 module _ (s : StoreView) (old new : List ℕ) (is : Stands s old) (touched : Touched IsIntentPlace old new) where
   was : Represents old (map_of old) (height_of old)

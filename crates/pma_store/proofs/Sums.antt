@@ -6,10 +6,10 @@ use Rattle.std.proofs.lemmas.Bool.{cases_eq, cases_lt}
 use Rattle.std.proofs.lemmas.Bool.Decides.{nat_tests}
 use Rattle.std.proofs.lemmas.List.{take_all}
 use Rattle.std.proofs.lemmas.List.Sums.{sum_by-set}
-use Rattle.density_rule.specs.Updates.{counts_after}
-use Rattle.batch_intent.specs.Items.{is_put}
+use Rattle.density_rule.specs.CountUpdates.{counts_after}
+use Rattle.batch_intent.specs.ItemView.{is_put}
 use Rattle.density_rule.proofs.Changes.{length-counts_after}
-use Rattle.map_model.specs.Items.{ItemCounts, no_items}
+use Rattle.map_model.specs.ItemWords.{ItemCounts, no_items}
 use Rattle.map_model.specs.Store.{Update, bind, unbind}
 use Rattle.one_commit.specs.declared.changes.ItemChange.{ItemChange}
 use Rattle.one_commit.specs.Editing.{counts_by}
@@ -21,8 +21,8 @@ use Rattle.window_tally.specs.declared.Change.{Change}
 use Rattle.window_tally.specs.declared.Change.TheVariants.{Add, Take}
 use Rattle.window_tally.specs.Choice.{adds}
 use Rattle.pma_store.specs.Batching.{CountsBatch, done_by}
-use Rattle.pma_store.specs.Counting.{SumsOne}
-use Rattle.pma_store.specs.Validating.{CountsFound, HaveRoom, SumsBy, SumsFound, SumsItem, counted_by, counted_first, found_at, kinds_in, records_first, there_in}
+use Rattle.pma_store.specs.SegmentCounts.{SumsOne}
+use Rattle.pma_store.specs.ItemEffects.{CountsFound, HaveRoom, SumsBy, SumsFound, SumsItem, counted_by, counted_first, found_at, kinds_in, records_first, there_in}
 use Rattle.pma_store.specs.Updating.{need_of}
 use Rattle.pma_store.specs.declared.update.Need.TheVariants as need
 

@@ -15,7 +15,7 @@ use Rattle.redo_journal.specs.declared.place.Place.{Place}
 use Rattle.redistribute.specs.Rearranged.{Rearranges, IsMovePlace}
 use Rattle.resize_region.specs.Resized.{Resizes}
 use Rattle.pma_store.specs.Rewrites.{Rewrites}
-use Rattle.pma_store.specs.Store.{StoreView, Stands}
+use Rattle.pma_store.specs.StoreView.{StoreView, Stands}
 use Rattle.pma_store.specs.Touching.{IsUpdatePlace, place_after, IsTouchedPlace, IsPlaceAfter}
 
 -- what is touched at these places is touched at wider ones

@@ -3,19 +3,20 @@ use Rattle.std.proofs.Common.{◌≡◌, inl, inr, ℕ, ◌*◌, ◌^◌, true, 
 use mathlib.Core.Bool.{true≢false}
 use Rattle.std.proofs.lemmas.Nat.{pow_pos}
 use Rattle.map_model.specs.Image.{array_of, map_of}
-use Rattle.map_model.specs.Items.{are_distinct, count_items, first_full, no_items}
+use Rattle.map_model.specs.Items.{are_distinct, first_full}
+use Rattle.map_model.specs.ItemWords.{count_items, no_items}
 use Rattle.map_model.specs.Store.{Update}
 use Rattle.one_commit.specs.Editing.{charge_by}
 use Rattle.one_commit.specs.Fitting.{changes_in, fit_one_commit}
 use Rattle.redo_journal.specs.Frames.{Batch}
 use Rattle.pma_store.specs.declared.validation.Validated.{Validated}
 use Rattle.pma_store.specs.declared.batch_scan.BatchScan.{BatchScan}
-use Rattle.pma_store.specs.Answers.{state_in}
+use Rattle.pma_store.specs.StoreAnswers.{state_in}
 use Rattle.pma_store.specs.AtOnce.{IsUnfit}
-use Rattle.pma_store.specs.Validating.{counts_of as counts_validated, edits_of, validated_of}
+use Rattle.pma_store.specs.ItemEffects.{counts_of as counts_validated, edits_of, validated_of}
 use Rattle.pma_store.specs.Looked.{AreLoaded, BelongThere, HasLooked}
 use Rattle.pma_store.specs.Once.{AreOneCommit, AreUsed}
-use Rattle.pma_store.specs.Store.{StoreView, Stands, limit_of}
+use Rattle.pma_store.specs.StoreView.{StoreView, Stands, limit_of}
 use Rattle.pma_store.proofs.Effects.{charges_edits, edits_in}
 use Rattle.pma_store.proofs.OnceLaws.{are_all, edited_charge, not_short, used_few}
 use Rattle.pma_store.proofs.Outcomes.{balanced_array, counts_are, has_is, holds}

@@ -2,8 +2,10 @@
 use Rattle.std.proofs.Common.{◌≡◌, ℕ, zero, suc, ◌+◌, ◌<◌, Bool, true, false, cond, not, nat_lt, List, [], ◌∷◌, length, take, get_or, refl, sym, ap, subst, ◌∙◌, arith, Option, Some, None, is_some}
 use Rattle.std.specs.FinMap.{contains_key, len}
 use Rattle.density_rule.specs.Bounds.{upper_of}
-use Rattle.map_model.specs.Store.{Map, Update, bind, unbind, map_after, key_of, effect_by, effect_of}
-use Rattle.map_model.specs.Items.{ItemCounts, no_items, count_items, first_full, map_after_items, are_distinct, effect_count, AreAdmitted}
+use Rattle.map_model.specs.Store.{Map, Update, bind, unbind, key_of, effect_by, effect_of}
+use Rattle.map_model.specs.After.{map_after, map_after_items}
+use Rattle.map_model.specs.Items.{first_full, are_distinct}
+use Rattle.map_model.specs.ItemWords.{ItemCounts, no_items, count_items, effect_count, AreAdmitted}
 use Rattle.map_model.proofs.Resuming.{get_before, meets_full, next_item}
 use Rattle.std.proofs.lemmas.List.{take_all}
 use Rattle.std.proofs.Common.{set, inl, inr}
@@ -12,7 +14,7 @@ use Rattle.std.proofs.lemmas.List.{get_or-set_other}
 use Rattle.std.proofs.lemmas.Grind.{get_or-set_at}
 use Rattle.recovery.specs.Intents.{meets_by, records_by}
 use Rattle.recovery.proofs.Rooms.{full_here, full_next, meets_is, records_is}
-use Rattle.pma_store.specs.Validating.{AreFound, validated_of, counted_by}
+use Rattle.pma_store.specs.ItemEffects.{AreFound, validated_of, counted_by}
 
 -- by whether the key is there
 pub counted_is : (hmax : ℕ) (m : Map) (u : Update) (c : ItemCounts) → effect_count (effect_of hmax m u) c ≡ counted_by u (contains_key m (key_of u)) c

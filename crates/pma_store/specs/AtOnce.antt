@@ -21,20 +21,20 @@ use Rattle.segment.specs.Rows.{key_at}
 use Rattle.segment.specs.declared.fault.StoreFault.{StoreFault}
 use Rattle.segment_frames.specs.Lists.{held_lists, segments_in}
 use Rattle.station.specs.declared.station.Failed.{Failed}
-use Rattle.veb_index.specs.View.{IndexView, fence_of}
-use Rattle.window_tally.specs.View.{TallyView, IsTally}
+use Rattle.veb_index.specs.IndexView.{IndexView, fence_of}
+use Rattle.window_tally.specs.TallyView.{TallyView, IsTally}
 use Rattle.pma_store.specs.declared.batch.Attempt.{Attempt}
 use Rattle.pma_store.specs.declared.batch.Attempt.TheVariants.{Full, Validated, Done}
 use Rattle.pma_store.specs.declared.validation.Validated.{Validated as ValidatedItems}
 use Rattle.pma_store.specs.declared.batch_scan.BatchScan.{BatchScan}
-use Rattle.pma_store.specs.Answers.{state_in}
+use Rattle.pma_store.specs.StoreAnswers.{state_in}
 use Rattle.pma_store.specs.Batching.{AppliesBatch, done_by}
-use Rattle.pma_store.specs.Calling.{runs_calls}
-use Rattle.pma_store.specs.Validating.{CountsFound, counted_first, ValidatesItems, counts_of, edits_of, flags, kinds_in, kinds_of, there_in}
+use Rattle.pma_store.specs.UpdateCalls.{runs_calls}
+use Rattle.pma_store.specs.ItemEffects.{CountsFound, counted_first, ValidatesItems, counts_of, edits_of, flags, kinds_in, kinds_of, there_in}
 use Rattle.pma_store.specs.Looked.{BelongThere, HasFound}
 use Rattle.pma_store.specs.Once.{AreOneCommit}
 use Rattle.pma_store.specs.Rewrites.{spared_bytes}
-use Rattle.pma_store.specs.Store.{StoreView, limit_of}
+use Rattle.pma_store.specs.StoreView.{StoreView, limit_of}
 
 -- number k of the segments of a batch
 abbrev pub number_of : ℕ → Batch → ℕ → ℕ

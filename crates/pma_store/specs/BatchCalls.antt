@@ -8,12 +8,12 @@ use Rattle.map_model.specs.Array.{segment_for}
 use Rattle.map_model.specs.ArrayState.{ArrayState, next_state}
 use Rattle.map_model.specs.Image.{array_of}
 use Rattle.map_model.specs.Store.{Update, key_of}
-use Rattle.window_tally.specs.View.{TallyView}
-use Rattle.pma_store.specs.Answers.{state_in}
-use Rattle.pma_store.specs.Calling.{asked_calls, runs_calls}
+use Rattle.window_tally.specs.TallyView.{TallyView}
+use Rattle.pma_store.specs.StoreAnswers.{state_in}
+use Rattle.pma_store.specs.UpdateCalls.{asked_calls, runs_calls}
 use Rattle.pma_store.specs.Damaging.{IsNextTally, change_in, picked}
 use Rattle.pma_store.specs.Once.{AreOneCommit, edited_segments}
-use Rattle.pma_store.specs.Store.{StoreView}
+use Rattle.pma_store.specs.StoreView.{StoreView}
 
 -- Segments to which keys of the items belong, in a store of this height: each once, in ascending order, and no more of them than
 -- items.

@@ -4,21 +4,23 @@ use Rattle.station.specs.Bytes.{Touched}
 use Rattle.station.specs.View.{View, Told, EachHeld, Rose}
 use Rattle.station.specs.Steps.{Steps}
 use Rattle.batch_intent.specs.Gate.{IsIntentPlace}
-use Rattle.batch_intent.specs.Means.{has_pending}
+use Rattle.batch_intent.specs.Means.{has_waiting}
 use Rattle.cost_ledger.specs.Potential.{potential_of}
 use Rattle.density_rule.specs.Bounds.{upper_of}
 use Rattle.header_gate.specs.declared.layout.Layout.{Layout}
 use Rattle.header_gate.specs.declared.layout.TheConstants.{INTENT_VERSION}
 use Rattle.map_model.specs.ArrayState.{ArrayState}
 use Rattle.map_model.specs.Image.{array_of, map_of}
-use Rattle.map_model.specs.Items.{ItemCounts, no_items, count_items, first_full, map_after_items, accepts, array_state_after_batch, charge_after_items}
+use Rattle.map_model.specs.Items.{first_full, accepts}
+use Rattle.map_model.specs.ItemWords.{ItemCounts, no_items, count_items, array_state_after_batch, charge_after_items}
+use Rattle.map_model.specs.After.{map_after_items}
 use Rattle.map_model.specs.Store.{Map, Update}
 use Rattle.recovery.specs.Intents.{puts_in}
 use Rattle.segment.specs.declared.fault.StoreFault.{StoreFault}
 use Rattle.segment.specs.declared.fault.StoreFault.TheVariants.{Failed}
 use Rattle.pma_store.specs.declared.answers.Batch.{Batch}
 use Rattle.pma_store.specs.declared.answers.Batch.TheVariants.{Done, Full, NoBatch}
-use Rattle.pma_store.specs.Answers.{state_in}
+use Rattle.pma_store.specs.StoreAnswers.{state_in}
 use Rattle.pma_store.specs.BatchCalls.{CallsBatch, LooksOnce}
 use Rattle.pma_store.specs.Costing.{most_of, updates_cost, WritesSome}
 use Rattle.pma_store.specs.Damaging.{AreFoundTallies, IsMetLooking, IsMetMid}
@@ -26,9 +28,9 @@ use Rattle.pma_store.specs.Looking.{TellsOther}
 use Rattle.pma_store.specs.Meaning.{BecomesMeant}
 use Rattle.pma_store.specs.Once.{AreOneCommit, edited_segments}
 use Rattle.pma_store.specs.Rewrites.{spared_bytes}
-use Rattle.pma_store.specs.Store.{StoreView, StandsOn, LeavesAll, limit_of}
+use Rattle.pma_store.specs.StoreView.{StoreView, StandsOn, LeavesAll, limit_of}
 use Rattle.pma_store.specs.Touching.{IsUpdatePlace}
-use Rattle.pma_store.specs.Validating.{AreFound, counted_all}
+use Rattle.pma_store.specs.ItemEffects.{AreFound, counted_all}
 
 abbrev pub version_of : StoreView → ℕ
 version_of s = s.place.layout.version
@@ -172,7 +174,7 @@ pub record Batches (items : List Update) (result : Result Batch StoreFault) (s t
 pub record AppliesBatch (items : List Update) (result : Result Batch StoreFault) (s t : StoreView) (a b : View) : Type 0 where
   pub batch : Batches items result s t a b
   pub store : OnOk result (StandsOn t b)
-  pub no_intent : OnOk result (EachHeld (λ image. has_pending image ≡ false) b)
+  pub no_intent : OnOk result (EachHeld (λ image. has_waiting image ≡ false) b)
   pub closed : t.closed ≡ s.closed
   pub damaged : IfErr result (λ fault. Told a → fault ≡ Failed)
   pub counted : IfErr result (TellsOther (2 ^ limit_of s))

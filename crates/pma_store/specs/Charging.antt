@@ -1,7 +1,7 @@
 -- What an update is charged, and that it is paid for.
 use Rattle.std.specs.Prelude.{ℕ, ◌+◌, ◌≤◌, if◌then◌else◌, Bool, true, false, Option, Some, None}
 use Rattle.density_rule.specs.declared.Window.{Window}
-use Rattle.window_tally.specs.View.{TallyView}
+use Rattle.window_tally.specs.TallyView.{TallyView}
 use Rattle.cost_ledger.specs.Potential.{potential_of}
 use Rattle.cost_ledger.specs.Work.{charge_by, IsWork}
 use Rattle.cost_ledger.specs.declared.work.Work.{Work}

@@ -10,12 +10,12 @@ use Rattle.map_model.specs.Array.{segment_at, segment_for}
 use Rattle.map_model.specs.Store.{key_of}
 use Rattle.map_model.specs.Image.{array_of}
 use Rattle.map_model.specs.Store as model
-use Rattle.range_scan.specs.Faults.{IsDamageAt}
+use Rattle.range_scan.specs.SegmentFaults.{IsDamageAt}
 use Rattle.segment.specs.Rows.{key_at, value_of, IsGap}
 use Rattle.segment.specs.declared.fault.StoreFault.{StoreFault}
 use Rattle.segment.specs.declared.fault.StoreFault.TheVariants.{Failed}
 use Rattle.pma_store.specs.declared.update.Location.{Location}
-use Rattle.pma_store.specs.Store.{StoreView}
+use Rattle.pma_store.specs.StoreView.{StoreView}
 
 -- a segment with as many rows as are kept for it, and the place of the update's key there, or where it would stand
 pub record IsLocation (u : model.Update) (s : StoreView) (location : Location) (rows : List Record) : Type 0 where

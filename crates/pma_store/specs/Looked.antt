@@ -24,7 +24,7 @@ use Rattle.segment_frames.specs.Lists.{held_lists, most_segments, segments_in, I
 use Rattle.pma_store.specs.declared.batch_scan.BatchScan.{BatchScan}
 use Rattle.pma_store.specs.BatchCalls.{LooksOnce}
 use Rattle.pma_store.specs.Damaging.{IsMetLooking}
-use Rattle.window_tally.specs.View.{TallyView}
+use Rattle.window_tally.specs.TallyView.{TallyView}
 use Rattle.pma_store.specs.Own.{own_items, FillsAmid, FindsIn}
 use Rattle.pma_store.specs.Once.{AreUsed}
 

@@ -3,11 +3,11 @@ use Rattle.std.specs.Prelude.{◌≡◌, ℕ, ◌+◌, ◌≤◌, false, List, l
 use Rattle.station.specs.View.{View, Told}
 use Rattle.cost_ledger.specs.Ledger.{LedgerView, IsLedger, ledger_bound, noted}
 use Rattle.cost_ledger.specs.Potential.{potential_of}
-use Rattle.map_model.specs.Items.{charge_after_items}
+use Rattle.map_model.specs.ItemWords.{charge_after_items}
 use Rattle.map_model.specs.Store.{Update}
 use Rattle.segment.specs.declared.fault.StoreFault.{StoreFault}
-use Rattle.pma_store.specs.Answers.{state_in}
-use Rattle.pma_store.specs.Store.{StoreView, limit_of}
+use Rattle.pma_store.specs.StoreAnswers.{state_in}
+use Rattle.pma_store.specs.StoreView.{StoreView, limit_of}
 use Rattle.pma_store.specs.declared.metered.Metered.TheInside.{Inside}
 
 -- the store, and the ledger of its session

@@ -7,11 +7,11 @@ use Rattle.header_gate.specs.InPlace.{IsBare}
 use Rattle.map_model.specs.Image.{map_of}
 use Rattle.segment.specs.declared.fault.StoreFault.{StoreFault}
 use Rattle.segment.specs.declared.fault.StoreFault.TheVariants.{Failed}
-use Rattle.pma_store.specs.Answers.{state_in}
-use Rattle.pma_store.specs.Calling.{clear_calls}
+use Rattle.pma_store.specs.StoreAnswers.{state_in}
+use Rattle.pma_store.specs.UpdateCalls.{clear_calls}
 use Rattle.pma_store.specs.Meaning.{MeansNow}
 use Rattle.pma_store.specs.Readying.{clear_cost}
-use Rattle.pma_store.specs.Store.{StoreView}
+use Rattle.pma_store.specs.StoreView.{StoreView}
 use Rattle.pma_store.specs.Touching.{IsClearPlace}
 
 -- A store was settled, or the disk failed.

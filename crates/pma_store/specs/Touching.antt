@@ -8,11 +8,12 @@ use Rattle.header_gate.specs.Header.{layout_in, IsGatePlace}
 use Rattle.header_gate.specs.Places.{copy_place}
 use Rattle.map_model.specs.Image.{RepresentsMap}
 use Rattle.map_model.specs.Regions.{IsSparePlace}
-use Rattle.map_model.specs.Store.{Map, Update, map_after}
+use Rattle.map_model.specs.Store.{Map, Update}
+use Rattle.map_model.specs.After.{map_after}
 use Rattle.redo_journal.specs.Commit.{IsJournalPlace, IsRegionPlace}
 use Rattle.redo_journal.specs.declared.place.Place.{Place}
 use Rattle.redistribute.specs.Rearranged.{IsMovePlace}
-use Rattle.pma_store.specs.Store.{StoreView}
+use Rattle.pma_store.specs.StoreView.{StoreView}
 
 -- a place of the selector, the copies, the journal's gate, the journal, or the regions, which end where the area begins
 abbrev pub IsUpdatePlace : Layout → ℕ → Type 0

@@ -14,18 +14,18 @@ ghost use Rattle.map_model.specs.Array.{segment_at, segment_for};
 ghost use Rattle.map_model.specs.Image.{map_of, array_of};
 ghost use Rattle.map_model.specs.Store.{key_of};
 ghost use Rattle.segment.specs.Rows.{value_of};
-ghost use Rattle.pma_store.specs.Answers.{state_in};
+ghost use Rattle.pma_store.specs.StoreAnswers.{state_in};
 ghost use Rattle.pma_store.specs.AtOnce.{TriesOnce};
 ghost use Rattle.pma_store.specs.BatchCalls.{CallsIntent};
 ghost use Rattle.pma_store.specs.Batching.{AppliesBatch, Batches, IsRefusal, version_of};
 ghost use Rattle.pma_store.specs.Charging.{changes, charge_told, work_by};
 ghost use Rattle.pma_store.specs.Damaging.{IsOrderly};
-ghost use Rattle.pma_store.specs.Items.{CountsAsFound, IsAsFound, IsContradicted, MakesItem, MakesItems};
-ghost use Rattle.pma_store.specs.Validating.{AreAllFound, CountsFound, SumsFound, SumsItem, TalliesFound, counts_of, validated_of, found_at, there_in};
+ghost use Rattle.pma_store.specs.ItemsMade.{CountsAsFound, IsAsFound, IsContradicted, MakesItem, MakesItems};
+ghost use Rattle.pma_store.specs.ItemEffects.{AreAllFound, CountsFound, SumsFound, SumsItem, TalliesFound, counts_of, validated_of, found_at, there_in};
 ghost use Rattle.pma_store.specs.Looking.{TellsOther};
 ghost use Rattle.pma_store.specs.Once.{AreOneCommit};
 ghost use Rattle.pma_store.specs.Locations.{FindsLocation};
-ghost use Rattle.pma_store.specs.Store.{IsOpenOn, limit_of, IsStore, StandsOn};
+ghost use Rattle.pma_store.specs.StoreView.{IsOpenOn, limit_of, IsStore, StandsOn};
 ghost use Rattle.pma_store.specs.Updating.{FitsFormat, update_of};
 
 use crate::answers::{Batch, Outcome, Report, has_changed, work_of};
@@ -65,7 +65,8 @@ impl Store {
         // The store is closed exactly after a fault.
         ensures closed { self.new.closed ≡ is_err result }
         // `Failed` comes only if the count of disk faults rose.
-        ensures failed { IsErrOf result StoreFault.Failed → Rose (S.view station.old).disk_faults (S.view station.new).disk_faults }
+        ensures failed { IsErrOf result StoreFault.Failed →
+            Rose (S.view station.old).disk_faults (S.view station.new).disk_faults }
         // If the station tells its bytes, no other fault comes than `Failed`.
         ensures damaged { IfErr result (λ fault. Told (S.view station.old) → fault ≡ StoreFault.Failed) }
         // A segment that a fault names is below `2^H`, with H the greatest height, a slot below 64, and two counts that it tells
@@ -131,11 +132,10 @@ impl OpenArray {
             return Ok(Batch::NoBatch);
         }
         let most = upper(self.place.layout.height_limit());
-        match self.try_at_once(station, intent, most, rows) {
-            Ok(Attempt::Done(validated)) => Ok(validated.done()),
-            Ok(Attempt::Validated(validated)) => self.run_batch(station, intent, &validated, rows),
-            Ok(Attempt::Full) => Ok(Batch::Full { most }),
-            Err(fault) => Err(fault),
+        match self.try_at_once(station, intent, most, rows)? {
+            Attempt::Done(validated) => Ok(validated.done()),
+            Attempt::Validated(validated) => self.run_batch(station, intent, &validated, rows),
+            Attempt::Full => Ok(Batch::Full { most }),
         }
     }
 
@@ -207,27 +207,29 @@ impl OpenArray {
         requires some { 1 ≤ length intent.now }
         requires fit { T (list_all (fits_item self.old.place.layout.format) intent.now) }
         requires version { INTENT_VERSION ≤ version_of self.old }
-        requires validated { Told (S.view station.old) → Some (counts_of validated.now) ≡ validated_of (limit_of self.old) (map_of (S.view station.old).held) intent.now }
-        requires found { Told (S.view station.old) → AreAllFound (Some validated.now.found) intent.now (map_of (S.view station.old).held) }
-        requires unfit { Told (S.view station.old) → ¬ AreOneCommit self.old.place.layout (state_in self.old (S.view station.old).held) intent.now }
-        requires counted { CountsFound intent.now (there_in validated.now.found) (sum self.old.tally.counts) (upper_of (limit_of self.old)) (counts_of validated.now) }
+        requires validated { Told (S.view station.old) →
+            Some (counts_of validated.now) ≡ validated_of (limit_of self.old) (map_of (S.view station.old).held) intent.now }
+        requires found { Told (S.view station.old) →
+            AreAllFound (Some validated.now.found) intent.now (map_of (S.view station.old).held) }
+        requires unfit { Told (S.view station.old) →
+            ¬ AreOneCommit self.old.place.layout (state_in self.old (S.view station.old).held) intent.now }
+        requires counted { CountsFound intent.now (there_in validated.now.found) (sum self.old.tally.counts)
+            (upper_of (limit_of self.old)) (counts_of validated.now) }
         ensures made { IfOk result (λ done. ¬ IsRefusal done) }
         ensures intent { CallsIntent intent.now self.old (S.view station.old) (S.view station.new) }
         ensures applied { AppliesBatch intent.now result self.old self.new (S.view station.old) (S.view station.new) }
     {
-        match write_intent(station, intent) {
-            Ok(()) => match self.make_items(station, intent, Some(validated.found), rows) {
-                Ok(charge) => Ok(Batch::Done {
-                    stored: validated.stored,
-                    replaced: validated.replaced,
-                    removed: validated.removed,
-                    absent: validated.absent,
-                    charge,
-                }),
-                Err(fault) => Err(fault),
-            },
-            Err(Failed) => Err(StoreFault::Failed),
-        }
+        let Ok(()) = write_intent(station, intent) else {
+            return Err(StoreFault::Failed);
+        };
+        let charge = self.make_items(station, intent, Some(validated.found), rows)?;
+        Ok(Batch::Done {
+            stored: validated.stored,
+            replaced: validated.replaced,
+            removed: validated.removed,
+            absent: validated.absent,
+            charge,
+        })
     }
 
     /// Makes the items of an intent that is to be applied, closes its gate, and answers the sum of their charges.
@@ -245,8 +247,10 @@ impl OpenArray {
         requires fit { T (list_all (fits_item self.old.place.layout.format) intent.now) }
         requires found { Told (S.view station.old) → AreAllFound found intent.now (map_of (S.view station.old).held) }
         ensures made { MakesItems intent.now result self.old self.new (S.view station.old) (S.view station.new) }
-        ensures sums { OnOk result (SumsFound found intent.now (upper_of (limit_of self.old)) (sum self.old.tally.counts) (sum self.new.tally.counts)) }
-        ensures tallies { OnOk result (TalliesFound found intent.now (upper_of (limit_of self.old)) self.old.tally self.new.tally) }
+        ensures sums { OnOk result (SumsFound found intent.now (upper_of (limit_of self.old)) (sum self.old.tally.counts)
+            (sum self.new.tally.counts)) }
+        ensures tallies { OnOk result (TalliesFound found intent.now (upper_of (limit_of self.old)) self.old.tally
+            self.new.tally) }
     {
         let mut charges = 0;
         for i in 0..intent.len() {
@@ -275,7 +279,8 @@ impl OpenArray {
             (segment_at (array_of (S.view station.old).held) (segment_for (array_of (S.view station.old).held) (key_of (update_of update.now)))))) }
         ensures made { MakesItem (update_of update.now) result self.old self.new (S.view station.old) (S.view station.new) }
         ensures as_found { OnOk result (CountsAsFound found (update_of update.now) self.old.tally self.new.tally) }
-        ensures sums { OnOk result (SumsItem found (update_of update.now) (upper_of (limit_of self.old)) (sum self.old.tally.counts) (sum self.new.tally.counts)) }
+        ensures sums { OnOk result (SumsItem found (update_of update.now) (upper_of (limit_of self.old))
+            (sum self.old.tally.counts) (sum self.new.tally.counts)) }
     {
         let location = self.find_as(station, update, found, rows)?;
         let (outcome, report) = self.apply_at(station, update, location, rows)?;
@@ -303,19 +308,20 @@ impl OpenArray {
         requires found { Told (S.view station.old) →
             IsAsFound found (is_some (value_of (key_of (update_of update.now))
             (segment_at (array_of (S.view station.old).held) (segment_for (array_of (S.view station.old).held) (key_of (update_of update.now)))))) }
-        ensures location { FindsLocation (update_of update.now) result self.old self.new rows.new (S.view station.old) (S.view station.new) }
+        ensures location { FindsLocation (update_of update.now) result self.old self.new rows.new (S.view station.old)
+            (S.view station.new) }
         ensures store { IsStore self.new }
         ensures as_found { IfOk result (λ location. IsAsFound found (is_ok location.found)) }
         ensures contradicted { IfErr result (λ fault. ¬ IsOrderly fault → IsContradicted found (update_of update.now) rows.new) }
     {
-        match self.find_location(station, update, rows) {
-            Ok(location) if is_as_found(location, found) => Ok(location),
-            Ok(location) => Err(StoreFault::Damaged {
+        let location = self.find_location(station, update, rows)?;
+        if !is_as_found(location, found) {
+            return Err(StoreFault::Damaged {
                 segment: location.segment,
                 why: Damage::OutOfOrder,
-            }),
-            Err(fault) => Err(fault),
+            });
         }
+        Ok(location)
     }
 }
 

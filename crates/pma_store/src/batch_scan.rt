@@ -8,7 +8,7 @@ ghost use Rattle.std.specs.List.{list_all};
 ghost use Rattle.station.specs.Bytes.{Same};
 ghost use Rattle.station.specs.Steps.{Steps};
 ghost use Rattle.station.specs.View.{Told, Rose, after_read};
-ghost use Rattle.batch_intent.specs.Items.{update_of};
+ghost use Rattle.batch_intent.specs.ItemView.{update_of};
 ghost use Rattle.batch_intent.specs.Spelling.{IsIntent, fits_item};
 ghost use Rattle.header_gate.specs.InPlace.{IsRecovered};
 ghost use Rattle.header_gate.specs.Paged.{pages_of_all};
@@ -75,7 +75,8 @@ pub(crate) fn find_segments(index: &Index, intent: &Intent, segments: &mut [u32]
     requires { length segments.old ≡ length intent.now }
     ensures size { length segments.new ≡ length intent.now }
     ensures within { (k : ℕ) → k < length intent.now → slice_index_or segments.new k 0 < 2 ^ index.now.height }
-    ensures found { (array : Array) → IsIndexOf index.now array → IsAscending (rows_of array) → BelongThere array segments.new intent.now }
+    ensures found { (array : Array) → IsIndexOf index.now array → IsAscending (rows_of array) →
+        BelongThere array segments.new intent.now }
 {
     for i in 0..intent.len() {
         segments[i as usize] = find_segment(index, update_in(&intent.item(i)).key());
@@ -112,16 +113,21 @@ impl BatchScan {
         requires reach { file_length search.now.place.now.layout ≤ (S.view station.old).fixed.reach }
         requires journal { frames.old.journal ≡ search.now.place.now.layout.journal }
         requires tall { search.now.tally.now.height ≤ height_limit search.now.place.now.layout }
-        requires stands { Told (S.view station.old) → StandsWith search.now.place.now.layout search.now.place.now.region search.now.tally.now.height search.now.tally.now.counts (S.view station.old).held }
+        requires stands { Told (S.view station.old) →
+            StandsWith search.now.place.now.layout search.now.place.now.region search.now.tally.now.height
+            search.now.tally.now.counts (S.view station.old).held }
         requires readable { Told (S.view station.old) → IsRecovered search.now.place.now.layout (S.view station.old).held }
         requires intent { IsIntent search.now.intent.now }
         requires items { T (list_all (fits_item search.now.place.now.layout.format) search.now.intent.now) }
         requires segments { length search.now.segments.now ≡ length search.now.intent.now }
-        requires within { (k : ℕ) → k < length search.now.segments.now → slice_index_or search.now.segments.now k 0 < 2 ^ search.now.tally.now.height }
-        requires belong { Told (S.view station.old) → BelongThere (array_of (S.view station.old).held) search.now.segments.now search.now.intent.now }
+        requires within { (k : ℕ) → k < length search.now.segments.now →
+            slice_index_or search.now.segments.now k 0 < 2 ^ search.now.tally.now.height }
+        requires belong { Told (S.view station.old) →
+            BelongThere (array_of (S.view station.old).held) search.now.segments.now search.now.intent.now }
         requires fresh { self.old.count ≡ 0 }
         requires whole { self.old.whole ≡ true }
-        ensures looks { LooksOver search.now.place.now search.now.tally.now search.now.segments.now search.now.intent.now result frames.new self.new (S.view station.old) (S.view station.new) }
+        ensures looks { LooksOver search.now.place.now search.now.tally.now search.now.segments.now search.now.intent.now result
+            frames.new self.new (S.view station.old) (S.view station.new) }
         ensures turn { frames.new.turn ≡ frames.old.turn }
     {
         frames.start();
@@ -137,13 +143,16 @@ impl BatchScan {
     // Looks for the keys of a segment in its rows, and makes its items in a frame if one of them edits it.
     fn take_in(&mut self, search: &Search, frames: &mut Frames, segment: u32, rows: &mut Segment)
         requires intent { IsIntent search.now.intent.now }
-        requires may { MayLoad search.now.place.now.layout search.now.intent.now search.now.segments.now segment frames.old self.old rows.old }
+        requires may { MayLoad search.now.place.now.layout search.now.intent.now search.now.segments.now segment frames.old
+            self.old rows.old }
         ensures loaded { AreLoaded search.now.place.now.layout.format frames.new self.new (segment + 1) }
         ensures count { self.new.count ≤ self.old.count + 1 }
-        ensures looked { (array : Array) → 0 < length array → IsAscending (rows_of array) → BelongThere array search.now.segments.now search.now.intent.now →
+        ensures looked { (array : Array) → 0 < length array → IsAscending (rows_of array) →
+            BelongThere array search.now.segments.now search.now.intent.now →
             rows.old ≡ segment_at array segment → HasLooked search.now.place.now.layout.format array search.now.segments.now search.now.intent.now frames.old self.old segment →
             HasLooked search.now.place.now.layout.format array search.now.segments.now search.now.intent.now frames.new self.new (segment + 1) }
-        ensures used { (array : Array) → segment < length array → IsAscending (rows_of array) → BelongThere array search.now.segments.now search.now.intent.now →
+        ensures used { (array : Array) → segment < length array → IsAscending (rows_of array) →
+            BelongThere array search.now.segments.now search.now.intent.now →
             rows.old ≡ segment_at array segment → AreUsed search.now.place.now.layout array search.now.intent.now frames.old self.old.whole →
             AreUsed search.now.place.now.layout array search.now.intent.now frames.new self.new.whole }
         ensures journal { frames.new.journal ≡ frames.old.journal }
@@ -164,12 +173,15 @@ impl BatchScan {
         segment: u32,
         rows: &mut Segment,
     ) -> bool
-        requires may { MayLoad search.now.place.now.layout search.now.intent.now search.now.segments.now segment frames.old self.old rows.old }
+        requires may { MayLoad search.now.place.now.layout search.now.intent.now search.now.segments.now segment frames.old
+            self.old rows.old }
         ensures loaded { AreLoaded search.now.place.now.layout.format frames.new self.new (segment + 1) }
         ensures count { self.new.count ≤ self.old.count + 1 }
-        ensures more { result ≡ true → LoadsMore search.now.place.now.layout.format segment (edited_by (own_items segment search.now.segments.now search.now.intent.now) rows.old) frames.old frames.new }
+        ensures more { result ≡ true → LoadsMore search.now.place.now.layout.format segment
+            (edited_by (own_items segment search.now.segments.now search.now.intent.now) rows.old) frames.old frames.new }
         ensures kept { result ≡ false → (frames.new ≡ frames.old) × (self.new ≡ self.old) }
-        ensures short { result ≡ false → LacksRoom search.now.place.now.layout segment search.now.segments.now search.now.intent.now rows.old self.old.count }
+        ensures short { result ≡ false → LacksRoom search.now.place.now.layout segment search.now.segments.now
+            search.now.intent.now rows.old self.old.count }
         ensures journal { frames.new.journal ≡ frames.old.journal }
         ensures turn { frames.new.turn ≡ frames.old.turn }
         ensures found { (self.new.found ≡ self.old.found) × (self.new.whole ≡ self.old.whole) }
@@ -202,12 +214,17 @@ impl<'a> Search<'a> {
         requires reach { file_length self.now.place.now.layout ≤ (S.view station.old).fixed.reach }
         requires segment { segment < 2 ^ self.now.tally.now.height }
         requires tall { self.now.tally.now.height ≤ height_limit self.now.place.now.layout }
-        requires stands { Told (S.view station.old) → StandsWith self.now.place.now.layout self.now.place.now.region self.now.tally.now.height self.now.tally.now.counts (S.view station.old).held }
+        requires stands { Told (S.view station.old) →
+            StandsWith self.now.place.now.layout self.now.place.now.region self.now.tally.now.height self.now.tally.now.counts
+            (S.view station.old).held }
         requires readable { Told (S.view station.old) → IsRecovered self.now.place.now.layout (S.view station.old).held }
-        ensures rows { OnOk result (Told (S.view station.old) → rows.new ≡ segment_at (array_of (S.view station.old).held) segment) }
+        ensures rows { OnOk result (Told (S.view station.old) →
+            rows.new ≡ segment_at (array_of (S.view station.old).held) segment) }
         ensures fits { OnOk result (T (list_all (is_record self.now.place.now.layout.format) rows.new)) }
         ensures steps { Steps Same (S.view station.old) (S.view station.new) }
-        ensures reads { (S.view station.new).travel ≡ after_read (segment_place self.now.place.now.layout self.now.place.now.region segment) (segment_size self.now.place.now.layout) (S.view station.old).travel }
+        ensures reads { (S.view station.new).travel ≡
+            after_read (segment_place self.now.place.now.layout self.now.place.now.region segment)
+            (segment_size self.now.place.now.layout) (S.view station.old).travel }
         ensures calls { (S.view station.new).calls ≤ (S.view station.old).calls + 1 }
         ensures damaged { IfErr result (λ fault. Told (S.view station.old) → fault ≡ Failed) }
         ensures met { IfErr result (λ fault. IsMetLooking self.now.place.now self.now.tally.now fault (S.view station.new)) }
@@ -224,8 +241,10 @@ impl<'a> Search<'a> {
     fn find_items(&self, n: u32, rows: &Segment, found: &mut [Result<u32, u32>])
         requires segments { length self.now.segments.now ≡ length self.now.intent.now }
         requires room { length self.now.intent.now ≤ length found.old }
-        ensures own { (k : ℕ) (d : Update) → k < length self.now.intent.now → slice_index_or self.now.segments.now k 0 ≡ n → FindsIn (key_of (slice_index_or self.now.intent.now k d)) rows.now (slice_index_or found.new k (Err 0)) }
-        ensures others { (k : ℕ) → (slice_index_or self.now.segments.now k 0 ≡ n → ⊥) → slice_index_or found.new k (Err 0) ≡ slice_index_or found.old k (Err 0) }
+        ensures own { (k : ℕ) (d : Update) → k < length self.now.intent.now → slice_index_or self.now.segments.now k 0 ≡ n →
+            FindsIn (key_of (slice_index_or self.now.intent.now k d)) rows.now (slice_index_or found.new k (Err 0)) }
+        ensures others { (k : ℕ) → (slice_index_or self.now.segments.now k 0 ≡ n → ⊥) →
+            slice_index_or found.new k (Err 0) ≡ slice_index_or found.old k (Err 0) }
         ensures size { length found.new ≡ length found.old }
     {
         for i in 0..self.intent.len() {
@@ -240,7 +259,9 @@ impl<'a> Search<'a> {
         requires segments { length self.now.segments.now ≡ length self.now.intent.now }
         requires room { length self.now.intent.now ≤ length found.now }
         ensures some { result ≡ true → HasEdit n self.now.segments.now self.now.intent.now found.now }
-        ensures none { result ≡ false → (k : ℕ) (d : Update) → k < length self.now.intent.now → slice_index_or self.now.segments.now k 0 ≡ n → edits_by (slice_index_or self.now.intent.now k d) (is_ok (slice_index_or found.now k (Err 0))) ≡ false }
+        ensures none { result ≡ false → (k : ℕ) (d : Update) → k < length self.now.intent.now →
+            slice_index_or self.now.segments.now k 0 ≡ n →
+            edits_by (slice_index_or self.now.intent.now k d) (is_ok (slice_index_or found.now k (Err 0))) ≡ false }
     {
         for i in 0..self.intent.len() {
             if self.segments[i as usize] == n
@@ -352,8 +373,11 @@ fn push_pages(frames: &mut Frames, format: u32, segment: u32)
     requires held { IsHeld format frames.old }
     requires room { length frames.old.numbers + format ≤ frames.old.journal }
     requires small { format * (segment + 1) ≤ 2 ^ 16 }
-    requires above { (k : ℕ) → k < length (segments_in format frames.old.numbers) → get_or (segments_in format frames.old.numbers) k 0 < segment }
-    ensures after { frames.new ≡ record frames.old { numbers = pages_of_all format (segments_in format frames.old.numbers ++ segment ∷ []) } }
+    requires above { (k : ℕ) → k < length (segments_in format frames.old.numbers) →
+        get_or (segments_in format frames.old.numbers) k 0 < segment }
+    ensures after { frames.new ≡ record frames.old {
+      numbers = pages_of_all format (segments_in format frames.old.numbers ++ segment ∷ []);
+    } }
     ensures frames { IsFrames frames.new }
 {
     for i in 0..format {

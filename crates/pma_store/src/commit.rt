@@ -16,16 +16,16 @@ ghost use Rattle.map_model.specs.Batches.{IsSegmentImage};
 ghost use Rattle.one_commit.specs.Fitting.{stay_within};
 ghost use Rattle.redo_journal.specs.Commit.{frame_byte};
 ghost use Rattle.redo_journal.specs.Rest.{RestsAt};
-ghost use Rattle.segment_frames.specs.Reading.{HasSegments};
-ghost use Rattle.segment_frames.specs.Standing.{IsSettledAt};
+ghost use Rattle.segment_frames.specs.FrameReading.{HasSegments};
+ghost use Rattle.segment_frames.specs.FrameStanding.{IsSettledAt};
 ghost use Rattle.veb_index.specs.Arrays.{IsIndexOf};
-ghost use Rattle.window_tally.specs.View.{IsTally};
+ghost use Rattle.window_tally.specs.TallyView.{IsTally};
 ghost use Rattle.pma_store.specs.AtOnce.{CommitsEdits, CommitsFrames, RenewsFences};
-ghost use Rattle.pma_store.specs.Calling.{commit_calls};
-ghost use Rattle.pma_store.specs.Counting.{counted};
+ghost use Rattle.pma_store.specs.UpdateCalls.{commit_calls};
+ghost use Rattle.pma_store.specs.SegmentCounts.{counted};
 ghost use Rattle.pma_store.specs.Looked.{AreLoaded};
 ghost use Rattle.pma_store.specs.Rewrites.{Rewrites, HasRewritten, RewritesOne, commit_cost};
-ghost use Rattle.pma_store.specs.Store.{StandsOn};
+ghost use Rattle.pma_store.specs.StoreView.{StandsOn};
 
 use crate::batch_scan::BatchScan;
 use crate::store::OpenArray;
@@ -53,7 +53,8 @@ impl OpenArray {
         requires fits { T (list_all (is_record self.old.place.layout.format) rows.now) }
         requires length { length rows.now ≡ slice_index (counted change segment self.old.tally).counts segment }
         requires some { change ≡ Some Change.Take → 1 ≤ slice_index self.old.tally.counts segment }
-        ensures rewritten { RewritesOne segment rows.now change result self.old self.new (S.view station.old) (S.view station.new) }
+        ensures rewritten { RewritesOne segment rows.now change result self.old self.new (S.view station.old)
+            (S.view station.new) }
         ensures unchanged { OnErr result (self.new ≡ record self.old { turn = self.new.turn }) }
     {
         match commit_rows(station, &self.place, &mut self.frames, segment, rows) {
@@ -84,7 +85,8 @@ fn commit_rows<S: Station>(
     requires settled { EachHeld (HasSegments place.now (segment + 1)) (S.view station.old) }
     requires rests { RestsAt place.now.layout frames.old.turn (S.view station.old) }
     ensures steps { Steps (Rewrites place.now segment rows.now) (S.view station.old) (S.view station.new) }
-    ensures laid { OnOk result (Told (S.view station.old) → HasRewritten segment rows.now (S.view station.old).held (S.view station.new).held) }
+    ensures laid { OnOk result (Told (S.view station.old) →
+        HasRewritten segment rows.now (S.view station.old).held (S.view station.new).held) }
     ensures rests { OnOk result (RestsAt place.now.layout frames.new.turn (S.view station.new)) }
     ensures journal { frames.new.journal ≡ frames.old.journal }
     ensures cost { (S.view station.new).travel.written ≤ (S.view station.old).travel.written + commit_cost place.now.layout }
@@ -124,7 +126,8 @@ fn renew_fence(index: &mut Index, segment: u32, rows: &Segment)
     requires { segment < 2 ^ index.old.height }
     ensures hmax { index.new.hmax ≡ index.old.hmax }
     ensures height { index.new.height ≡ index.old.height }
-    ensures index { (segments : Array) → IsIndexOf index.old segments → (0 < segment → 0 < length rows.now) → IsIndexOf index.new (slice_set segments segment rows.now) }
+    ensures index { (segments : Array) → IsIndexOf index.old segments → (0 < segment → 0 < length rows.now) →
+        IsIndexOf index.new (slice_set segments segment rows.now) }
 {
     match rows.first_key() {
         Some(first) if segment > 0 => index.set_fence(segment, &first),
@@ -177,17 +180,14 @@ pub(crate) fn commit_edits<S: Station>(
     requires balanced { IsBalanced tally.old.height tally.old.counts }
     requires in_store { All (λ c. c.segment < 2 ^ tally.old.height) edits.now.changes.now }
     requires within { stay_within tally.old.height tally.old.counts edits.now.changes.now ≡ true }
-    ensures committed { CommitsEdits place.now edits.now.look.now edits.now.changes.now result frames.old frames.new.turn index.old index.new tally.old tally.new (S.view station.old) (S.view station.new) }
+    ensures committed { CommitsEdits place.now edits.now.look.now edits.now.changes.now result frames.old frames.new.turn
+        index.old index.new tally.old tally.new (S.view station.old) (S.view station.new) }
     ensures journal { frames.new.journal ≡ frames.old.journal }
 {
-    match commit_frames(station, place, frames, edits.look.count) {
-        Ok(()) => {
-            renew_fences(index, frames, place.layout.format, edits.look);
-            count_changes(tally, edits.changes);
-            Ok(())
-        }
-        Err(Failed) => Err(Failed),
-    }
+    commit_frames(station, place, frames, edits.look.count)?;
+    renew_fences(index, frames, place.layout.format, edits.look);
+    count_changes(tally, edits.changes);
+    Ok(())
 }
 
 // Commits the pages in frames, which are those of that many segments. Where there is none, nothing is done.
@@ -205,7 +205,8 @@ fn commit_frames<S: Station>(
     requires below { All (λ n. n < 2 ^ place.now.layout.hmax) frames.old.numbers }
     requires settled { EachHeld (IsSettledAt place.now) (S.view station.old) }
     requires rests { RestsAt place.now.layout frames.old.turn (S.view station.old) }
-    ensures committed { CommitsFrames place.now count result frames.old frames.new.turn (S.view station.old) (S.view station.new) }
+    ensures committed { CommitsFrames place.now count result frames.old frames.new.turn (S.view station.old)
+        (S.view station.new) }
     ensures frames { frames.new ≡ record frames.old { turn = frames.new.turn } }
     ensures turn { OnOk result (frames.old.turn < 2 → frames.new.turn < 2) }
 {

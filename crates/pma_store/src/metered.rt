@@ -17,7 +17,7 @@ ghost use Rattle.pma_store.specs.Damaging.{IsMetFirst, UpdatesAt, is_new};
 ghost use Rattle.pma_store.specs.Looking.{TellsOther, Gets, BeginsSweep, Checks, Probes};
 ghost use Rattle.pma_store.specs.Makes.{Puts, Removes};
 ghost use Rattle.pma_store.specs.Metered.{IsMetered, Notes};
-ghost use Rattle.pma_store.specs.Store.{IsStore, IsOpenOn, limit_of};
+ghost use Rattle.pma_store.specs.StoreView.{IsStore, IsOpenOn, limit_of};
 
 use crate::answers::{Batch, Checked, Put, Report, work_of};
 use crate::store::Store;
@@ -135,7 +135,8 @@ impl Metered {
         // The store is closed exactly after a fault.
         ensures closed { self.new.store.closed ≡ is_err result }
         // `Failed` comes only if the count of disk faults rose.
-        ensures failed { IsErrOf result StoreFault.Failed → Rose (S.view station.old).disk_faults (S.view station.new).disk_faults }
+        ensures failed { IsErrOf result StoreFault.Failed →
+            Rose (S.view station.old).disk_faults (S.view station.new).disk_faults }
         // If the station tells its bytes, no other fault comes than `Failed`.
         ensures damaged { IfErr result (λ fault. Told (S.view station.old) → fault ≡ StoreFault.Failed) }
         // A segment that a fault names is below `2^H`, with H the greatest height, a slot below 64, and two counts that it tells
@@ -145,7 +146,8 @@ impl Metered {
         // of some segment needs a rebalance or a resize first.
         ensures early { IfErr result (IsMetFirst Add self.old.store.tally (S.view station.old) (S.view station.new)) }
         // On every station the update goes by the kept counts and marks, as `UpdatesAt` says.
-        ensures at { UpdatesAt (bind key.now value.now) result (λ done. is_new done.0) (λ done. done.1) self.old.store self.new.store (S.view station.old) (S.view station.new) }
+        ensures at { UpdatesAt (bind key.now value.now) result (λ done. is_new done.0) (λ done. done.1) self.old.store
+            self.new.store (S.view station.old) (S.view station.new) }
         // It is one update, which is noted with its charge if it answers Ok, as `Notes` says.
         ensures notes { Notes (bind key.now value.now ∷ []) result (λ done. 1)
             (λ done. charge_told self.new.store.tally.height (put_changes done.0) done.1) self.old self.new (S.view station.old) }
@@ -175,7 +177,8 @@ impl Metered {
         // The store is closed exactly after a fault.
         ensures closed { self.new.store.closed ≡ is_err result }
         // `Failed` comes only if the count of disk faults rose.
-        ensures failed { IsErrOf result StoreFault.Failed → Rose (S.view station.old).disk_faults (S.view station.new).disk_faults }
+        ensures failed { IsErrOf result StoreFault.Failed →
+            Rose (S.view station.old).disk_faults (S.view station.new).disk_faults }
         // If the station tells its bytes, no other fault comes than `Failed`.
         ensures damaged { IfErr result (λ fault. Told (S.view station.old) → fault ≡ StoreFault.Failed) }
         // A segment that a fault names is below `2^H`, with H the greatest height, a slot below 64, and two counts that it tells
@@ -185,9 +188,11 @@ impl Metered {
         // of some segment needs a rebalance or a resize first.
         ensures early { IfErr result (IsMetFirst Take self.old.store.tally (S.view station.old) (S.view station.new)) }
         // On every station the update goes by the kept counts and marks, as `UpdatesAt` says.
-        ensures at { UpdatesAt (unbind key.now) result (λ done. done.0) (λ done. done.1) self.old.store self.new.store (S.view station.old) (S.view station.new) }
+        ensures at { UpdatesAt (unbind key.now) result (λ done. done.0) (λ done. done.1) self.old.store self.new.store
+            (S.view station.old) (S.view station.new) }
         // It is one update, which is noted with its charge if it answers Ok, as `Notes` says.
-        ensures notes { Notes (unbind key.now ∷ []) result (λ done. 1) (λ done. charge_told self.new.store.tally.height done.0 done.1) self.old self.new (S.view station.old) }
+        ensures notes { Notes (unbind key.now ∷ []) result (λ done. 1) (λ done. charge_told self.new.store.tally.height done.0
+            done.1) self.old self.new (S.view station.old) }
         // On Ok at most `4101 * F` bytes times its charge are written, with F pages a segment, on every station.
         ensures images { IfOk result (λ done. (S.view station.new).travel.written ≤ (S.view station.old).travel.written
             + 4101 * self.old.store.place.layout.format * charge_told self.new.store.tally.height done.0 done.1) }
@@ -216,7 +221,8 @@ impl Metered {
         // The store is closed exactly after a fault.
         ensures closed { self.new.store.closed ≡ is_err result }
         // `Failed` comes only if the count of disk faults rose.
-        ensures failed { IsErrOf result StoreFault.Failed → Rose (S.view station.old).disk_faults (S.view station.new).disk_faults }
+        ensures failed { IsErrOf result StoreFault.Failed →
+            Rose (S.view station.old).disk_faults (S.view station.new).disk_faults }
         // If the station tells its bytes, no other fault comes than `Failed`.
         ensures damaged { IfErr result (λ fault. Told (S.view station.old) → fault ≡ StoreFault.Failed) }
         // A segment that a fault names is below `2^H`, with H the greatest height, a slot below 64, and two counts that it tells
@@ -224,7 +230,8 @@ impl Metered {
         ensures counted { IfErr result (TellsOther (2 ^ limit_of self.old.store)) }
         // If it answers Ok, as many updates as it has items are noted of an accepted batch, with the sum of their charges, and
         // none of a refused one, as `Notes` says.
-        ensures notes { Notes (items_made (version_of self.old.store) (limit_of self.old.store) (map_of (S.view station.old).held) intent.now)
+        ensures notes { Notes (items_made (version_of self.old.store) (limit_of self.old.store) (map_of (S.view station.old).held)
+            intent.now)
             result (made_in (length intent.now)) charge_in self.old self.new (S.view station.old) }
     {
         let done = self.store.batch(station, intent)?;
@@ -245,7 +252,8 @@ impl Metered {
         ensures got { Gets key.now result self.old.store self.new.store (S.view station.old) (S.view station.new) }
         ensures open { OnOk result (IsOpenOn self.new.store (S.view station.new)) }
         // `Failed` comes only if the count of disk faults rose.
-        ensures failed { IsErrOf result StoreFault.Failed → Rose (S.view station.old).disk_faults (S.view station.new).disk_faults }
+        ensures failed { IsErrOf result StoreFault.Failed →
+            Rose (S.view station.old).disk_faults (S.view station.new).disk_faults }
         // If the station tells its bytes, no other fault comes than `Failed`.
         ensures damaged { IfErr result (λ fault. Told (S.view station.old) → fault ≡ StoreFault.Failed) }
         // The ledger stays, with its charges within their bound.
@@ -276,7 +284,8 @@ impl Metered {
         ensures checked { Checks result self.old.store self.new.store (S.view station.old) (S.view station.new) }
         ensures open { OnOk result (IsOpenOn self.new.store (S.view station.new)) }
         // `Failed` comes only if the count of disk faults rose.
-        ensures failed { IsErrOf result StoreFault.Failed → Rose (S.view station.old).disk_faults (S.view station.new).disk_faults }
+        ensures failed { IsErrOf result StoreFault.Failed →
+            Rose (S.view station.old).disk_faults (S.view station.new).disk_faults }
         // If the station tells its bytes, no other fault comes than `Failed`.
         ensures damaged { IfErr result (λ fault. Told (S.view station.old) → fault ≡ StoreFault.Failed) }
         // The ledger stays, with its charges within their bound.

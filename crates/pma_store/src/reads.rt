@@ -11,7 +11,7 @@ ghost use Rattle.map_model.specs.Array.{Array, rows, segment_for};
 ghost use Rattle.range_scan.specs.Sweeping.{first_for, last_for};
 ghost use Rattle.veb_index.specs.Arrays.{IsIndexOf};
 ghost use Rattle.pma_store.specs.Looking.{Gets, BeginsSweep, Checks, Probes};
-ghost use Rattle.pma_store.specs.Store.{IsOpenOn};
+ghost use Rattle.pma_store.specs.StoreView.{IsOpenOn};
 
 use crate::answers::Checked;
 use crate::store::Store;
@@ -36,7 +36,8 @@ impl Store {
         ensures got { Gets key.now result self.old self.new (S.view station.old) (S.view station.new) }
         ensures open { OnOk result (IsOpenOn self.new (S.view station.new)) }
         // `Failed` comes only if the count of disk faults rose.
-        ensures failed { IsErrOf result StoreFault.Failed → Rose (S.view station.old).disk_faults (S.view station.new).disk_faults }
+        ensures failed { IsErrOf result StoreFault.Failed →
+            Rose (S.view station.old).disk_faults (S.view station.new).disk_faults }
         // If the station tells its bytes, no other fault comes than `Failed`.
         ensures damaged { IfErr result (λ fault. Told (S.view station.old) → fault ≡ StoreFault.Failed) }
     {
@@ -90,7 +91,8 @@ impl Store {
         ensures checked { Checks result self.old self.new (S.view station.old) (S.view station.new) }
         ensures open { OnOk result (IsOpenOn self.new (S.view station.new)) }
         // `Failed` comes only if the count of disk faults rose.
-        ensures failed { IsErrOf result StoreFault.Failed → Rose (S.view station.old).disk_faults (S.view station.new).disk_faults }
+        ensures failed { IsErrOf result StoreFault.Failed →
+            Rose (S.view station.old).disk_faults (S.view station.new).disk_faults }
         // If the station tells its bytes, no other fault comes than `Failed`.
         ensures damaged { IfErr result (λ fault. Told (S.view station.old) → fault ≡ StoreFault.Failed) }
     {
@@ -146,7 +148,8 @@ fn copied(bytes: &[u8]) -> Value
 /// The segment to which the key belongs.
 pub(crate) fn find_segment(index: &Index, key: &Key) -> u32
     ensures within { result < 2 ^ index.now.height }
-    ensures found { (segments : Array) → IsIndexOf index.now segments → IsAscending (rows segments) → result ≡ segment_for segments key.now }
+    ensures found { (segments : Array) → IsIndexOf index.now segments → IsAscending (rows segments) →
+        result ≡ segment_for segments key.now }
 {
     search(&mut index.view(), key)
 }
@@ -154,7 +157,8 @@ pub(crate) fn find_segment(index: &Index, key: &Key) -> u32
 /// The segment in which a scan from a lower bound on begins.
 pub(crate) fn first_segment(index: &Index, low: &Option<Key>) -> u32
     ensures within { result < 2 ^ index.now.height }
-    ensures first { (segments : Array) → IsIndexOf index.now segments → IsAscending (rows segments) → result ≡ first_for low.now segments }
+    ensures first { (segments : Array) → IsIndexOf index.now segments → IsAscending (rows segments) →
+        result ≡ first_for low.now segments }
 {
     match low {
         Some(low) => find_segment(index, low),
@@ -167,7 +171,8 @@ pub(crate) fn last_segment(index: &Index, height: u32, high: &Option<Key>) -> u3
     requires height { height ≡ index.now.height }
     requires low { height ≤ 17 }
     ensures within { result < 2 ^ index.now.height }
-    ensures last { (segments : Array) → IsIndexOf index.now segments → IsAscending (rows segments) → result ≡ last_for high.now segments }
+    ensures last { (segments : Array) → IsIndexOf index.now segments → IsAscending (rows segments) →
+        result ≡ last_for high.now segments }
 {
     match high {
         Some(high) => find_segment(index, high),

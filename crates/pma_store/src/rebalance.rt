@@ -14,14 +14,14 @@ ghost use Rattle.map_model.specs.Array.{spread};
 ghost use Rattle.map_model.specs.ArrayState.{report_by};
 ghost use Rattle.map_model.specs.Image.{array_of};
 ghost use Rattle.window_tally.specs.Choice.{pick_of, IsPossible};
-ghost use Rattle.pma_store.specs.Answers.{reported};
-ghost use Rattle.pma_store.specs.Calling.{asked_calls, update_calls, again_calls, ready_calls, spread_calls};
+ghost use Rattle.pma_store.specs.StoreAnswers.{reported};
+ghost use Rattle.pma_store.specs.UpdateCalls.{asked_calls, update_calls, again_calls, ready_calls, spread_calls};
 ghost use Rattle.pma_store.specs.Changing.{IsRested, picked_height, update_cost, LiesIn, LeavesWindow, IsLow, FindsAgain, IsReady, HasReady};
 ghost use Rattle.pma_store.specs.Damaging.{IsMetLate, IsOrderly, IsMetMaking, IsMetMoving};
 ghost use Rattle.pma_store.specs.Readying.{broken_in, ready_cost, resizes, KeepsStore, readied, readied_array, spread_cost};
 ghost use Rattle.pma_store.specs.Rewrites.{commit_cost};
 ghost use Rattle.pma_store.specs.Locations.{IsLocation, IsOwn, FindsLocation};
-ghost use Rattle.pma_store.specs.Store.{IsStore, StandsOn};
+ghost use Rattle.pma_store.specs.StoreView.{IsStore, StandsOn};
 ghost use Rattle.pma_store.specs.Touching.{IsPlaceAfter};
 ghost use Rattle.pma_store.specs.Updating.{update_of, need_of};
 ghost use Rattle.pma_store.specs.declared.update.Need.TheVariants as need;
@@ -47,10 +47,13 @@ impl OpenArray {
     pub(crate) fn pick(&self, segment: u32, change: Change) -> Pick
         requires segment { segment < 2 ^ self.now.tally.height }
         requires some { change ≡ Change.Take → 1 ≤ slice_index self.now.tally.counts segment }
-        ensures answer { result ≡ pick_of self.now.tally.hmax self.now.tally.height segment change (broken_in change segment self.now.tally) }
+        ensures answer { result ≡ pick_of self.now.tally.hmax self.now.tally.height segment change
+            (broken_in change segment self.now.tally) }
         ensures possible { IsPossible self.now.tally result }
         ensures few { change ≡ Change.Add → result ≢ Pick.AtLimit → sum self.now.tally.counts < upper_of self.now.tally.hmax }
-        ensures cause { (window : Window) (n : ℕ) → result ≡ Pick.Spread window → mark_of self.now.tally.marks (window.height - 1) (segment / 2 ^ (window.height - 1)) ≡ Some n → 2 ^ (window.height - 1) ≤ n }
+        ensures cause { (window : Window) (n : ℕ) → result ≡ Pick.Spread window →
+            mark_of self.now.tally.marks (window.height - 1) (segment / 2 ^ (window.height - 1)) ≡ Some n →
+            2 ^ (window.height - 1) ≤ n }
     {
         self.tally.pick(segment, change)
     }
@@ -58,15 +61,22 @@ impl OpenArray {
     // What is reported of a change of a segment that asks for this.
     pub(crate) fn report(&self, segment: u32, change: Change, pick: Pick) -> Report
         requires segment { segment < 2 ^ self.now.tally.height }
-        requires pick { pick ≡ pick_of self.now.tally.hmax self.now.tally.height segment change (broken_in change segment self.now.tally) }
+        requires pick { pick ≡ pick_of self.now.tally.hmax self.now.tally.height segment change
+            (broken_in change segment self.now.tally) }
         requires possible { IsPossible self.now.tally pick }
         requires room { pick ≢ Pick.AtLimit }
-        requires cause { (window : Window) (n : ℕ) → pick ≡ Pick.Spread window → mark_of self.now.tally.marks (window.height - 1) (segment / 2 ^ (window.height - 1)) ≡ Some n → 2 ^ (window.height - 1) ≤ n }
-        ensures report { reported result ≡ report_by self.now.tally.height segment (broken_in change segment self.now.tally) self.now.tally.marks }
+        requires cause { (window : Window) (n : ℕ) → pick ≡ Pick.Spread window →
+            mark_of self.now.tally.marks (window.height - 1) (segment / 2 ^ (window.height - 1)) ≡ Some n →
+            2 ^ (window.height - 1) ≤ n }
+        ensures report { reported result ≡ report_by self.now.tally.height segment (broken_in change segment self.now.tally)
+            self.now.tally.marks }
         ensures rested { IsRested result }
         ensures resized { result.resized ≡ resizes pick }
-        ensures calls { asked_calls self.now.place.layout self.now.tally.height pick ≤ update_calls self.now.place.layout self.now.tally.height (picked_height self.now.tally.height pick) result }
-        ensures cost { ready_cost self.now.place.layout self.now.tally.height pick + commit_cost self.now.place.layout ≤ update_cost self.now.place.layout (picked_height self.now.tally.height pick) result }
+        ensures calls { asked_calls self.now.place.layout self.now.tally.height pick ≤ update_calls self.now.place.layout
+            self.now.tally.height (picked_height self.now.tally.height pick) result }
+        ensures cost { ready_cost self.now.place.layout self.now.tally.height pick +
+            commit_cost self.now.place.layout ≤ update_cost self.now.place.layout (picked_height self.now.tally.height pick)
+            result }
     {
         match pick {
             Pick::Fits | Pick::AtLimit => QUIET,
@@ -98,17 +108,23 @@ impl OpenArray {
         requires location { IsLocation (update_of update.now) self.old location rows.old }
         requires own { Told (S.view station.old) → IsOwn (update_of update.now) location rows.old (S.view station.old).held }
         requires needs { need_of (update_of update.now) (is_ok location.found) ≡ need.Change plan.change }
-        requires pick { plan.pick ≡ pick_of self.old.tally.hmax self.old.tally.height location.segment plan.change (broken_in plan.change location.segment self.old.tally) }
+        requires pick { plan.pick ≡ pick_of self.old.tally.hmax self.old.tally.height location.segment plan.change
+            (broken_in plan.change location.segment self.old.tally) }
         requires possible { IsPossible self.old.tally plan.pick }
         requires room { plan.pick ≢ Pick.AtLimit }
         ensures kept { KeepsStore result (ready_cost self.old.place.layout self.old.tally.height plan.pick)
             (ready_calls self.old.place.layout self.old.tally.height plan.pick + again_calls plan.pick)
             self.old self.new (S.view station.old) (S.view station.new) }
-        ensures place { OnOk result (IsPlaceAfter (resizes plan.pick) self.old self.new (S.view station.old) (S.view station.new)) }
-        ensures ready { IfOk result (λ next. IsReady (update_of update.now) plan.change location.segment self.old self.new next rows.new) }
-        ensures own { IfOk result (λ next. Told (S.view station.old) → HasReady (update_of update.now) plan.change location.segment self.old next rows.new (S.view station.old).held (S.view station.new).held) }
+        ensures place { OnOk result (IsPlaceAfter (resizes plan.pick) self.old self.new (S.view station.old)
+            (S.view station.new)) }
+        ensures ready { IfOk result (λ next. IsReady (update_of update.now) plan.change location.segment self.old self.new next
+            rows.new) }
+        ensures own { IfOk result (λ next. Told (S.view station.old) →
+            HasReady (update_of update.now) plan.change location.segment self.old next rows.new (S.view station.old).held
+            (S.view station.new).held) }
         ensures asks { OnErr result (IsSome (broken_in plan.change location.segment self.old.tally)) }
-        ensures late { IfErr result (λ fault. IsMetLate plan.change location.segment self.old self.new fault (S.view station.new)) }
+        ensures late { IfErr result (λ fault. IsMetLate plan.change location.segment self.old self.new fault
+            (S.view station.new)) }
     {
         if plan.pick == Pick::Fits {
             return Ok(location);
@@ -126,12 +142,17 @@ impl OpenArray {
         pick: Pick,
     ) -> Result<(), StoreFault>
         requires on { StandsOn self.old (S.view station.old) }
-        requires pick { pick ≡ pick_of self.old.tally.hmax self.old.tally.height segment change (broken_in change segment self.old.tally) }
+        requires pick { pick ≡ pick_of self.old.tally.hmax self.old.tally.height segment change
+            (broken_in change segment self.old.tally) }
         requires possible { IsPossible self.old.tally pick }
         requires room { pick ≢ Pick.AtLimit }
-        ensures kept { KeepsStore result (ready_cost self.old.place.layout self.old.tally.height pick) (ready_calls self.old.place.layout self.old.tally.height pick) self.old self.new (S.view station.old) (S.view station.new) }
+        ensures kept { KeepsStore result (ready_cost self.old.place.layout self.old.tally.height pick)
+            (ready_calls self.old.place.layout self.old.tally.height pick) self.old self.new (S.view station.old)
+            (S.view station.new) }
         ensures place { OnOk result (IsPlaceAfter (resizes pick) self.old self.new (S.view station.old) (S.view station.new)) }
-        ensures array { OnOk result (Told (S.view station.old) → array_of (S.view station.new).held ≡ readied_array change segment self.old.tally (array_of (S.view station.old).held)) }
+        ensures array { OnOk result (Told (S.view station.old) →
+            array_of (S.view station.new).held ≡ readied_array change segment self.old.tally
+            (array_of (S.view station.old).held)) }
         ensures making { IfErr result (λ fault. (fault ≡ StoreFault.Failed) ⊎ IsMetMaking pick self.old.tally fault) }
         ensures tally { OnOk result (self.new.tally ≡ readied change segment self.old.tally) }
     {
@@ -153,9 +174,11 @@ impl OpenArray {
         requires on { StandsOn self.old (S.view station.old) }
         requires window { IsWindow self.old.tally.height window.height window.number }
         requires larger { 1 ≤ window.height }
-        ensures kept { KeepsStore result (spread_cost self.old.place.layout window.height) (spread_calls self.old.place.layout window.height) self.old self.new (S.view station.old) (S.view station.new) }
+        ensures kept { KeepsStore result (spread_cost self.old.place.layout window.height)
+            (spread_calls self.old.place.layout window.height) self.old self.new (S.view station.old) (S.view station.new) }
         ensures moving { IfErr result (λ fault. (fault ≡ StoreFault.Failed) ⊎ IsMetMoving window self.old.tally.counts fault) }
-        ensures array { OnOk result (Told (S.view station.old) → array_of (S.view station.new).held ≡ spread (array_of (S.view station.old).held) window.height window.number) }
+        ensures array { OnOk result (Told (S.view station.old) →
+            array_of (S.view station.new).held ≡ spread (array_of (S.view station.old).held) window.height window.number) }
         ensures tally { OnOk result (self.new.tally ≡ record self.old.tally {
           counts = spread_counts self.old.tally.counts window.height window.number;
           marks = spread_marks self.old.tally.height window.height window.number self.old.tally.marks;
@@ -182,22 +205,26 @@ impl OpenArray {
         plan: Plan,
     ) -> Result<Location, StoreFault>
         requires on { StandsOn self.old (S.view station.old) }
-        requires again { Told (S.view station.old) → FindsAgain (update_of update.now) plan.change plan.pick (array_of (S.view station.old).held) }
+        requires again { Told (S.view station.old) →
+            FindsAgain (update_of update.now) plan.change plan.pick (array_of (S.view station.old).held) }
         requires low { IsLow plan.pick }
         ensures store { IsStore self.new }
-        ensures found { FindsLocation (update_of update.now) result self.old self.new rows.new (S.view station.old) (S.view station.new) }
+        ensures found { FindsLocation (update_of update.now) result self.old self.new rows.new (S.view station.old)
+            (S.view station.new) }
         ensures lies { IfOk result (λ location. LiesIn plan.pick location.segment) }
-        ensures needs { IfOk result (λ location. need_of (update_of update.now) (is_ok location.found) ≡ need.Change plan.change) }
-        ensures out { IfErr result (λ fault. ¬ IsOrderly fault → LeavesWindow (update_of update.now) plan.change plan.pick self.new rows.new) }
+        ensures needs { IfOk result (λ location. need_of (update_of update.now) (is_ok location.found) ≡
+            need.Change plan.change) }
+        ensures out { IfErr result (λ fault. ¬ IsOrderly fault →
+            LeavesWindow (update_of update.now) plan.change plan.pick self.new rows.new) }
     {
-        match self.find_location(station, update, rows) {
-            Ok(location) if fits_again(update, location, plan) => Ok(location),
-            Ok(location) => Err(StoreFault::Damaged {
+        let location = self.find_location(station, update, rows)?;
+        if !fits_again(update, location, plan) {
+            return Err(StoreFault::Damaged {
                 segment: location.segment,
                 why: Damage::OutOfOrder,
-            }),
-            Err(fault) => Err(fault),
+            });
         }
+        Ok(location)
     }
 }
 
@@ -213,7 +240,8 @@ fn updates_in(tally: &Tally, window: Window) -> Option<u64>
 // Whether a location lies where it may, and the update asks for the same change there.
 fn fits_again(update: &Update, location: Location, plan: Plan) -> bool
     requires { IsLow plan.pick }
-    ensures { IsTrue result ↔ (LiesIn plan.pick location.segment × (need_of (update_of update.now) (is_ok location.found) ≡ need.Change plan.change)) }
+    ensures { IsTrue result ↔ (LiesIn plan.pick location.segment ×
+        (need_of (update_of update.now) (is_ok location.found) ≡ need.Change plan.change)) }
 {
     let need = update.need(location.found.is_ok());
     lies_in(plan.pick, location.segment) && need == Need::Change(plan.change)

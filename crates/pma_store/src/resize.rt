@@ -14,10 +14,10 @@ ghost use Rattle.header_gate.specs.InPlace.{IsBare};
 ghost use Rattle.header_gate.specs.declared.layout.TheConstants.{PAIRED};
 ghost use Rattle.map_model.specs.Array.{resized};
 ghost use Rattle.map_model.specs.Image.{array_of};
-ghost use Rattle.pma_store.specs.Calling.{clear_calls, copying_calls, resize_calls};
+ghost use Rattle.pma_store.specs.UpdateCalls.{clear_calls, copying_calls, resize_calls};
 ghost use Rattle.pma_store.specs.Damaging.{IsMetAmong};
 ghost use Rattle.pma_store.specs.Readying.{clear_cost, copying_cost, resize_cost, KeepsStore};
-ghost use Rattle.pma_store.specs.Store.{StandsOn};
+ghost use Rattle.pma_store.specs.StoreView.{StandsOn};
 ghost use Rattle.pma_store.specs.Touching.{IsClearPlace, IsPlaceAfter};
 
 use crate::store::OpenArray;
@@ -29,11 +29,13 @@ impl OpenArray {
     // Sees to it that nothing is pending and no page is to be replayed over the live region.
     pub(crate) fn clear<S: Station>(&mut self, station: &mut S) -> Result<(), StoreFault>
         requires on { StandsOn self.old (S.view station.old) }
-        ensures kept { KeepsStore result (clear_cost self.old.place.layout) (clear_calls self.old.place.layout) self.old self.new (S.view station.old) (S.view station.new) }
+        ensures kept { KeepsStore result (clear_cost self.old.place.layout) (clear_calls self.old.place.layout) self.old self.new
+            (S.view station.old) (S.view station.new) }
         ensures touched { Steps (Touched (IsClearPlace self.old.place.layout)) (S.view station.old) (S.view station.new) }
         ensures unread { (S.view station.new).travel.read ≡ (S.view station.old).travel.read }
         ensures untouched { self.old.place.layout.version ≢ PAIRED → station.new ≡ station.old }
-        ensures array { OnOk result (Told (S.view station.old) → array_of (S.view station.new).held ≡ array_of (S.view station.old).held) }
+        ensures array { OnOk result (Told (S.view station.old) →
+            array_of (S.view station.new).held ≡ array_of (S.view station.old).held) }
         ensures nothing { OnOk result (NothingPending (S.view station.new)) }
         ensures bare { OnOk result (Told (S.view station.new) → IsBare self.old.place.layout (S.view station.new).held) }
         ensures turned { self.new ≡ record self.old { turn = self.new.turn } }
@@ -52,7 +54,8 @@ impl OpenArray {
             self.old self.new (S.view station.old) (S.view station.new) }
         ensures among { IfErr result (λ fault. (fault ≡ StoreFault.Failed) ⊎ IsMetAmong self.old.tally fault) }
         ensures place { OnOk result (IsPlaceAfter true self.old self.new (S.view station.old) (S.view station.new)) }
-        ensures array { OnOk result (Told (S.view station.old) → array_of (S.view station.new).held ≡ resized (array_of (S.view station.old).held) (self.old.tally.height + 1)) }
+        ensures array { OnOk result (Told (S.view station.old) →
+            array_of (S.view station.new).held ≡ resized (array_of (S.view station.old).held) (self.old.tally.height + 1)) }
         ensures tally { OnOk result (self.new.tally ≡ record self.old.tally {
           height = self.old.tally.height + 1;
           counts = resized_counts self.old.tally.counts (self.old.tally.height + 1);
@@ -75,7 +78,8 @@ impl OpenArray {
             self.old self.new (S.view station.old) (S.view station.new) }
         ensures among { IfErr result (λ fault. (fault ≡ StoreFault.Failed) ⊎ IsMetAmong self.old.tally fault) }
         ensures place { OnOk result (IsPlaceAfter true self.old self.new (S.view station.old) (S.view station.new)) }
-        ensures array { OnOk result (Told (S.view station.old) → array_of (S.view station.new).held ≡ resized (array_of (S.view station.old).held) (self.old.tally.height + 1)) }
+        ensures array { OnOk result (Told (S.view station.old) →
+            array_of (S.view station.new).held ≡ resized (array_of (S.view station.old).held) (self.old.tally.height + 1)) }
         ensures tally { OnOk result (self.new.tally ≡ record self.old.tally {
           height = self.old.tally.height + 1;
           counts = resized_counts self.old.tally.counts (self.old.tally.height + 1);
@@ -109,7 +113,8 @@ impl OpenArray {
             self.old self.new (S.view station.old) (S.view station.new) }
         ensures among { IfErr result (λ fault. (fault ≡ StoreFault.Failed) ⊎ IsMetAmong self.old.tally fault) }
         ensures place { OnOk result (IsPlaceAfter true self.old self.new (S.view station.old) (S.view station.new)) }
-        ensures array { OnOk result (Told (S.view station.old) → array_of (S.view station.new).held ≡ resized (array_of (S.view station.old).held) (self.old.tally.height - 1)) }
+        ensures array { OnOk result (Told (S.view station.old) →
+            array_of (S.view station.new).held ≡ resized (array_of (S.view station.old).held) (self.old.tally.height - 1)) }
         ensures tally { OnOk result (self.new.tally ≡ record self.old.tally {
           height = self.old.tally.height - 1;
           counts = resized_counts self.old.tally.counts (self.old.tally.height - 1);
@@ -132,7 +137,8 @@ impl OpenArray {
             self.old self.new (S.view station.old) (S.view station.new) }
         ensures among { IfErr result (λ fault. (fault ≡ StoreFault.Failed) ⊎ IsMetAmong self.old.tally fault) }
         ensures place { OnOk result (IsPlaceAfter true self.old self.new (S.view station.old) (S.view station.new)) }
-        ensures array { OnOk result (Told (S.view station.old) → array_of (S.view station.new).held ≡ resized (array_of (S.view station.old).held) (self.old.tally.height - 1)) }
+        ensures array { OnOk result (Told (S.view station.old) →
+            array_of (S.view station.new).held ≡ resized (array_of (S.view station.old).held) (self.old.tally.height - 1)) }
         ensures tally { OnOk result (self.new.tally ≡ record self.old.tally {
           height = self.old.tally.height - 1;
           counts = resized_counts self.old.tally.counts (self.old.tally.height - 1);

@@ -4,8 +4,8 @@
 
 ghost use Rattle.std.specs.Prelude.{◌≡◌, OnOk, IfErr, IsErrOf};
 ghost use Rattle.station.specs.View.{Told, Rose};
-ghost use Rattle.pma_store.specs.Seeking.{Seeks, SeeksBack};
-ghost use Rattle.pma_store.specs.Store.{IsOpenOn};
+ghost use Rattle.pma_store.specs.StoreSeeks.{Seeks, SeeksBack};
+ghost use Rattle.pma_store.specs.StoreView.{IsOpenOn};
 
 use crate::metered::Metered;
 use crate::reads::{first_segment, last_segment};
@@ -27,7 +27,8 @@ impl Store {
         requires open { IsOpenOn self.old (S.view station.old) }
         ensures sought { Seeks low past high result self.old self.new (S.view station.old) (S.view station.new) }
         ensures open { OnOk result (IsOpenOn self.new (S.view station.new)) }
-        ensures failed { IsErrOf result StoreFault.Failed → Rose (S.view station.old).disk_faults (S.view station.new).disk_faults }
+        ensures failed { IsErrOf result StoreFault.Failed →
+            Rose (S.view station.old).disk_faults (S.view station.new).disk_faults }
         ensures damaged { IfErr result (λ fault. Told (S.view station.old) → fault ≡ StoreFault.Failed) }
     {
         let start = start_bound(low, past);
@@ -62,7 +63,8 @@ impl Store {
         requires open { IsOpenOn self.old (S.view station.old) }
         ensures sought { SeeksBack low past high result self.old self.new (S.view station.old) (S.view station.new) }
         ensures open { OnOk result (IsOpenOn self.new (S.view station.new)) }
-        ensures failed { IsErrOf result StoreFault.Failed → Rose (S.view station.old).disk_faults (S.view station.new).disk_faults }
+        ensures failed { IsErrOf result StoreFault.Failed →
+            Rose (S.view station.old).disk_faults (S.view station.new).disk_faults }
         ensures damaged { IfErr result (λ fault. Told (S.view station.old) → fault ≡ StoreFault.Failed) }
     {
         let end = end_bound(past, high);
@@ -81,7 +83,7 @@ impl Store {
 impl Seek for Metered {
     ghost use Rattle.pma_store.specs.Metered.{MeteredView};
     ghost use Rattle.redo_journal.specs.Rest.{RestsAt};
-    ghost use Rattle.pma_store.specs.Seeking.{StandsIdle, kept_region, unclosed};
+    ghost use Rattle.pma_store.specs.StoreSeeks.{StandsIdle, kept_region, unclosed};
 
     ghost closed = { λ m. m.store.closed };
 

@@ -12,10 +12,10 @@ ghost use Rattle.map_model.specs.Array.{Array, rows};
 ghost use Rattle.map_model.specs.Store.{Map};
 ghost use Rattle.one_commit.specs.Fitting.{changes_in};
 ghost use Rattle.recovery.specs.Intents.{meets_by, puts_in, records_by};
-ghost use Rattle.window_tally.specs.View.{IsTally};
+ghost use Rattle.window_tally.specs.TallyView.{IsTally};
 ghost use Rattle.pma_store.specs.AtOnce.{FitsCommit, IsUnfit};
 ghost use Rattle.pma_store.specs.Batching.{done_by};
-ghost use Rattle.pma_store.specs.Validating.{AreFoundAt, CountsFound, counted_first, counts_in, counts_of, edits_of, flags, kinds_in, kinds_of, validated_of, counted_by, total};
+ghost use Rattle.pma_store.specs.ItemEffects.{AreFoundAt, CountsFound, counted_first, counts_in, counts_of, edits_of, flags, kinds_in, kinds_of, validated_of, counted_by, total};
 ghost use Rattle.pma_store.specs.Looked.{BelongThere, HasFound};
 ghost use Rattle.pma_store.specs.Updating.{update_of};
 
@@ -70,11 +70,14 @@ pub(crate) fn validate_items(
     most: u32,
 ) -> Option<Validated>
     requires { length found.now ≡ 16 }
-    ensures validated { (hmax : ℕ) (m : Map) → most ≡ upper_of hmax → records ≡ len m → AreFoundAt found.now intent.now m → counts_in result ≡ validated_of hmax m intent.now }
-    ensures found { IfSome result (λ validated. (k : ℕ) → k < length intent.now → slice_index_or validated.found k false ≡ is_ok (slice_index_or found.now k (Err 0))) }
+    ensures validated { (hmax : ℕ) (m : Map) → most ≡ upper_of hmax → records ≡ len m → AreFoundAt found.now intent.now m →
+        counts_in result ≡ validated_of hmax m intent.now }
+    ensures found { IfSome result (λ validated. (k : ℕ) → k < length intent.now →
+        slice_index_or validated.found k false ≡ is_ok (slice_index_or found.now k (Err 0))) }
     ensures full { result ≡ None → most < records + puts_in intent.now }
     ensures total { IfSome result (λ validated. total validated ≡ length intent.now) }
-    ensures as_found { IfSome result (λ validated. CountsFound intent.now (λ k. is_ok (slice_index_or found.now k (Err 0))) records most (counts_of validated)) }
+    ensures as_found { IfSome result (λ validated. CountsFound intent.now (λ k. is_ok (slice_index_or found.now k (Err 0)))
+        records most (counts_of validated)) }
 {
     let mut records = records;
     let mut validated = Validated {
@@ -106,7 +109,8 @@ fn count_item(
     requires { total validated.old < 2 ^ 31 }
     ensures room { result ≡ not (meets_by (update_of update.now) present records.old most) }
     ensures records { result ≡ true → records.new ≡ records_by (update_of update.now) present records.old }
-    ensures counts { result ≡ true → counts_of validated.new ≡ counted_by (update_of update.now) present (counts_of validated.old) }
+    ensures counts { result ≡ true → counts_of validated.new ≡
+        counted_by (update_of update.now) present (counts_of validated.old) }
     ensures total { result ≡ true → total validated.new ≡ total validated.old + 1 }
     ensures found { validated.new.found ≡ validated.old.found }
 {
@@ -142,9 +146,11 @@ pub(crate) fn list_fitting(
     requires balanced { IsBalanced tally.now.height tally.now.counts }
     requires segments { length segments.now ≡ length intent.now }
     requires within { (k : ℕ) → k < length segments.now → slice_index_or segments.now k 0 < 2 ^ tally.now.height }
-    requires counted { counts_of validated.now ≡ counted_first intent.now (λ k. is_ok (slice_index_or look.now.found k (Err 0))) (length intent.now) }
+    requires counted { counts_of validated.now ≡ counted_first intent.now (λ k. is_ok (slice_index_or look.now.found k (Err 0)))
+        (length intent.now) }
     ensures most { IfSome result (λ count. count ≤ 16) }
-    ensures fits { IfSome result (λ count. FitsCommit segments.now intent.now look.now validated.now tally.now (take count changes.new)) }
+    ensures fits { IfSome result (λ count. FitsCommit segments.now intent.now look.now validated.now tally.now
+        (take count changes.new)) }
     ensures unfit { result ≡ None → IsUnfit segments.now intent.now look.now validated.now tally.now }
 {
     if !look.whole || u64::from(look.count) > validated.edits() {
@@ -168,7 +174,8 @@ fn list_changes(
     requires segments { length segments.now ≡ length intent.now }
     requires found { length found.now ≡ 16 }
     ensures few { result ≤ length intent.now }
-    ensures in_store { (n : ℕ) → ((k : ℕ) → k < length segments.now → slice_index_or segments.now k 0 < n) → All (λ c. c.segment < n) (take result changes.new) }
+    ensures in_store { (n : ℕ) → ((k : ℕ) → k < length segments.now → slice_index_or segments.now k 0 < n) →
+        All (λ c. c.segment < n) (take result changes.new) }
     ensures kinds { kinds_in (take result changes.new) ≡
         kinds_of intent.now (flags (λ k. is_ok (slice_index_or found.now k (Err 0))) (length intent.now)) }
     ensures listed { (array : Array) (n : ℕ) → 0 < length array → IsAscending (rows array) →

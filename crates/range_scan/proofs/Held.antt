@@ -17,7 +17,7 @@ use Rattle.key_slot.proofs.SegmentLaws.{segment_rows, segment_sound}
 use Rattle.key_slot.proofs.Truth.{first, second}
 use Rattle.header_gate.specs.Places.{IsFormat, page_size, segment_size}
 use Rattle.header_gate.specs.declared.layout.Layout.{Layout}
-use Rattle.map_model.specs.Reasons.{begins_above}
+use Rattle.map_model.specs.FileReasons.{begins_above}
 use Rattle.segment.specs.declared.fault.Damage.TheVariants as damages
 use Rattle.segment.specs.declared.fault.StoreFault.{StoreFault}
 use Rattle.segment.specs.declared.fault.StoreFault.TheVariants as store
@@ -26,10 +26,10 @@ use Rattle.segment.specs.Rows.{value_of}
 use Rattle.segment.specs.Viewed.{IsValidated}
 use Rattle.range_scan.specs.declared.reader.RegionFault.{RegionFault}
 use Rattle.range_scan.specs.declared.reader.RegionFault.TheVariants.{Failed, NotSegment, OutOfOrder}
-use Rattle.range_scan.specs.Faults.{fault_of}
+use Rattle.range_scan.specs.SegmentFaults.{fault_of}
 use Rattle.range_scan.specs.PageView.{page_of}
 use Rattle.range_scan.specs.Pages.{IsFoundDamaged, IsBadSlot}
-use Rattle.range_scan.specs.Reading.{page_in, page_fault, fault_by, Names}
+use Rattle.range_scan.specs.RegionReading.{page_in, page_fault, fault_by, Names}
 use Rattle.range_scan.proofs.Pages.{has_format, format_is}
 
 -- Zeros are a segment without records.

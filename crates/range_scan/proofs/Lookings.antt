@@ -12,12 +12,13 @@ use Rattle.std.specs.FinMap.{is_sorted, entries, entries_sorted}
 use Rattle.std.specs.FinMap.Entries.{below_all, where_key}
 use Rattle.key_slot.specs.Record.{Bytes, Record, key_cmp, IsAscending}
 use Rattle.key_slot.proofs.Truth.{first, second, passed}
-use Rattle.map_model.specs.Scan.{is_below, is_from, is_within}
-use Rattle.range_scan.specs.Seeking.{later, is_at, stands_at, IsIndexPast, first_below}
-use Rattle.range_scan.specs.Seeking.{NoneAhead, is_ahead}
+use Rattle.map_model.specs.Scan.{is_within}
+use Rattle.range_scan.specs.ScanBounds.{is_below, is_from, are_before, are_from}
+use Rattle.range_scan.specs.SeekReads.{later, is_at, stands_at, IsIndexPast, first_below}
+use Rattle.range_scan.specs.SeekReads.{NoneAhead, is_ahead}
 use Rattle.segment.specs.Rows.{key_at}
 use Rattle.range_scan.specs.Sweeping.{first_for}
-use Rattle.range_scan.specs.ReaderView.{ReaderView}
+use Rattle.range_scan.specs.RegionReaderView.{ReaderView}
 use Rattle.range_scan.specs.Checking.{LieAbove}
 use Rattle.range_scan.proofs.Standing.{own, cut_is, four, count_is}
 use Rattle.range_scan.proofs.Amid.{rows_from}
@@ -27,10 +28,9 @@ use Rattle.key_slot.proofs.Ordered.{is_sorted-append}
 use Rattle.header_gate.specs.declared.layout.Layout.{Layout}
 use Rattle.map_model.specs.Array.{Array, rows, cut}
 use Rattle.map_model.specs.Image.{map_of, array_in, array_of}
-use Rattle.map_model.specs.Reasons.{begins_above}
+use Rattle.map_model.specs.FileReasons.{begins_above}
 use Rattle.map_model.specs.Standing.{StandsWith, StandsBalanced}
 use Rattle.map_model.proofs.Reasonings.{own_rows}
-use Rattle.range_scan.specs.Bounds.{are_before, are_from}
 use Rattle.range_scan.proofs.BoundLaws.{within, within_before, within_behind, within_both, from-append, no_both}
 use Rattle.std.proofs.lemmas.List.Elements.{filter-append}
 use Rattle.std.proofs.lemmas.List.{take_all, take-append-drop, length-drop, append-nil, append_assoc}

@@ -14,13 +14,13 @@ use Rattle.key_slot.proofs.Ordered.{is_sorted-append}
 use Rattle.key_slot.proofs.Truth.{both, first, second, passed}
 use Rattle.header_gate.specs.declared.layout.Layout.{Layout}
 use Rattle.map_model.specs.Array.{Array, rows, segment_at}
-use Rattle.map_model.specs.Cursors.{back, is_beyond, record_ahead}
+use Rattle.map_model.specs.Cursors.{back, record_ahead}
 use Rattle.map_model.specs.Image.{array_of}
-use Rattle.map_model.specs.Scan.{is_from, is_below, is_within}
+use Rattle.map_model.specs.Scan.{is_within}
+use Rattle.range_scan.specs.ScanBounds.{is_from, is_below, are_before, are_below, are_behind}
 use Rattle.map_model.specs.Standing.{StandsBalanced}
 use Rattle.segment.specs.Rows.{key_at}
-use Rattle.range_scan.specs.Bounds.{are_before, are_below, are_behind}
-use Rattle.range_scan.specs.Seeking.{earlier, if_from, last_from}
+use Rattle.range_scan.specs.SeekReads.{earlier, if_from, last_from}
 use Rattle.range_scan.specs.Sweeping.{EndsBy, last_for}
 use Rattle.range_scan.proofs.Amid.{rows_from, rows_parted}
 use Rattle.range_scan.proofs.Beginning.{begins_before}
@@ -59,7 +59,7 @@ below_earlier (Some past) (Some high) key = by_bound (is_lt (key_cmp past high))
 
 -- whether a key lies behind: within two bounds, and before a third
 abbrev is_behind : Option Bytes → Option Bytes → Option Bytes → Bytes → Bool
-is_behind low past high key = is_within low high key && is_beyond back past key
+is_behind low past high key = is_within low high key && is_below past key
 
 behind_by : (low past high : Option Bytes) (key : Bytes) → is_behind low past high key ≡ is_within low (earlier past high) key
 behind_by low past high key = by_from (is_from low key)

@@ -6,7 +6,7 @@ use Rattle.header_gate.specs.declared.layout.Layout.{Layout}
 use Rattle.header_gate.specs.Places.{segment_place, segment_size}
 use Rattle.key_slot.specs.Record.{Bytes}
 use Rattle.range_scan.specs.PageView.{pages_of, page_of}
-use Rattle.range_scan.specs.Reading.{page_in}
+use Rattle.range_scan.specs.RegionReading.{page_in}
 use Rattle.range_scan.specs.Running.{pages_in, first_of, read_for, rest_of}
 use Rattle.range_scan.proofs.Pages.{page_filled}
 

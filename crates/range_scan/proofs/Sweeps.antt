@@ -15,8 +15,8 @@ use Rattle.key_slot.proofs.Truth.{second}
 use Rattle.map_model.specs.Array.{cut}
 use Rattle.map_model.specs.Image.{map_of}
 use Rattle.segment.specs.declared.fault.StoreFault.{StoreFault}
-use Rattle.range_scan.specs.Bounds.{are_from, are_before, is_void}
-use Rattle.range_scan.specs.ReaderView.{ReaderView, IsReader}
+use Rattle.range_scan.specs.ScanBounds.{are_from, are_before, is_void}
+use Rattle.range_scan.specs.RegionReaderView.{ReaderView, IsReader}
 use Rattle.range_scan.specs.Running.{IsRun, StepsBy, read_for}
 use Rattle.range_scan.specs.SweepRuns.{IsSweepRun, ReadsRun, allowed, due}
 use Rattle.range_scan.specs.SweepView.{SweepView, IsSweep, GoesOn, validated}

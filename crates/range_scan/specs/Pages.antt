@@ -15,7 +15,7 @@ use Rattle.segment.specs.Validated.{damage_of}
 use Rattle.range_scan.specs.declared.reader.RegionFault.{RegionFault}
 use Rattle.range_scan.specs.declared.reader.RegionFault.TheVariants as regions
 use Rattle.range_scan.specs.PageView.{PageView}
-use Rattle.range_scan.specs.Reading.{page_in}
+use Rattle.range_scan.specs.RegionReading.{page_in}
 use Rattle.range_scan.specs.Running.{first_of, pages_in, read_for, rest_of}
 use Rattle.range_scan.specs.Walk.{after_walk}
 use Rattle.key_slot.specs.Record.{Bytes}

@@ -7,8 +7,8 @@ use Rattle.range_scan.specs.declared.segment_buffer.TheConstants.{RUN_SIZE}
 use Rattle.range_scan.specs.declared.reader.RegionFault.{RegionFault}
 use Rattle.key_slot.specs.Segment.{FitsSegment}
 use Rattle.range_scan.specs.PageView.{PageView}
-use Rattle.range_scan.specs.ReaderView.{ReaderView}
-use Rattle.range_scan.specs.Reading.{last_behind, page_in, page_fault}
+use Rattle.range_scan.specs.RegionReaderView.{ReaderView}
+use Rattle.range_scan.specs.RegionReading.{last_behind, page_in, page_fault}
 
 -- the bytes of that many segments of a region, from one on
 abbrev pub pages_in : Layout → ℕ → List ℕ → ℕ → ℕ → List Bytes

@@ -10,8 +10,8 @@ use Rattle.map_model.specs.Array.{cut}
 use Rattle.map_model.specs.Image.{map_of}
 use Rattle.segment.specs.declared.fault.StoreFault.{StoreFault}
 use Rattle.segment.specs.declared.fault.StoreFault.TheVariants.{Failed}
-use Rattle.range_scan.specs.Bounds.{are_before, is_void}
-use Rattle.range_scan.specs.Faults.{IsDamageAt}
+use Rattle.range_scan.specs.ScanBounds.{are_before, is_void}
+use Rattle.range_scan.specs.SegmentFaults.{IsDamageAt}
 use Rattle.range_scan.specs.SweepView.{SweepView, IsSweep, GoesOn, validated}
 use Rattle.range_scan.specs.Sweeping.{IsSweeping, BeginsThere, between}
 use Rattle.range_scan.specs.SweepRuns.{ReadsRun}

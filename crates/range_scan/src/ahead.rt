@@ -13,7 +13,7 @@ ghost use Rattle.key_slot.specs.Record.{Bytes};
 ghost use Rattle.map_model.specs.Cursors.{onward, record_ahead};
 ghost use Rattle.map_model.specs.Image.{map_of, array_of};
 ghost use Rattle.map_model.specs.Standing.{StandsBalanced};
-ghost use Rattle.range_scan.specs.Seeking.{later, first_below, IsIndexPast, ReadsNear};
+ghost use Rattle.range_scan.specs.SeekReads.{later, first_below, IsIndexPast, ReadsNear};
 ghost use Rattle.range_scan.specs.Sweeping.{first_for};
 
 use crate::counted::{Region, next_counted, segment_count};
@@ -67,7 +67,8 @@ pub fn first_ahead_in<S: Station>(
     requires begins { Told (S.view station.old) → first ≡ first_for look.now.start.now (array_of (S.view station.old).held) }
     // On Ok the record with the least key that isn't below the lower bound, is above `past` and is below `high`, or None if there
     // is none, if the station tells its bytes.
-    ensures row { IfOk result (λ row. Told (S.view station.old) → (low : Option Bytes) → look.now.start.now ≡ later low look.now.past.now →
+    ensures row { IfOk result (λ row. Told (S.view station.old) → (low : Option Bytes) →
+        look.now.start.now ≡ later low look.now.past.now →
         option_map record_of row ≡
         record_ahead onward (record { low = low; high = look.now.high.now; past = look.now.past.now }) (entries (map_of (S.view station.old).held))) }
     // If the station tells its bytes, no segment is found damaged.

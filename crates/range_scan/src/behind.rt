@@ -14,11 +14,9 @@ ghost use Rattle.map_model.specs.Array.{segment_at};
 ghost use Rattle.map_model.specs.Cursors.{back, record_ahead};
 ghost use Rattle.map_model.specs.Image.{map_of, array_of};
 ghost use Rattle.map_model.specs.Standing.{StandsBalanced};
-ghost use Rattle.range_scan.specs.Bounds.{are_below, are_behind};
-ghost use Rattle.range_scan.specs.Faults.{IsDamageAt};
-ghost use Rattle.range_scan.specs.Seeking.{earlier, last_from, ReadsBehind};
+ghost use Rattle.range_scan.specs.ScanBounds.{are_below, are_behind};
+ghost use Rattle.range_scan.specs.SeekReads.{earlier, last_from, ReadsBehind, ReadsOne};
 ghost use Rattle.range_scan.specs.Sweeping.{last_for};
-ghost use Rattle.range_scan.specs.Walk.{after_walk};
 
 use crate::counted::{Region, kept_count};
 use crate::segment_buffer::SegmentBuffer;
@@ -101,17 +99,17 @@ fn read_below<S: Station>(
     requires stands { Told (S.view station.old) →
         StandsBalanced region.now.layout.now region.now.number region.now.tally.now.height region.now.tally.now.counts (S.view station.old).held }
     requires readable { Told (S.view station.old) → IsRecovered region.now.layout.now (S.view station.old).held }
-    ensures rows { OnOk result (Told (S.view station.old) → page.new.rows ≡ segment_at (array_of (S.view station.old).held) segment) }
+    ensures rows { OnOk result (Told (S.view station.old) →
+        page.new.rows ≡ segment_at (array_of (S.view station.old).held) segment) }
     ensures within { IfOk result (λ index. index ≤ length page.new.rows) }
     ensures below { IfOk result (λ index. T (are_below end.now (take index page.new.rows))) }
     ensures behind { IfOk result (λ index. T (are_behind end.now (drop index page.new.rows))) }
-    ensures causes { IfErr result (IsDamageAt segment region.now.tally.now.counts) }
-    ensures damaged { IfErr result (λ fault. Told (S.view station.old) → fault ≡ StoreFault.Failed) }
-    ensures failed { IsErrOf result StoreFault.Failed → Rose (S.view station.old).disk_faults (S.view station.new).disk_faults }
-    ensures steps { Steps Same (S.view station.old) (S.view station.new) }
-    ensures reads { (S.view station.new).travel ≡
-        after_walk region.now.layout.now region.now.number segment (segment + 1) (S.view station.old).travel }
-    ensures calls { (S.view station.new).calls ≤ (S.view station.old).calls + 1 }
+    ensures reads { ReadsOne (record {
+      layout = region.now.layout.now;
+      region = region.now.number;
+      height = region.now.tally.now.height;
+      counts = region.now.tally.now.counts;
+    }) segment result (S.view station.old) (S.view station.new) }
 {
     let kept = kept_count(region.tally, segment);
     page.read(station, region.layout, region.number, segment, kept)?;

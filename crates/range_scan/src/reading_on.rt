@@ -6,7 +6,7 @@ ghost use Rattle.station.specs.View.{Told};
 ghost use Rattle.map_model.specs.Image.{map_of};
 ghost use Rattle.map_model.specs.Array.{cut, segment_at};
 ghost use Rattle.map_model.specs.Scan.{scanned};
-ghost use Rattle.range_scan.specs.Bounds.{are_before, is_void};
+ghost use Rattle.range_scan.specs.ScanBounds.{are_before, is_void};
 
 use crate::counted::{kept_count, take_counted};
 use crate::sweep::{Sweep, start_in};
@@ -23,7 +23,9 @@ impl<'a> Sweep<'a> {
     // Reads on until a record is kept, or none is left to be read.
     pub(crate) fn fill<S: Station>(&mut self, station: &mut S) -> Result<(), StoreFault>
         requires can { CanReadOn self.old (S.view station.old) }
-        ensures kept { OnOk result (Told (S.view station.old) → self.new.kept ≡ [] → scanned self.new.low self.new.high (self.new.limit - self.new.given) (ahead self.new (entries (map_of (S.view station.old).held))) ≡ []) }
+        ensures kept { OnOk result (Told (S.view station.old) → self.new.kept ≡ [] →
+            scanned self.new.low self.new.high (self.new.limit - self.new.given) (ahead self.new
+            (entries (map_of (S.view station.old).held))) ≡ []) }
         ensures given { self.new.given ≡ self.old.given }
         ensures sweeps { SweepsOn result self.old self.new (S.view station.old) (S.view station.new) }
         ensures idle { 0 < length self.old.kept → self.new ≡ self.old }
@@ -47,7 +49,9 @@ impl<'a> Sweep<'a> {
         ensures all_below { IfOk result (λ more. more ≡ true → Told (S.view station.old) → self.new.kept ≡ [] →
             T (are_before self.old.low (segment_at (cut self.old.tally.counts (entries (map_of (S.view station.old).held))) (validated self.old)))) }
         ensures no_more { IfOk result (λ more. more ≡ false → self.new ≡ self.old) }
-        ensures used_up { IfOk result (λ more. more ≡ false → Told (S.view station.old) → scanned self.new.low self.new.high (self.new.limit - self.new.given) (ahead self.new (entries (map_of (S.view station.old).held))) ≡ []) }
+        ensures used_up { IfOk result (λ more. more ≡ false → Told (S.view station.old) →
+            scanned self.new.low self.new.high (self.new.limit - self.new.given) (ahead self.new
+            (entries (map_of (S.view station.old).held))) ≡ []) }
         ensures given { self.new.given ≡ self.old.given }
         ensures sweeps { SweepsOn result self.old self.new (S.view station.old) (S.view station.new) }
         ensures stops { IfErr result (λ fault. StopsSweep fault self.old self.new (S.view station.old) (S.view station.new)) }
@@ -73,7 +77,8 @@ impl<'a> Sweep<'a> {
     // How many segments it reads at once, where none was read along and there are more.
     fn run(&self) -> u32
         requires wanting { self.now.given < self.now.limit }
-        ensures { self.now.along ≡ [] → self.now.reader.next < self.now.reader.end → IsSweepRun self.now self.now.reader.next result }
+        ensures { self.now.along ≡ [] → self.now.reader.next < self.now.reader.end →
+            IsSweepRun self.now self.now.reader.next result }
     {
         let next = self.reader.next_number();
         if self.page.along() > 0 || next == self.reader.end_number() {
@@ -95,7 +100,8 @@ impl<'a> Sweep<'a> {
         requires more { self.now.reader.next < self.now.reader.end }
         ensures run { IsRun self.now.reader.layout self.now.reader.next self.now.reader.end result }
         ensures few { self.now.reader.next + result ≤ allowed self.now self.now.reader.next }
-        ensures whole { (¬ IsRun self.now.reader.layout self.now.reader.next self.now.reader.end (result + 1)) ⊎ (allowed self.now self.now.reader.next ≤ self.now.reader.next + result) }
+        ensures whole { (¬ IsRun self.now.reader.layout self.now.reader.next self.now.reader.end (result + 1)) ⊎
+            (allowed self.now self.now.reader.next ≤ self.now.reader.next + result) }
     {
         let run = self.reader.run();
         let next = self.reader.next_number();

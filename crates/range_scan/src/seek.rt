@@ -10,7 +10,7 @@ ghost use Rattle.header_gate.specs.Places.{file_length};
 ghost use Rattle.key_slot.specs.Row.{record_of};
 ghost use Rattle.map_model.specs.Image.{map_of};
 ghost use Rattle.map_model.specs.Cursors.{onward, back, record_ahead};
-ghost use Rattle.range_scan.specs.Seeking.{later, earlier, ReadsNear, ReadsBehind};
+ghost use Rattle.range_scan.specs.SeekReads.{later, earlier, ReadsNear, ReadsBehind};
 
 use key_slot::{Key, Row};
 use segment::StoreFault;
@@ -19,7 +19,7 @@ use station::Station;
 /// A store in which the record next to a key can be looked for.
 pub trait Seek {
     ghost use Rattle.std.specs.Prelude.{ℕ, Bool, List};
-    ghost use Rattle.range_scan.specs.Seeking.{KeptRegion};
+    ghost use Rattle.range_scan.specs.SeekReads.{KeptRegion};
 
     /// Whether an earlier call answered a fault.
     ghost closed: { Self → Bool };
@@ -59,7 +59,8 @@ pub trait Seek {
         // If the station tells its bytes, no segment is found damaged.
         ensures damaged { IfErr result (λ fault. Told (S.view station.old) → fault ≡ StoreFault.Failed) }
         // `Failed` comes only if the count of disk faults rose.
-        ensures failed { IsErrOf result StoreFault.Failed → Rose (S.view station.old).disk_faults (S.view station.new).disk_faults }
+        ensures failed { IsErrOf result StoreFault.Failed →
+            Rose (S.view station.old).disk_faults (S.view station.new).disk_faults }
         // The store is closed exactly after a failure.
         ensures closed { closed self.new ≡ is_err result }
         // All else that contracts see of the store stays: its region, with height and counts, and its state.
@@ -95,7 +96,8 @@ pub trait Seek {
         // If the station tells its bytes, no segment is found damaged.
         ensures damaged { IfErr result (λ fault. Told (S.view station.old) → fault ≡ StoreFault.Failed) }
         // `Failed` comes only if the count of disk faults rose.
-        ensures failed { IsErrOf result StoreFault.Failed → Rose (S.view station.old).disk_faults (S.view station.new).disk_faults }
+        ensures failed { IsErrOf result StoreFault.Failed →
+            Rose (S.view station.old).disk_faults (S.view station.new).disk_faults }
         // The store is closed exactly after a failure.
         ensures closed { closed self.new ≡ is_err result }
         // All else that contracts see of the store stays: its region, with height and counts, and its state.

@@ -13,7 +13,7 @@ ghost use Rattle.segment.specs.Rows.{value_of};
 ghost use Rattle.segment.specs.Viewed.{IsValidated};
 ghost use Rattle.range_scan.specs.PageView.{page_of};
 ghost use Rattle.range_scan.specs.Pages.{IsBadSlot, IsFoundDamaged, ReadsInto};
-ghost use Rattle.range_scan.specs.Reading.{page_in};
+ghost use Rattle.range_scan.specs.RegionReading.{page_in};
 ghost use Rattle.range_scan.specs.Running.{IsRun, pages_in};
 
 use crate::counted::{Region, kept_count};
@@ -98,8 +98,10 @@ impl SegmentBuffer {
         requires segment { segment < 2 ^ height_limit layout.now }
         requires reach { file_length layout.now ≤ (S.view station.old).fixed.reach }
         // On Ok the page has the records of the segment, and nothing is wrong with its bytes, if the station tells them.
-        ensures rows { OnOk result (Told (S.view station.old) → self.new.rows ≡ segment_of layout.now.format (page_in layout.now region (S.view station.old).held segment)) }
-        ensures sound { OnOk result (Told (S.view station.old) → damage_of layout.now.format (page_in layout.now region (S.view station.old).held segment) kept ≡ None) }
+        ensures rows { OnOk result (Told (S.view station.old) →
+            self.new.rows ≡ segment_of layout.now.format (page_in layout.now region (S.view station.old).held segment)) }
+        ensures sound { OnOk result (Told (S.view station.old) →
+            damage_of layout.now.format (page_in layout.now region (S.view station.old).held segment) kept ≡ None) }
         // On Ok the page has as many records as are kept for the segment, on every station.
         ensures count { OnOk result (length self.new.rows ≡ kept) }
         // Whatever is answered, the records of the page ascend and fit the slot format, on every station.
@@ -110,11 +112,13 @@ impl SegmentBuffer {
         ensures alone { self.new.along ≡ [] }
         // Damage is that of this segment, and exactly what is wrong with it if the station tells its bytes; `Failed` comes only
         // if the count of disk faults rose.
-        ensures damaged { IfErr result (λ fault. IsFoundDamaged layout.now region segment kept fault (S.view station.old) (S.view station.new)) }
+        ensures damaged { IfErr result (λ fault. IsFoundDamaged layout.now region segment kept fault (S.view station.old)
+            (S.view station.new)) }
         // No byte changes.
         ensures steps { Steps Same (S.view station.old) (S.view station.new) }
         // The segment is read once, by at most one call.
-        ensures reads { (S.view station.new).travel ≡ after_read (segment_place layout.now region segment) (segment_size layout.now) (S.view station.old).travel }
+        ensures reads { (S.view station.new).travel ≡
+            after_read (segment_place layout.now region segment) (segment_size layout.now) (S.view station.old).travel }
         ensures calls { (S.view station.new).calls ≤ (S.view station.old).calls + 1 }
     {
         self.load(station, layout, region, segment, 1)?;
@@ -147,7 +151,8 @@ impl SegmentBuffer {
         ensures none { IfOk result (λ found. IfNone found (Told (S.view station.old) →
             value_of key.now (segment_of region.now.layout.now.format (page_in region.now.layout.now region.now.number (S.view station.old).held segment)) ≡ None)) }
         // On every station the key and a value that is found fit a slot of the format.
-        ensures fits { IfOk result (λ found. IfSome found (λ value. T (is_record region.now.layout.now.format (key.now, value.now)))) }
+        ensures fits { IfOk result (λ found. IfSome found
+            (λ value. T (is_record region.now.layout.now.format (key.now, value.now)))) }
         // On Ok nothing is wrong with the bytes of the segment, and it has the number of records that is kept, if the station
         // tells them.
         ensures sound { OnOk result (Told (S.view station.old) →
@@ -192,8 +197,10 @@ impl SegmentBuffer {
         requires region { region < 2 }
         requires run { IsRun layout.now segment (2 ^ height_limit layout.now) count }
         requires reach { file_length layout.now ≤ (S.view station.old).fixed.reach }
-        ensures segment { OnOk result (Told (S.view station.old) → IsSegment layout.now.format self.new.rows (page_in layout.now region (S.view station.old).held segment)) }
-        ensures along { OnOk result (Told (S.view station.old) → self.new.along ≡ pages_in layout.now region (S.view station.old).held (segment + 1) (count - 1)) }
+        ensures segment { OnOk result (Told (S.view station.old) →
+            IsSegment layout.now.format self.new.rows (page_in layout.now region (S.view station.old).held segment)) }
+        ensures along { OnOk result (Told (S.view station.old) →
+            self.new.along ≡ pages_in layout.now region (S.view station.old).held (segment + 1) (count - 1)) }
         ensures reading { ReadsInto layout.now region segment count result self.new (S.view station.old) (S.view station.new) }
         ensures bad { IfErr result (IsBadSlot layout.now region segment (S.view station.old) (S.view station.new)) }
     {
@@ -231,11 +238,13 @@ fn read_into<S: Station>(
     requires run { IsRun layout.now segment (2 ^ height_limit layout.now) count }
     requires reach { file_length layout.now ≤ (S.view station.old).fixed.reach }
     ensures validated { IfOk result (λ len. IsValidated len (take (segment_size layout.now) bytes.new)) }
-    ensures filled { OnOk result (Told (S.view station.old) → Filled (segment_place layout.now region segment) (S.view station.old).held bytes.new) }
+    ensures filled { OnOk result (Told (S.view station.old) →
+        Filled (segment_place layout.now region segment) (S.view station.old).held bytes.new) }
     ensures bad { IfErr result (IsBadSlot layout.now region segment (S.view station.old) (S.view station.new)) }
     ensures steps { Steps Same (S.view station.old) (S.view station.new) }
     ensures calls { (S.view station.new).calls ≤ (S.view station.old).calls + 1 }
-    ensures reads { (S.view station.new).travel ≡ after_read (segment_place layout.now region segment) (segment_size layout.now * count) (S.view station.old).travel }
+    ensures reads { (S.view station.new).travel ≡ after_read (segment_place layout.now region segment)
+        (segment_size layout.now * count) (S.view station.old).travel }
 {
     let Ok(()) = station.read_at(layout.segment_at(region, segment), bytes) else {
         return Err(RegionFault::Failed);

@@ -6,10 +6,10 @@ ghost use Rattle.header_gate.specs.Places.{IsLayout, file_length, height_limit};
 ghost use Rattle.key_slot.specs.declared.sizes.TheConstants.{SEGMENT_SLOTS};
 ghost use Rattle.key_slot.specs.Segment.{FitsSegment, IsSegment, first_bad_slot, segment_of};
 ghost use Rattle.segment.specs.Viewed.{IsValidated};
-ghost use Rattle.map_model.specs.Reasons.{begins_above};
+ghost use Rattle.map_model.specs.FileReasons.{begins_above};
 ghost use Rattle.range_scan.specs.PageView.{page_of};
 ghost use Rattle.range_scan.specs.Pages.{IsBadAlong, TakesNext, ReadsInto};
-ghost use Rattle.range_scan.specs.Reading.{page_in, page_fault, Names};
+ghost use Rattle.range_scan.specs.RegionReading.{page_in, page_fault, Names};
 ghost use Rattle.range_scan.specs.Running.{IsRun, first_of};
 
 use crate::page::follows;
@@ -41,13 +41,18 @@ impl SegmentBuffer {
         requires region { region < 2 }
         requires segment { segment < 2 ^ height_limit layout.now }
         requires reach { file_length layout.now ≤ (S.view station.old).fixed.reach }
-        ensures segment { OnOk result (Told (S.view station.old) → IsSegment layout.now.format self.new.rows (page_in layout.now region (S.view station.old).held segment)) }
-        ensures sound { OnOk result (Told (S.view station.old) → page_fault layout.now.format segment last.now (page_in layout.now region (S.view station.old).held segment) ≡ None) }
+        ensures segment { OnOk result (Told (S.view station.old) →
+            IsSegment layout.now.format self.new.rows (page_in layout.now region (S.view station.old).held segment)) }
+        ensures sound { OnOk result (Told (S.view station.old) →
+            page_fault layout.now.format segment last.now (page_in layout.now region (S.view station.old).held segment) ≡ None) }
         ensures above { OnOk result (begins_above last.now self.new.rows ≡ true) }
         ensures reading { ReadsInto layout.now region segment 1 result self.new (S.view station.old) (S.view station.new) }
-        ensures refused { IfErr result (λ fault. fault ≢ RegionFault.Failed → Told (S.view station.old) → page_fault layout.now.format segment last.now (page_in layout.now region (S.view station.old).held segment) ≡ Some fault) }
+        ensures refused { IfErr result (λ fault. fault ≢ RegionFault.Failed → Told (S.view station.old) →
+            page_fault layout.now.format segment last.now (page_in layout.now region (S.view station.old).held segment) ≡
+            Some fault) }
         ensures named { IfErr result (λ fault. Names segment fault) }
-        ensures failed { IsErrOf result RegionFault.Failed → Rose (S.view station.old).disk_faults (S.view station.new).disk_faults }
+        ensures failed { IsErrOf result RegionFault.Failed →
+            Rose (S.view station.old).disk_faults (S.view station.new).disk_faults }
     {
         self.load(station, layout, region, segment, 1)?;
         if follows(last, &self.rows()) {
@@ -72,14 +77,18 @@ impl SegmentBuffer {
         requires reach { file_length layout.now ≤ (S.view station.old).fixed.reach }
         requires run { self.old.along ≡ [] → IsRun layout.now run.segment (2 ^ height_limit layout.now) run.count }
         requires format { 0 < length self.old.along → self.old.format ≡ layout.now.format }
-        ensures sound { OnOk result (Told (S.view station.old) → page_fault layout.now.format run.segment last.now (first_of self.old.along (page_in layout.now region (S.view station.old).held run.segment)) ≡ None) }
+        ensures sound { OnOk result (Told (S.view station.old) →
+            page_fault layout.now.format run.segment last.now
+            (first_of self.old.along (page_in layout.now region (S.view station.old).held run.segment)) ≡ None) }
         ensures above { OnOk result (begins_above last.now self.new.rows ≡ true) }
-        ensures taking_next { TakesNext layout.now region run.segment run.count result self.old self.new (S.view station.old) (S.view station.new) }
+        ensures taking_next { TakesNext layout.now region run.segment run.count result self.old self.new (S.view station.old)
+            (S.view station.new) }
         ensures refused { IfErr result (λ fault. fault ≢ RegionFault.Failed → Told (S.view station.old) →
             page_fault layout.now.format run.segment last.now
             (first_of self.old.along (page_in layout.now region (S.view station.old).held run.segment)) ≡ Some fault) }
         ensures named { IfErr result (λ fault. Names run.segment fault) }
-        ensures failed { IsErrOf result RegionFault.Failed → Rose (S.view station.old).disk_faults (S.view station.new).disk_faults }
+        ensures failed { IsErrOf result RegionFault.Failed →
+            Rose (S.view station.old).disk_faults (S.view station.new).disk_faults }
     {
         self.take_next(station, layout, region, run)?;
         if follows(last, &self.rows()) {
@@ -104,8 +113,10 @@ impl SegmentBuffer {
         requires reach { file_length layout.now ≤ (S.view station.old).fixed.reach }
         requires run { self.old.along ≡ [] → IsRun layout.now run.segment (2 ^ height_limit layout.now) run.count }
         requires format { 0 < length self.old.along → self.old.format ≡ layout.now.format }
-        ensures taking_next { TakesNext layout.now region run.segment run.count result self.old self.new (S.view station.old) (S.view station.new) }
-        ensures bad { IfErr result (IsBadAlong layout.now region run.segment self.old.along (S.view station.old) (S.view station.new)) }
+        ensures taking_next { TakesNext layout.now region run.segment run.count result self.old self.new (S.view station.old)
+            (S.view station.new) }
+        ensures bad { IfErr result (IsBadAlong layout.now region run.segment self.old.along (S.view station.old)
+            (S.view station.new)) }
     {
         if self.more == 0 {
             self.load(station, layout, region, run.segment, run.count)
@@ -123,7 +134,8 @@ impl SegmentBuffer {
         ensures format { self.new.format ≡ self.old.format }
         ensures none { OnErr result (self.new.rows ≡ []) }
         ensures others { length self.new.along + 1 ≡ length self.old.along }
-        ensures bad { IfErr result (λ fault. (slot : ℕ) × (fault ≡ RegionFault.NotSegment segment slot) × (slot < SEGMENT_SLOTS) × (first_bad_slot self.old.format (first_of self.old.along []) ≡ Some slot)) }
+        ensures bad { IfErr result (λ fault. (slot : ℕ) × (fault ≡ RegionFault.NotSegment segment slot) × (slot < SEGMENT_SLOTS) ×
+            (first_bad_slot self.old.format (first_of self.old.along []) ≡ Some slot)) }
     {
         match self.validate_along() {
             Ok(len) => {
@@ -147,7 +159,8 @@ impl SegmentBuffer {
         ensures along { result ≡ true → self.new.along ≡ drop 1 self.old.along }
         ensures format { self.new.format ≡ self.old.format }
         ensures stays { result ≡ false → self.new ≡ self.old }
-        ensures sound { (segment : ℕ) → page_fault self.old.format segment last.now (first_of self.old.along []) ≡ None → length (segment_of self.old.format (first_of self.old.along [])) ≡ kept → result ≡ true }
+        ensures sound { (segment : ℕ) → page_fault self.old.format segment last.now (first_of self.old.along []) ≡ None →
+            length (segment_of self.old.format (first_of self.old.along [])) ≡ kept → result ≡ true }
     {
         match self.validate_along() {
             Ok(len) if len == kept && follows(last, &self.rows_along(len)) => {

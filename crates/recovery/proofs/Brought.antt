@@ -8,9 +8,9 @@ use Rattle.density_rule.specs.Windows.{IsBalanced}
 use Rattle.header_gate.specs.declared.header.Header.{Header}
 use Rattle.redo_journal.specs.Rest.{RestsAt}
 use Rattle.segment_frames.specs.Lists.{most_segments}
-use Rattle.recovery.specs.Costs.{repair_calls, mending_calls, opening_cost, behind_calls, back_reads, back_calls}
+use Rattle.recovery.specs.OpeningCosts.{repair_calls, mending_calls, opening_cost, behind_calls, back_reads, back_calls}
 use Rattle.recovery.specs.Opening.{Awaits, Repairs, IsOpened, OpensFile}
-use Rattle.recovery.specs.Faults.{IsRereadFault}
+use Rattle.recovery.specs.OpeningFaults.{IsRereadFault}
 use Rattle.recovery.specs.Restores.{Opens, LeavesFile, IsAtRest}
 use Rattle.recovery.specs.declared.fault.OpenFault.{OpenFault}
 use Rattle.recovery.specs.declared.fault.OpenFault.TheVariants.{Failed}

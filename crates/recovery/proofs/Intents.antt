@@ -15,17 +15,17 @@ use Rattle.map_model.specs.Array.{rows}
 use Rattle.map_model.specs.Items.{first_full}
 use Rattle.map_model.specs.Image.{array_of, height_of, map_of}
 use Rattle.map_model.proofs.Reasonings.{length-array_in}
-use Rattle.map_model.specs.Reasons.{reason_of}
+use Rattle.map_model.specs.FileReasons.{reason_of}
 use Rattle.map_model.specs.Standing.{StandsWith}
 use Rattle.map_model.specs.Store.{Update}
 use Rattle.batch_intent.specs.declared.places.TheConstants.{INTENT_SIZE}
 use Rattle.batch_intent.specs.Spelling.{Spells, item_bytes, intent_bytes, items_in, place_from}
-use Rattle.batch_intent.specs.Validating.{wrong_place}
+use Rattle.batch_intent.specs.IntentReasons.{wrong_place}
 use Rattle.batch_intent.specs.Gate.{has_intent, intent_area, reason_at, form_reason}
-use Rattle.batch_intent.specs.Means.{has_pending, pending, full_reason, fullness_reason, opening_reason, KeepsIntent}
+use Rattle.batch_intent.specs.Means.{has_waiting, waiting, full_reason, fullness_reason, opening_reason, KeepsIntent}
 use Rattle.batch_intent.proofs.Gates.{length-intent_area}
 use Rattle.batch_intent.proofs.ItemsRead.{reads_item}
-use Rattle.batch_intent.proofs.Meanings.{none_pending, some_pending, pending_kept, area_kept}
+use Rattle.batch_intent.proofs.Meanings.{none_waiting, some_waiting, waiting_kept, area_kept}
 use Rattle.batch_intent.proofs.Sound.{spells_of_none}
 use Rattle.recovery.specs.Intents.{intent_of, intent_reason, intent_calls, intent_reads, look_calls, look_reads, may_meet, place_among}
 use Rattle.recovery.specs.Restores.{Restores}
@@ -61,8 +61,8 @@ full_same format items area (Some i) long spells below = ap (λ (p : ℕ). reaso
 -- The intent of a file.
 
 module _ (layout : Layout) (image : List ℕ) (layout_is : layout_in image ≡ layout) where
-  pending_is : (b : Bool) → has_intent layout image ≡ b → has_pending image ≡ b
-  pending_is b is = ap (λ (l : Layout). has_intent l image) layout_is ∙ is
+  waiting_is : (b : Bool) → has_intent layout image ≡ b → has_waiting image ≡ b
+  waiting_is b is = ap (λ (l : Layout). has_intent l image) layout_is ∙ is
 
   form_is : form_reason (layout_in image) image ≡ form_reason layout image
   form_is = ap (λ (l : Layout). form_reason l image) layout_is
@@ -70,11 +70,11 @@ module _ (layout : Layout) (image : List ℕ) (layout_is : layout_in image ≡ l
   -- none is to be applied
   module _ (idle : has_intent layout image ≡ false) where
     pub none_waits : None ≡ intent_of image
-    none_waits = sym (ap (λ (b : Bool). cond b (Some (pending image)) None) (pending_is false idle))
+    none_waits = sym (ap (λ (b : Bool). cond b (Some (waiting image)) None) (waiting_is false idle))
 
     pub none_wrong : intent_reason image ≡ None
     none_wrong =
-        (λ t. or_else (cond (pending_is false idle t) (reason_at (wrong_place (layout_in image).format (intent_area image))) None) (full_reason (intent_area image) (first_full (height_limit (layout_in image)) (map_of image) (none_pending image (pending_is false idle) t))))
+        (λ t. or_else (cond (waiting_is false idle t) (reason_at (wrong_place (layout_in image).format (intent_area image))) None) (full_reason (intent_area image) (first_full (height_limit (layout_in image)) (map_of image) (none_waiting image (waiting_is false idle) t))))
 
   -- one is
   module _ (some : has_intent layout image ≡ true) (right : form_reason layout image ≡ None) where
@@ -90,12 +90,12 @@ module _ (layout : Layout) (image : List ℕ) (layout_is : layout_in image ≡ l
 
     pub some_waits : Some items ≡ intent_of image
     some_waits =
-        ap Some (sym (some_pending image (pending_is true some)))
-        ∙ sym (ap (λ (b : Bool). cond b (Some (pending image)) None) (pending_is true some))
+        ap Some (sym (some_waiting image (waiting_is true some)))
+        ∙ sym (ap (λ (b : Bool). cond b (Some (waiting image)) None) (waiting_is true some))
 
     full_is : fullness_reason image ≡ reason_at (place_among items (first_full (height_limit layout) (map_of image) items))
     full_is =
-        (λ t. full_reason (intent_area image) (first_full (height_limit (layout_is t)) (map_of image) (some_pending image (pending_is true some) t)))
+        (λ t. full_reason (intent_area image) (first_full (height_limit (layout_is t)) (map_of image) (some_waiting image (waiting_is true some) t)))
         ∙ full_same layout.format items (intent_area image) (first_full (height_limit layout) (map_of image) items) (length-intent_area image) spells (λ i is. omega (arith, full_below (height_limit layout) (map_of image) items i is))
 
     pub some_wrong : (answer : Option Reason) → reason_at (place_among items (first_full (height_limit layout) (map_of image) items)) ≡ answer → intent_reason image ≡ answer
@@ -114,17 +114,17 @@ by_version false false n most none gate all = gate refl
 
 pub reads_within : (layout : Layout) (image : List ℕ) (n : ℕ) → layout_in image ≡ layout → (layout.version < INTENT_VERSION → n ≡ 0) → (has_intent layout image ≡ false → n ≤ 1) → n ≤ 1 + INTENT_SIZE + look_reads image → n ≤ intent_reads image
 reads_within layout image n is none gate all =
-    by_version (nat_lt (layout_in image).version INTENT_VERSION) (has_pending image) n (1 + INTENT_SIZE + look_reads image)
+    by_version (nat_lt (layout_in image).version INTENT_VERSION) (has_waiting image) n (1 + INTENT_SIZE + look_reads image)
     (λ early. none (omega (arith, ltb-true (layout_in image).version INTENT_VERSION early, ap (λ (l : Layout). l.version) is)))
     (λ idle. gate (ap (λ (l : Layout). has_intent l image) (sym is) ∙ idle)) all
 
 -- the look, by the counts of a file that stands
-pub look_within : (layout : Layout) (region height : ℕ) (counts image : List ℕ) (items : List Update) (n : ℕ) → StandsWith layout region height counts image → pending image ≡ items
+pub look_within : (layout : Layout) (region height : ℕ) (counts image : List ℕ) (items : List Update) (n : ℕ) → StandsWith layout region height counts image → waiting image ≡ items
     → (may_meet (height_limit layout) (sum counts) items ≡ false → n ≡ 0) → n ≤ segment_size layout * 2 ^ height → n ≤ look_reads image
 look_within layout region height counts image items n stands are none all =
     subst (λ (most : ℕ). n ≤ most) (sym (λ t. cond (test t) (segment_size (stands.settled.layout_is t) * 2 ^ stands.height_is t) 0)) (by_test (may_meet (height_limit layout) (sum counts) items) none)
   where
-    test : may_meet (height_limit (layout_in image)) (len (map_of image)) (pending image) ≡ may_meet (height_limit layout) (sum counts) items
+    test : may_meet (height_limit (layout_in image)) (len (map_of image)) (waiting image) ≡ may_meet (height_limit layout) (sum counts) items
     test = λ t. may_meet (height_limit (stands.settled.layout_is t)) (records_are layout region height counts image stands t) (are t)
 
     by_test : (b : Bool) → (b ≡ false → n ≡ 0) → n ≤ cond b (segment_size layout * 2 ^ height) 0
@@ -139,15 +139,15 @@ by_gate false n most gate all = gate refl
 
 pub calls_within : (layout : Layout) (image : List ℕ) (n : ℕ) → layout_in image ≡ layout → (has_intent layout image ≡ false → n ≤ 1) → n ≤ 2 + look_calls image → n ≤ intent_calls image
 calls_within layout image n is gate all =
-    by_gate (has_pending image) n (2 + look_calls image) (λ idle. gate (ap (λ (l : Layout). has_intent l image) (sym is) ∙ idle)) all
+    by_gate (has_waiting image) n (2 + look_calls image) (λ idle. gate (ap (λ (l : Layout). has_intent l image) (sym is) ∙ idle)) all
 
 -- those of the look, by the counts of a file that stands
-pub look_called : (layout : Layout) (region height : ℕ) (counts image : List ℕ) (items : List Update) (n : ℕ) → StandsWith layout region height counts image → pending image ≡ items
+pub look_called : (layout : Layout) (region height : ℕ) (counts image : List ℕ) (items : List Update) (n : ℕ) → StandsWith layout region height counts image → waiting image ≡ items
     → (may_meet (height_limit layout) (sum counts) items ≡ false → n ≡ 0) → n ≤ 2 ^ height → n ≤ look_calls image
 look_called layout region height counts image items n stands are none all =
     subst (λ (most : ℕ). n ≤ most) (sym (λ t. cond (test t) (2 ^ stands.height_is t) 0)) (by_test (may_meet (height_limit layout) (sum counts) items) none)
   where
-    test : may_meet (height_limit (layout_in image)) (len (map_of image)) (pending image) ≡ may_meet (height_limit layout) (sum counts) items
+    test : may_meet (height_limit (layout_in image)) (len (map_of image)) (waiting image) ≡ may_meet (height_limit layout) (sum counts) items
     test = λ t. may_meet (height_limit (stands.settled.layout_is t)) (records_are layout region height counts image stands t) (are t)
 
     by_test : (b : Bool) → (b ≡ false → n ≡ 0) → n ≤ cond b (2 ^ height) 0
@@ -160,11 +160,11 @@ module _ (old new : List ℕ) (restores : Restores old new) where
   intent_kept : KeepsIntent old new
   intent_kept = restores_keeps old new restores
 
-  items_kept : pending new ≡ pending old
+  items_kept : waiting new ≡ waiting old
   items_kept = items_same old new intent_kept
 
   pub waits_kept : intent_of new ≡ intent_of old
-  waits_kept t = cond (pending_kept old new intent_kept t) (Some (items_kept t)) None
+  waits_kept t = cond (waiting_kept old new intent_kept t) (Some (items_kept t)) None
 
   module _ (arrays : array_of new ≡ array_of old) where
     maps : map_of new ≡ map_of old
@@ -173,13 +173,13 @@ module _ (old new : List ℕ) (restores : Restores old new) where
 
     reason_kept : intent_reason new ≡ intent_reason old
     reason_kept t =
-        or_else (cond (pending_kept old new intent_kept t) (reason_at (wrong_place (intent_kept.layout_is t).format (area_kept old new intent_kept t))) None)
+        or_else (cond (waiting_kept old new intent_kept t) (reason_at (wrong_place (intent_kept.layout_is t).format (area_kept old new intent_kept t))) None)
         (full_reason (area_kept old new intent_kept t) (first_full (height_limit (intent_kept.layout_is t)) (maps t) (items_kept t)))
 
     -- so are the calls for it
     pub calls_kept : intent_calls new ≡ intent_calls old
     calls_kept t =
-        cond (pending_kept old new intent_kept t) (2 + cond (may_meet (height_limit (intent_kept.layout_is t)) (len (maps t)) (items_kept t)) (size t) 0) 1
+        cond (waiting_kept old new intent_kept t) (2 + cond (may_meet (height_limit (intent_kept.layout_is t)) (len (maps t)) (items_kept t)) (size t) 0) 1
       where
         size : 2 ^ height_of new ≡ 2 ^ height_of old
         size = sym (length-array_in new (height_of new)) ∙ ap length arrays ∙ length-array_in old (height_of old)

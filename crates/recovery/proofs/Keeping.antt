@@ -1,39 +1,45 @@
 -- An opening keeps the intent of a file, and what the file means.
-use Rattle.std.proofs.Common.{◌≡◌, ⊎_elim, ℕ, ◌+◌, ◌%◌, ◌<◌, cond, List, [], sym, ap, subst, ◌∙◌, arith}
+use Rattle.std.proofs.Common.{◌≡◌, ⊎_elim, ℕ, ◌+◌, ◌%◌, ◌<◌, ◌==◌, ◌&&◌, nat_le, cond, List, [], sym, ap, subst, ◌∙◌, arith}
 use Rattle.station.specs.Bytes.{byte}
 use Rattle.header_gate.specs.declared.layout.Layout.{Layout}
+use Rattle.header_gate.specs.declared.layout.TheConstants.{INTENT_VERSION}
 use Rattle.header_gate.specs.Header.{layout_in, live_copy, number, IsGatePlace}
-use Rattle.header_gate.specs.Places.{height_limit, copy_place}
+use Rattle.header_gate.specs.Places.{copy_place}
 use Rattle.header_gate.proofs.NumberLaws.{number_same}
 use Rattle.map_model.specs.Store.{Map}
-use Rattle.map_model.specs.Items.{AreAdmitted, state_after_items}
 use Rattle.map_model.specs.Image.{Represents, slot_format}
 use Rattle.redo_journal.specs.Commit.{IsJournalPlace, IsRegionPlace}
-use Rattle.batch_intent.specs.Means.{Means, pending, KeepsIntent, IsApart}
-use Rattle.batch_intent.specs.Spelling.{items_in}
-use Rattle.batch_intent.proofs.Meanings.{update_keeps, pending_kept, area_kept, spells_kept}
+use Rattle.batch_intent.specs.Means.{Means, waiting, KeepsIntent, IsApart}
+use Rattle.batch_intent.specs.Spelling.{Spells, items_in}
+use Rattle.batch_intent.specs.Gate.{has_intent}
+use Rattle.batch_intent.proofs.Meanings.{update_keeps, waiting_kept, area_kept}
 use Rattle.recovery.specs.Restores.{Opens, Restores}
 use Rattle.recovery.proofs.Bringing.{opens_restored}
 
 -- A file with the same intent.
 
 -- it has the same items
-pub items_same : (old new : List ℕ) → KeepsIntent old new → pending new ≡ pending old
-unfolding pending
-items_same old new keeps t = cond (pending_kept old new keeps t) (items_in (area_kept old new keeps t)) []
+pub items_same : (old new : List ℕ) → KeepsIntent old new → waiting new ≡ waiting old
+unfolding waiting
+items_same old new keeps t = cond (waiting_kept old new keeps t) (items_in (area_kept old new keeps t)) []
 
 module _ (old new : List ℕ) (keeps : KeepsIntent old new) where
+  has_same : (l : Layout) → has_intent l new ≡ has_intent l old
+  has_same l t = nat_le INTENT_VERSION l.version && (keeps.gate_is t == 1)
+
   -- where it represents what it represented, it means what it meant
-  pub means_kept : (m : Map) (height : ℕ) → ((base : Map) → Represents old base height → Represents new base height) → Means old m height → Means new m height
-  means_kept m height represents means = record {
+  pub means_kept : {l : Layout} (m : Map) → ((base : Map) (height : ℕ) → Represents old base height → Represents new base height) → Means l old m → Means l new m
+  means_kept {l} m represents means = record {
+    layout_is = keeps.layout_is ∙ means.layout_is;
+    height = means.height;
     base = means.base;
     items = means.items;
-    represents = represents means.base means.represents;
-    idle = λ none. means.idle (sym (pending_kept old new keeps) ∙ none);
-    form = λ some. spells_kept old new keeps means.items (means.form (sym (pending_kept old new keeps) ∙ some));
-    admitted = subst (λ (l : Layout). AreAdmitted (height_limit l) means.base means.items) (sym keeps.layout_is) means.admitted;
+    represents = represents means.base means.height means.represents;
+    idle = λ none. means.idle (sym (has_same l) ∙ none);
+    form = λ some. subst (Spells l.format means.items) (sym (area_kept old new keeps)) (means.form (sym (has_same l) ∙ some));
+    admitted = means.admitted;
     begins = means.begins;
-    begins_is = ap (λ (l : Layout). state_after_items (height_limit l) (record { map = means.base; height = height }) means.items) keeps.layout_is ∙ means.begins_is;
+    begins_is = means.begins_is;
     map_is = means.map_is;
   }
 
@@ -70,12 +76,9 @@ module _ (old new : List ℕ) (opens : Opens old new) where
     rest = λ k out. opens.touched.rest k (λ x. out (⊎_elim (apart_gate k) (λ y. ⊎_elim (apart_journal (layout_in old) k) (apart_region (layout_in old) k) y) x));
   })
 
-  pub opens_means : (m : Map) (height : ℕ) → Means old m height → Means new m height
-  opens_means m height means = means_kept old new opens_keeps m height (λ base is. opens.map base height is) means
+  pub opens_means : {l : Layout} (m : Map) → Means l old m → Means l new m
+  opens_means m means = means_kept old new opens_keeps m opens.map means
 
 -- and before it is known that nothing is wrong with the file
 pub restores_keeps : (old new : List ℕ) → Restores old new → KeepsIntent old new
 restores_keeps old new restores = opens_keeps old new (opens_restored old new restores)
-
-pub restores_means : (old new : List ℕ) → Restores old new → (m : Map) (height : ℕ) → Means old m height → Means new m height
-restores_means old new restores = opens_means old new (opens_restored old new restores)

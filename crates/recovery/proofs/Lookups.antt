@@ -17,7 +17,7 @@ use Rattle.map_model.proofs.Entries.{find-rows, length-rows}
 use Rattle.map_model.proofs.Reasonings.{array_is, own_rows, own_segments}
 use Rattle.range_scan.proofs.Checks as checks
 use Rattle.range_scan.proofs.Standing.{own, format_is, page_is, count_kept}
-use Rattle.range_scan.specs.Reading.{page_in}
+use Rattle.range_scan.specs.RegionReading.{page_in}
 use Rattle.segment.specs.Validated.{damage_by, damage_of}
 use Rattle.segment.specs.declared.fault.Damage.TheVariants.{OtherCount}
 use Rattle.segment.specs.Rows.{value_of}

@@ -9,6 +9,7 @@ use Rattle.station.specs.Steps.{Steps}
 use Rattle.station.proofs.Composition.{weaken, andthen, on_same, no_steps, told_on, told_of, only_held}
 use Rattle.density_rule.specs.Repair.{repair_window}
 use Rattle.density_rule.specs.Windows.{IsBalanced}
+use Rattle.header_gate.specs.declared.layout.Layout.{Layout}
 use Rattle.header_gate.specs.declared.header.Header.{Header}
 use Rattle.header_gate.specs.declared.header.HeaderFault.{HeaderFault}
 use Rattle.header_gate.specs.declared.header.HeaderFault.TheVariants as header
@@ -22,15 +23,15 @@ use Rattle.map_model.specs.Store.{Map}
 use Rattle.map_model.specs.Array.{counts_of}
 use Rattle.map_model.specs.Image.{array_of, height_of}
 use Rattle.map_model.proofs.Reasonings.{represents_of_none}
-use Rattle.map_model.specs.Reasons.{reason_of}
+use Rattle.map_model.specs.FileReasons.{reason_of}
 use Rattle.map_model.specs.Repairing.{repair as repair_of}
 use Rattle.batch_intent.specs.Means.{Means, opening_reason}
 use Rattle.batch_intent.proofs.OpeningReasons.{none_of_means}
 use Rattle.redo_journal.specs.declared.place.Place.{Place}
 use Rattle.redo_journal.specs.Rest.{RestsAt}
 use Rattle.segment_frames.specs.Lists.{most_segments}
-use Rattle.recovery.specs.Costs.{repair_cost, opening_cost, mending_calls, back_reads, opening_reads}
-use Rattle.recovery.specs.Faults.{fault_of, IsNoDamage, IsReadFault, IsRepairFault, IsRereadFault}
+use Rattle.recovery.specs.OpeningCosts.{repair_cost, opening_cost, mending_calls, back_reads, opening_reads}
+use Rattle.recovery.specs.OpeningFaults.{fault_of, IsNoDamage, IsReadFault, IsRepairFault, IsRereadFault}
 use Rattle.recovery.specs.Intents.{intent_reason, IsIntentFor}
 use Rattle.recovery.specs.Opening.{OpensFile, IsOpened, Awaits, Repairs}
 use Rattle.recovery.specs.Restores.{Restores, Opens, LeavesFile, IsAtRest}
@@ -47,10 +48,10 @@ use Rattle.recovery.proofs.Repairing.{array_now}
 -- a file that means a map is opened, where the disk and the memory allow it
 completes : {T : Type 0} (result : Result T OpenFault) (a b : View) → IfErr result (λ e. (r : Reason) → e ≡ NotStore r → Told a → opening_reason a.held ≡ Some r)
     → (IsErrOf result Failed → Rose a.disk_faults b.disk_faults) → IfErr result (λ e. Told a → IsNoDamage e)
-    → Told a → (m : Map) (height : ℕ) → Means a.held m height → ¬ Rose a.disk_faults b.disk_faults → IsOk result ⊎ IsErrOf result Memory
-completes result a b refused failed damaged told m height means calm =
+    → Told a → (l : Layout) (m : Map) → Means l a.held m → ¬ Rose a.disk_faults b.disk_faults → IsOk result ⊎ IsErrOf result Memory
+completes result a b refused failed damaged told l m means calm =
     opened_or_memory result
-    (IfErr-weaker result _ _ (λ e why r is. absurd (true≢false (ap is_some (sym (why r is told) ∙ none_of_means a.held m height means)))) refused)
+    (IfErr-weaker result _ _ (λ e why r is. absurd (true≢false (ap is_some (sym (why r is told) ∙ none_of_means a.held m means)))) refused)
     (λ is. calm (failed is))
     (IfErr-weaker result _ _ (λ e fine. fine told) damaged)
 
@@ -135,7 +136,7 @@ opens_later result a b c ab written read opens =
     record {
       sound = on_ok_weaker result (λ none told. sym (ap opening_reason (ab.held told)) ∙ none (told_on ab.frame told)) opens.sound;
       refused = IfErr-weaker result _ _ (λ e why r is told. sym (ap opening_reason (ab.held told)) ∙ why r is (told_on ab.frame told)) opens.refused;
-      complete = λ told m height means calm. opens.complete (told_on ab.frame told) m height (subst (λ (f : List ℕ). Means f m height) (sym (ab.held told)) means) (λ rose. calm (omega (arith, rose, ab.frame.disk_faults)));
+      complete = λ told l m means calm. opens.complete (told_on ab.frame told) l m (subst (λ (f : List ℕ). Means l f m) (sym (ab.held told)) means) (λ rose. calm (omega (arith, rose, ab.frame.disk_faults)));
       steps = on_same ab opens.steps opens_none;
       late = IfErr-weaker result _ _ (λ e late r is. on_same ab (late r is) (λ d. restores_same d d refl)) opens.late;
       early = IfErr-weaker result _ _ (λ e untouched r is early. leaves_on leaves (untouched r is early)) opens.early;
@@ -174,7 +175,7 @@ module _ {A B : Type 0} (reads : List ℕ → ℕ) (a b : View) where
   as_err e opens = record {
     sound = tt;
     refused = opens.refused;
-    complete = λ told m height means calm. ⊎_elim (λ ok. absurd cc) (λ is. inr (same is)) (opens.complete told m height means calm);
+    complete = λ told l m means calm. ⊎_elim (λ ok. absurd cc) (λ is. inr (same is)) (opens.complete told l m means calm);
     steps = opens.steps;
     late = opens.late;
     early = opens.early;

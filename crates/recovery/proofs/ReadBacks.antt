@@ -11,18 +11,18 @@ use Rattle.header_gate.specs.Header.{layout_in}
 use Rattle.header_gate.specs.InPlace.{IsBare}
 use Rattle.header_gate.specs.Places.{segment_size}
 use Rattle.map_model.specs.Image.{array_of, height_of}
-use Rattle.map_model.specs.Reasons.{reason_of}
+use Rattle.map_model.specs.FileReasons.{reason_of}
 use Rattle.batch_intent.specs.Means.{opening_reason}
 use Rattle.redo_journal.specs.declared.place.Place.{Place}
-use Rattle.segment_frames.specs.Standing.{StandsFor}
-use Rattle.veb_index.specs.View.{IndexView}
-use Rattle.window_tally.specs.View.{TallyView}
+use Rattle.segment_frames.specs.FrameStanding.{StandsFor}
+use Rattle.veb_index.specs.IndexView.{IndexView}
+use Rattle.window_tally.specs.TallyView.{TallyView}
 use Rattle.redo_journal.proofs.Live.{rests_still}
-use Rattle.recovery.specs.Costs.{replay_cost, back_reads, bare_reads, replay_calls, region_calls, bare_calls, laying_calls, back_calls}
-use Rattle.recovery.specs.Faults.{IsEarly, IsNoDamage, IsRegionFault, IsIntentFault, IsReadFault}
+use Rattle.recovery.specs.OpeningCosts.{replay_cost, back_reads, bare_reads, replay_calls, region_calls, bare_calls, laying_calls, back_calls}
+use Rattle.recovery.specs.OpeningFaults.{IsEarly, IsNoDamage, IsRegionFault, IsIntentFault, IsReadFault}
 use Rattle.recovery.specs.Intents.{intent_of, intent_reason, intent_calls, intent_reads, region_reads, IsIntentFor}
 use Rattle.recovery.specs.Opening.{Awaits, IsReadBack}
-use Rattle.recovery.specs.Parts.{HasFences}
+use Rattle.recovery.specs.StoreParts.{HasFences}
 use Rattle.recovery.specs.Restores.{Restores, LeavesFile}
 use Rattle.recovery.specs.declared.fault.OpenFault.{OpenFault}
 use Rattle.recovery.specs.declared.fault.OpenFault.TheVariants.{Memory, Failed, NotStore, Damaged}

@@ -9,8 +9,8 @@ use Rattle.header_gate.specs.Header.{layout_in}
 use Rattle.header_gate.specs.InPlace.{IsBare}
 use Rattle.map_model.specs.Image.{array_of}
 use Rattle.batch_intent.specs.Means.{opening_reason}
-use Rattle.recovery.specs.Costs.{replay_cost, replay_calls, region_calls, laying_calls, back_reads, back_calls}
-use Rattle.recovery.specs.Faults.{IsEarly, IsNoDamage, IsReadFault}
+use Rattle.recovery.specs.OpeningCosts.{replay_cost, replay_calls, region_calls, laying_calls, back_reads, back_calls}
+use Rattle.recovery.specs.OpeningFaults.{IsEarly, IsNoDamage, IsReadFault}
 use Rattle.recovery.specs.Intents.{intent_of, IsIntentFor}
 use Rattle.recovery.specs.Opening.{IsReadBack}
 use Rattle.recovery.specs.Restores.{Restores, LeavesFile}

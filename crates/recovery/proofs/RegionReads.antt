@@ -17,20 +17,20 @@ use Rattle.header_gate.specs.Recovered.{journal_reason}
 use Rattle.key_slot.specs.Record.{Bytes}
 use Rattle.map_model.specs.Array.{counts_of}
 use Rattle.map_model.specs.Image.{array_from, array_of}
-use Rattle.map_model.specs.Reasons.{array_reason, reason_of}
-use Rattle.range_scan.specs.Reading.{page_in}
+use Rattle.map_model.specs.FileReasons.{array_reason, reason_of}
+use Rattle.range_scan.specs.RegionReading.{page_in}
 use Rattle.redo_journal.specs.Frames.{Batch}
 use Rattle.redo_journal.specs.Rest.{RestsAt}
 use Rattle.redo_journal.proofs.Live.{rest_held, rests_still}
-use Rattle.segment_frames.specs.Standing.{StandsFor}
-use Rattle.veb_index.specs.View.{IndexView, fence_of}
-use Rattle.window_tally.specs.View.{TallyView, IsTally}
-use Rattle.recovery.specs.Costs.{replay_cost, bare_reads, replay_calls, region_calls, bare_calls, laying_calls}
-use Rattle.recovery.specs.Faults.{IsLateFault, IsIntentFault, IsNoDamage, IsRegionFault, fault_of}
+use Rattle.segment_frames.specs.FrameStanding.{StandsFor}
+use Rattle.veb_index.specs.IndexView.{IndexView, fence_of}
+use Rattle.window_tally.specs.TallyView.{TallyView, IsTally}
+use Rattle.recovery.specs.OpeningCosts.{replay_cost, bare_reads, replay_calls, region_calls, bare_calls, laying_calls}
+use Rattle.recovery.specs.OpeningFaults.{IsLateFault, IsIntentFault, IsNoDamage, IsRegionFault, fault_of}
 use Rattle.recovery.specs.Intents.{intent_of, intent_reason, intent_calls, intent_reads, IsIntentFor}
-use Rattle.recovery.specs.Loading.{first_key_of}
+use Rattle.recovery.specs.RegionLoading.{first_key_of}
 use Rattle.recovery.specs.Opening.{Awaits, IsReadBack}
-use Rattle.recovery.specs.Parts.{HasHeader, HasFences}
+use Rattle.recovery.specs.StoreParts.{HasHeader, HasFences}
 use Rattle.recovery.specs.Restores.{Restores, LeavesFile}
 use Rattle.recovery.specs.declared.fault.OpenFault.{OpenFault}
 use Rattle.recovery.specs.declared.fault.OpenFault.TheVariants.{Memory, Failed, NotStore, Damaged}

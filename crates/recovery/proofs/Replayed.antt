@@ -7,8 +7,8 @@ use Rattle.header_gate.specs.declared.layout.TheConstants.{PAIRED}
 use Rattle.header_gate.specs.Header.{layout_in}
 use Rattle.header_gate.specs.Recovered.{live_table, names_some}
 use Rattle.redo_journal.specs.Neighbours.{run_count}
-use Rattle.recovery.specs.Costs.{bare_calls, bare_reads, laying_calls}
-use Rattle.recovery.specs.Parts.{turn_of}
+use Rattle.recovery.specs.OpeningCosts.{bare_calls, bare_reads, laying_calls}
+use Rattle.recovery.specs.StoreParts.{turn_of}
 
 -- where there is one journal it is replayed only if the gate is odd
 pub said_odd : (l : Layout) (odd : Bool) → ((l.version == PAIRED) || odd) ≡ true → (l.version ≡ PAIRED → ⊥) → turn_of odd ≡ 1

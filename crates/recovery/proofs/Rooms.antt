@@ -6,11 +6,13 @@ use Rattle.std.specs.List.{flat_map}
 use Rattle.std.specs.Option.{option_map}
 use Rattle.std.proofs.lemmas.Bool.{lt-ltb}
 use Rattle.density_rule.specs.Bounds.{upper_of}
-use Rattle.map_model.specs.Store.{Map, Update, bind, unbind, map_after, key_of, effect_by, effect_map}
-use Rattle.map_model.specs.Items.{first_full, map_after_items, are_distinct, is_full, AreAdmitted}
+use Rattle.map_model.specs.Store.{Map, Update, bind, unbind, key_of, effect_by, effect_map}
+use Rattle.map_model.specs.After.{map_after, map_after_items}
+use Rattle.map_model.specs.Items.{first_full, are_distinct, is_full}
+use Rattle.map_model.specs.ItemWords.{AreAdmitted}
 use Rattle.map_model.proofs.Resuming.{admitted_cons, get_before, meets_full, next_item, removal_fits, room_cons}
 use Rattle.batch_intent.specs.Spelling.{item_bytes, intent_bytes}
-use Rattle.batch_intent.specs.Items.{is_put}
+use Rattle.batch_intent.specs.ItemView.{is_put}
 use Rattle.recovery.specs.Intents.{puts_in, meets_by, records_by, place_among, IsCounted}
 
 -- By whether the key is there.

@@ -7,9 +7,9 @@ use Rattle.header_gate.specs.Places.{IsFormat, page_size, segment_size}
 use Rattle.header_gate.proofs.PagedSegments.{each_format}
 use Rattle.key_slot.specs.Record.{Bytes}
 use Rattle.range_scan.specs.declared.segment_buffer.TheConstants.{RUN_SIZE}
-use Rattle.range_scan.specs.ReaderView.{ReaderView}
+use Rattle.range_scan.specs.RegionReaderView.{ReaderView}
 use Rattle.range_scan.specs.Running.{IsRun, read_for}
-use Rattle.segment_frames.specs.Parts.{InParts}
+use Rattle.segment_frames.specs.SegmentParts.{InParts}
 use Rattle.segment_frames.proofs.PartLaws.{parts_more}
 
 -- a run has room for a segment

@@ -13,14 +13,14 @@ use Rattle.map_model.specs.Store.{Map, Update, bind, unbind, key_of}
 use Rattle.map_model.specs.Image.{height_of, map_of}
 use Rattle.segment.specs.Rows.{value_of}
 use Rattle.batch_intent.specs.declared.places.TheConstants.{INTENT_SIZE}
-use Rattle.batch_intent.specs.Items.{is_put}
+use Rattle.batch_intent.specs.ItemView.{is_put}
 use Rattle.batch_intent.specs.Spelling.{fits_item, intent_bytes}
 use Rattle.batch_intent.specs.Gate.{form_reason, has_intent}
-use Rattle.batch_intent.specs.Means.{has_pending, pending, fullness_reason}
+use Rattle.batch_intent.specs.Means.{has_waiting, waiting, fullness_reason}
 
 -- the intent that is to be applied, if there is one
 abbrev pub intent_of : List ℕ → Option (List Update)
-intent_of image = if has_pending image then Some (pending image) else None
+intent_of image = if has_waiting image then Some (waiting image) else None
 
 -- the first thing that is wrong with it: its form, or an item that meets a full store
 abbrev pub intent_reason : List ℕ → Option Reason
@@ -46,16 +46,16 @@ region_reads image = segment_size (layout_in image) * 2 ^ height_of image
 
 -- a look for the keys of the items is one more reading of the live region
 abbrev pub look_reads : List ℕ → ℕ
-look_reads image = if may_meet (height_limit (layout_in image)) (len (map_of image)) (pending image) then region_reads image else 0
+look_reads image = if may_meet (height_limit (layout_in image)) (len (map_of image)) (waiting image) then region_reads image else 0
 
 -- What is read of the intent: nothing if the version has none, the gate's byte, and if this is odd the intent; then the
 -- look.
 abbrev pub intent_reads : List ℕ → ℕ
-intent_reads image = if nat_lt (layout_in image).version INTENT_VERSION then 0 else (if has_pending image then 1 + INTENT_SIZE + look_reads image else 1)
+intent_reads image = if nat_lt (layout_in image).version INTENT_VERSION then 0 else (if has_waiting image then 1 + INTENT_SIZE + look_reads image else 1)
 
 -- the calls of a look, one for each segment
 abbrev pub look_calls : List ℕ → ℕ
-look_calls image = if may_meet (height_limit (layout_in image)) (len (map_of image)) (pending image) then 2 ^ height_of image else 0
+look_calls image = if may_meet (height_limit (layout_in image)) (len (map_of image)) (waiting image) then 2 ^ height_of image else 0
 
 -- at most the calls that read it: one for the gate, and if this is odd one for the items and those of a look
 abbrev pub intent_calls : List ℕ → ℕ

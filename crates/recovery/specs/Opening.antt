@@ -6,6 +6,7 @@ use Rattle.density_rule.specs.Bounds.{IsInBounds}
 use Rattle.density_rule.specs.Marks.{no_marks}
 use Rattle.density_rule.specs.Repair.{repair_window}
 use Rattle.header_gate.specs.declared.header.Header.{Header}
+use Rattle.header_gate.specs.declared.layout.Layout.{Layout}
 use Rattle.header_gate.specs.declared.reason.Reason.{Reason}
 use Rattle.header_gate.specs.Header.{layout_in}
 use Rattle.header_gate.specs.InPlace.{IsBare}
@@ -17,15 +18,15 @@ use Rattle.map_model.specs.Repairing.{repair as repair_of}
 use Rattle.redo_journal.specs.declared.place.Place.{Place}
 use Rattle.redo_journal.specs.Rest.{RestsAt}
 use Rattle.segment_frames.specs.Lists.{most_segments}
-use Rattle.segment_frames.specs.Standing.{StandsFor}
-use Rattle.veb_index.specs.View.{IndexView}
-use Rattle.window_tally.specs.View.{TallyView}
+use Rattle.segment_frames.specs.FrameStanding.{StandsFor}
+use Rattle.veb_index.specs.IndexView.{IndexView}
+use Rattle.window_tally.specs.TallyView.{TallyView}
 use Rattle.batch_intent.specs.Means.{Means, opening_reason}
 use Rattle.redistribute.specs.Rearranged.{Rearranges}
-use Rattle.recovery.specs.Costs.{repair_cost, mending_calls, asked_behind}
-use Rattle.recovery.specs.Faults.{IsEarly, IsNoDamage, IsRepairFault}
+use Rattle.recovery.specs.OpeningCosts.{repair_cost, mending_calls, asked_behind}
+use Rattle.recovery.specs.OpeningFaults.{IsEarly, IsNoDamage, IsRepairFault}
 use Rattle.recovery.specs.Intents.{intent_of, IsIntentFor}
-use Rattle.recovery.specs.Parts.{AreParts, Fits, AgreesWith, HasFences, HasHeader}
+use Rattle.recovery.specs.StoreParts.{AreParts, Fits, AgreesWith, HasFences, HasHeader}
 use Rattle.recovery.specs.Restores.{Restores, LeavesFile}
 use Rattle.recovery.specs.declared.fault.OpenFault.{OpenFault}
 use Rattle.recovery.specs.declared.fault.OpenFault.TheVariants.{Memory, Failed, NotStore}
@@ -40,7 +41,7 @@ pub record OpensFile {T : Type 0} (opens : List ℕ → List ℕ → Type 0) (re
   pub refused : IfErr result (λ e. (r : Reason) → e ≡ NotStore r → Told a → opening_reason a.held ≡ Some r)
   -- if the station tells its bytes and the count of disk faults didn't rise, each file that means a map is opened, but for want
   -- of memory
-  pub complete : Told a → (m : Map) (height : ℕ) → Means a.held m height → ¬ Rose a.disk_faults b.disk_faults → IsOk result ⊎ IsErrOf result Memory
+  pub complete : Told a → (l : Layout) (m : Map) → Means l a.held m → ¬ Rose a.disk_faults b.disk_faults → IsOk result ⊎ IsErrOf result Memory
   -- at every moment, and in the held bytes whatever is answered, the file comes by `opens` from the one at entry
   pub steps : Steps opens a b
   -- a refused file represents at every moment what it did and recovers to what it recovered to, and no byte of it differs but

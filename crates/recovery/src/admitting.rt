@@ -8,7 +8,7 @@ ghost use Rattle.header_gate.specs.Places.{height_limit, segment_size};
 ghost use Rattle.map_model.specs.Items.{first_full};
 ghost use Rattle.map_model.specs.Image.{map_of};
 ghost use Rattle.batch_intent.specs.Gate.{reason_at};
-ghost use Rattle.recovery.specs.Faults.{IsNoDamage, IsIntentFault};
+ghost use Rattle.recovery.specs.OpeningFaults.{IsNoDamage, IsIntentFault};
 ghost use Rattle.recovery.specs.Intents.{intent_of, intent_reason, intent_calls, intent_reads, IsIntentFor, may_meet, place_among};
 ghost use Rattle.recovery.specs.Opening.{IsReadBack};
 
@@ -29,16 +29,20 @@ pub(crate) fn take_intent<S: Station>(
     station: &mut S,
     parts: &Parts,
 ) -> Result<Option<Intent>, OpenFault>
-    requires back { IsReadBack parts.now.place parts.now.tally parts.now.index parts.now.frames.journal parts.now.frames.turn (S.view station.old) }
+    requires back { IsReadBack parts.now.place parts.now.tally parts.now.index parts.now.frames.journal parts.now.frames.turn
+        (S.view station.old) }
     ensures intent { IfOk result (λ intent. Told (S.view station.old) → intent ≡ intent_of (S.view station.old).held) }
     ensures items { IfOk result (λ intent. IsIntentFor parts.now.place.layout.format intent) }
     ensures sound { OnOk result (Told (S.view station.old) → intent_reason (S.view station.old).held ≡ None) }
-    ensures refused { IfErr result (λ e. (r : Reason) → e ≡ OpenFault.NotStore r → Told (S.view station.old) → intent_reason (S.view station.old).held ≡ Some r) }
+    ensures refused { IfErr result (λ e. (r : Reason) → e ≡ OpenFault.NotStore r → Told (S.view station.old) →
+        intent_reason (S.view station.old).held ≡ Some r) }
     ensures steps { Steps Same (S.view station.old) (S.view station.new) }
     ensures unwritten { (S.view station.new).travel.written ≡ (S.view station.old).travel.written }
-    ensures reads { Told (S.view station.old) → (S.view station.new).travel.read ≤ (S.view station.old).travel.read + intent_reads (S.view station.old).held }
+    ensures reads { Told (S.view station.old) → (S.view station.new).travel.read ≤ (S.view station.old).travel.read +
+        intent_reads (S.view station.old).held }
     ensures calls { (S.view station.new).calls ≤ (S.view station.old).calls + (2 + 2 ^ parts.now.tally.height) }
-    ensures calls_told { Told (S.view station.old) → (S.view station.new).calls ≤ (S.view station.old).calls + intent_calls (S.view station.old).held }
+    ensures calls_told { Told (S.view station.old) →
+        (S.view station.new).calls ≤ (S.view station.old).calls + intent_calls (S.view station.old).held }
     ensures damaged { IfErr result (λ e. Told (S.view station.old) → IsNoDamage e) }
     ensures causes { IfErr result IsIntentFault }
     ensures failed { IsErrOf result OpenFault.Failed → Rose (S.view station.old).disk_faults (S.view station.new).disk_faults }
@@ -52,15 +56,20 @@ pub(crate) fn take_intent<S: Station>(
 
 // Sees that none of the items meets a full store, and names the first that does.
 fn admit<S: Station>(station: &mut S, parts: &Parts, intent: &Intent) -> Result<(), OpenFault>
-    requires back { IsReadBack parts.now.place parts.now.tally parts.now.index parts.now.frames.journal parts.now.frames.turn (S.view station.old) }
-    ensures room { OnOk result (Told (S.view station.old) → first_full (height_limit parts.now.place.layout) (map_of (S.view station.old).held) intent.now ≡ None) }
+    requires back { IsReadBack parts.now.place parts.now.tally parts.now.index parts.now.frames.journal parts.now.frames.turn
+        (S.view station.old) }
+    ensures room { OnOk result (Told (S.view station.old) →
+        first_full (height_limit parts.now.place.layout) (map_of (S.view station.old).held) intent.now ≡ None) }
     ensures full { IfErr result (λ e. (r : Reason) → e ≡ OpenFault.NotStore r → Told (S.view station.old) →
         reason_at (place_among intent.now (first_full (height_limit parts.now.place.layout) (map_of (S.view station.old).held) intent.now)) ≡ Some r) }
     ensures steps { Steps Same (S.view station.old) (S.view station.new) }
     ensures unwritten { (S.view station.new).travel.written ≡ (S.view station.old).travel.written }
-    ensures unread { may_meet (height_limit parts.now.place.layout) (sum parts.now.tally.counts) intent.now ≡ false → (S.view station.new).travel.read ≡ (S.view station.old).travel.read }
-    ensures uncalled { may_meet (height_limit parts.now.place.layout) (sum parts.now.tally.counts) intent.now ≡ false → (S.view station.new).calls ≡ (S.view station.old).calls }
-    ensures reads { (S.view station.new).travel.read ≤ (S.view station.old).travel.read + segment_size parts.now.place.layout * 2 ^ parts.now.tally.height }
+    ensures unread { may_meet (height_limit parts.now.place.layout) (sum parts.now.tally.counts) intent.now ≡ false →
+        (S.view station.new).travel.read ≡ (S.view station.old).travel.read }
+    ensures uncalled { may_meet (height_limit parts.now.place.layout) (sum parts.now.tally.counts) intent.now ≡ false →
+        (S.view station.new).calls ≡ (S.view station.old).calls }
+    ensures reads { (S.view station.new).travel.read ≤ (S.view station.old).travel.read +
+        segment_size parts.now.place.layout * 2 ^ parts.now.tally.height }
     ensures calls { (S.view station.new).calls ≤ (S.view station.old).calls + 2 ^ parts.now.tally.height }
     ensures damaged { IfErr result (λ e. Told (S.view station.old) → IsNoDamage e) }
     ensures causes { IfErr result IsIntentFault }

@@ -3,7 +3,7 @@
 ghost use Rattle.std.specs.Prelude.{◌≡◌, ℕ, ◌+◌, ◌≤◌, ◌^◌, IfSome};
 ghost use Rattle.map_model.specs.Items.{first_full};
 ghost use Rattle.map_model.specs.Store.{Map};
-ghost use Rattle.batch_intent.specs.Items.{update_of};
+ghost use Rattle.batch_intent.specs.ItemView.{update_of};
 ghost use Rattle.recovery.specs.Intents.{puts_in, meets_by, records_by, place_among, IsCounted};
 
 use batch_intent::{Intent, Item, MOST_ITEMS};
@@ -20,7 +20,8 @@ pub(crate) fn full_place(
     most: u32,
 ) -> Option<u32>
     requires { records ≤ 2 ^ 31 }
-    ensures full { (limit : ℕ) (m : Map) → IsCounted limit m intent.now there.now records most → result ≡ place_among intent.now (first_full limit m intent.now) }
+    ensures full { (limit : ℕ) (m : Map) → IsCounted limit m intent.now there.now records most →
+        result ≡ place_among intent.now (first_full limit m intent.now) }
     ensures low { IfSome result (λ place. place ≤ 2 ^ 16) }
 {
     let mut records = records;

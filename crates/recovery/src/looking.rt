@@ -10,8 +10,8 @@ ghost use Rattle.station.specs.Steps.{Steps};
 ghost use Rattle.header_gate.specs.Places.{segment_size};
 ghost use Rattle.key_slot.specs.Segment.{segment_of};
 ghost use Rattle.map_model.specs.Image.{map_of};
-ghost use Rattle.range_scan.specs.Reading.{page_in};
-ghost use Rattle.recovery.specs.Faults.{IsRepairFault, repair_fault};
+ghost use Rattle.range_scan.specs.RegionReading.{page_in};
+ghost use Rattle.recovery.specs.OpeningFaults.{IsRepairFault, repair_fault};
 ghost use Rattle.recovery.specs.Intents.{AreThere, AlsoIn};
 ghost use Rattle.recovery.specs.Opening.{IsReadBack};
 
@@ -31,11 +31,14 @@ pub(crate) fn find_keys<S: Station>(
     parts: &Parts,
     intent: &Intent,
 ) -> Result<[bool; FLAGS], StoreFault>
-    requires back { IsReadBack parts.now.place parts.now.tally parts.now.index parts.now.frames.journal parts.now.frames.turn (S.view station.old) }
-    ensures found { IfOk result (λ there. Told (S.view station.old) → AreThere intent.now there (contains_key (map_of (S.view station.old).held))) }
+    requires back { IsReadBack parts.now.place parts.now.tally parts.now.index parts.now.frames.journal parts.now.frames.turn
+        (S.view station.old) }
+    ensures found { IfOk result (λ there. Told (S.view station.old) →
+        AreThere intent.now there (contains_key (map_of (S.view station.old).held))) }
     ensures steps { Steps Same (S.view station.old) (S.view station.new) }
     ensures unwritten { (S.view station.new).travel.written ≡ (S.view station.old).travel.written }
-    ensures reads { (S.view station.new).travel.read ≤ (S.view station.old).travel.read + segment_size parts.now.place.layout * 2 ^ parts.now.tally.height }
+    ensures reads { (S.view station.new).travel.read ≤ (S.view station.old).travel.read +
+        segment_size parts.now.place.layout * 2 ^ parts.now.tally.height }
     ensures calls { (S.view station.new).calls ≤ (S.view station.old).calls + 2 ^ parts.now.tally.height }
     ensures damaged { IfErr result (λ fault. Told (S.view station.old) → fault ≡ StoreFault.Failed) }
     ensures causes { IfErr result (λ fault. IsRepairFault (repair_fault fault)) }
@@ -66,13 +69,17 @@ fn look_in<S: Station>(
     intent: &Intent,
     there: &mut [bool; FLAGS],
 ) -> Result<(), StoreFault>
-    requires back { IsReadBack parts.now.place parts.now.tally parts.now.index parts.now.frames.journal parts.now.frames.turn (S.view station.old) }
+    requires back { IsReadBack parts.now.place parts.now.tally parts.now.index parts.now.frames.journal parts.now.frames.turn
+        (S.view station.old) }
     requires in_store { segment < 2 ^ parts.now.tally.height }
     requires size { length page.old ≡ segment_size parts.now.place.layout }
-    ensures found { OnOk result (Told (S.view station.old) → AlsoIn intent.now (segment_of parts.now.place.layout.format (page_in parts.now.place.layout parts.now.place.region (S.view station.old).held segment)) there.old there.new) }
+    ensures found { OnOk result (Told (S.view station.old) →
+        AlsoIn intent.now (segment_of parts.now.place.layout.format (page_in parts.now.place.layout parts.now.place.region
+        (S.view station.old).held segment)) there.old there.new) }
     ensures steps { Steps Same (S.view station.old) (S.view station.new) }
     ensures unwritten { (S.view station.new).travel.written ≡ (S.view station.old).travel.written }
-    ensures reads_one { (S.view station.new).travel.read ≤ (S.view station.old).travel.read + segment_size parts.now.place.layout }
+    ensures reads_one { (S.view station.new).travel.read ≤ (S.view station.old).travel.read +
+        segment_size parts.now.place.layout }
     ensures calls { (S.view station.new).calls ≤ (S.view station.old).calls + 1 }
     ensures damaged { IfErr result (λ fault. Told (S.view station.old) → fault ≡ StoreFault.Failed) }
     ensures causes { IfErr result (λ fault. IsRepairFault (repair_fault fault)) }

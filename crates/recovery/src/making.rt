@@ -2,8 +2,8 @@
 
 ghost use Rattle.std.specs.Prelude.{◌≡◌, ◌≤◌, ◌<◌, IfOk, None};
 ghost use Rattle.header_gate.specs.Places.{IsLayout, height_limit};
-ghost use Rattle.recovery.specs.Parts.{AreParts};
-ghost use Rattle.window_tally.specs.View.{empty_tally};
+ghost use Rattle.recovery.specs.StoreParts.{AreParts};
+ghost use Rattle.window_tally.specs.TallyView.{empty_tally};
 
 use crate::parts::Parts;
 use header_gate::Header;

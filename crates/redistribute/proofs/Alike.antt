@@ -7,8 +7,8 @@ use Rattle.spread_plan.specs.States.{PlanView}
 use Rattle.segment_frames.specs.Lists.{segments_in, held_lists}
 use Rattle.segment_frames.proofs.Alike.{Alike}
 use Rattle.redistribute.specs.Moving.{KeepsAll, in_store}
-use Rattle.redistribute.specs.Windows.{HasWindow, TakesPlan, run_of}
-use Rattle.redistribute.specs.Batches.{TakesBatch, Redone}
+use Rattle.redistribute.specs.SpreadWindows.{HasWindow, TakesPlan, run_of}
+use Rattle.redistribute.specs.WindowBatches.{TakesBatch, Redone}
 
 pub window_alike : (place : Place) (first : ℕ) (counts : List ℕ) (old new : List ℕ) → Alike place old new → HasWindow place first counts old → HasWindow place first counts new
 window_alike place first counts old new alike is = record {

@@ -10,11 +10,11 @@ ghost use Rattle.map_model.specs.Image.{array_of};
 ghost use Rattle.redo_journal.specs.Frames.{IsFrames};
 ghost use Rattle.header_gate.specs.Paged.{pages_of_all};
 ghost use Rattle.segment_frames.specs.Lists.{most_segments, segments_in, held_lists, IsHeld, shown, numbers_of};
-ghost use Rattle.segment_frames.specs.Reading.{ShowsFault, calls_for};
+ghost use Rattle.segment_frames.specs.FrameReading.{ShowsFault, calls_for};
 ghost use Rattle.redistribute.specs.Moving.{IsWithin};
-ghost use Rattle.redistribute.specs.Windows.{HasWindow};
-ghost use Rattle.redistribute.specs.Batches.{HasCounts, kept_in};
-ghost use Rattle.redistribute.specs.Stages.{IsShown};
+ghost use Rattle.redistribute.specs.SpreadWindows.{HasWindow};
+ghost use Rattle.redistribute.specs.WindowBatches.{HasCounts, kept_in};
+ghost use Rattle.redistribute.specs.ShownFaults.{IsShown};
 
 use crate::plan::Plan;
 use redo_journal::{Frames, Place};
@@ -50,7 +50,8 @@ pub(crate) fn load<S: Station, P: Plan>(
         held_lists place.now.layout.format frames.new ≡ shown (numbers_of runs) (array_of (S.view station.old).held)) }
     ensures steps { Steps Same (S.view station.old) (S.view station.new) }
     ensures unwritten { (S.view station.new).travel.written ≡ (S.view station.old).travel.written }
-    ensures reads { (S.view station.new).travel.read ≤ (S.view station.old).travel.read + segment_size place.now.layout * (runs.low_len + runs.high_len) }
+    ensures reads { (S.view station.new).travel.read ≤ (S.view station.old).travel.read +
+        segment_size place.now.layout * (runs.low_len + runs.high_len) }
     ensures calls { (S.view station.new).calls ≤ (S.view station.old).calls + calls_for runs }
     ensures damaged { IfErr result (λ fault. Told (S.view station.old) → fault ≡ StoreFault.Failed) }
     ensures cause { IfErr result (IsShown place.now.layout.format frames.new first [] (P.plan plan.now).counts) }

@@ -1,6 +1,6 @@
 -- The calls of a copying: old segments are read in parts, and new ones are written in parts.
 use Rattle.std.proofs.Common.{◌≡◌, ℕ, ◌+◌, ◌-◌, ◌/◌, ◌<◌, ◌≤◌, subst, arith}
-use Rattle.segment_frames.specs.Parts.{parts, InParts, GoesInParts}
+use Rattle.segment_frames.specs.SegmentParts.{parts, InParts, GoesInParts}
 use Rattle.resize_region.specs.Source.{copy_calls}
 use Rattle.segment_frames.proofs.PartLaws.{parts_none, parts_more}
 

@@ -12,11 +12,11 @@ use Rattle.key_slot.specs.Record.{Record}
 use Rattle.key_slot.specs.Segment.{IsSegment}
 use Rattle.map_model.specs.Array.{Array, rows, cut}
 use Rattle.map_model.specs.Image.{array_in, array_of, map_of}
-use Rattle.map_model.specs.Reasons.{begins_above}
+use Rattle.map_model.specs.FileReasons.{begins_above}
 use Rattle.redo_journal.specs.declared.place.Place.{Place}
 use Rattle.range_scan.specs.Checking.{LieAbove}
-use Rattle.range_scan.specs.ReaderView.{ReaderView}
-use Rattle.range_scan.specs.Reading.{page_in, page_fault}
+use Rattle.range_scan.specs.RegionReaderView.{ReaderView}
+use Rattle.range_scan.specs.RegionReading.{page_in, page_fault}
 use Rattle.range_scan.specs.Walk.{after_walk}
 use Rattle.range_scan.proofs.Amid.{rows_from, drop_at}
 use Rattle.range_scan.proofs.Checks.{above_start, above_next}
@@ -27,7 +27,7 @@ use Rattle.segment.specs.declared.fault.StoreFault.TheVariants.{Failed}
 use Rattle.resize_region.specs.Shares.{StandsBare}
 use Rattle.header_gate.specs.InPlace.{IsRecovered}
 use Rattle.header_gate.proofs.Journals.{bare_recovered}
-use Rattle.window_tally.specs.View.{TallyView}
+use Rattle.window_tally.specs.TallyView.{TallyView}
 use Rattle.resize_region.specs.declared.old_rows.OldRows.{OldRows}
 use Rattle.resize_region.specs.OldRows.{ReadsRows, rows_ahead}
 

@@ -17,7 +17,7 @@ use Rattle.raw_slots.proofs.Grouping.{group_at}
 use Rattle.raw_slots.proofs.Runs.{length-splice}
 use Rattle.raw_slots.proofs.SlotLists.{length-slots_in, bytes_of-slots_in_all}
 use Rattle.redo_journal.specs.Frames.{Batch, IsFrames}
-use Rattle.segment_frames.specs.Held.{grouped, HoldsRows, slot_in}
+use Rattle.segment_frames.specs.HeldRecords.{grouped, HoldsRows, slot_in}
 use Rattle.segment_frames.specs.Lists.{rows_at, segments_in}
 use Rattle.segment_frames.proofs.Grouped.{grouped_same, groups_room, length-grouped, within_groups}
 use Rattle.segment_frames.proofs.Rows.{slot_in-left, slot_in-right, slot_in-past, records-append}

@@ -12,7 +12,7 @@ use Rattle.redo_journal.specs.Frames.{Batch}
 use Rattle.segment.specs.declared.fault.StoreFault.{StoreFault}
 use Rattle.segment_frames.specs.Lists.{most_segments}
 use Rattle.resize_region.specs.declared.source.Source.{Source}
-use Rattle.resize_region.specs.Reading.{ReadsOn}
+use Rattle.resize_region.specs.OldReading.{ReadsOn}
 use Rattle.resize_region.specs.Source.{read_upto}
 use Rattle.resize_region.proofs.OldRowLaws.{rose_on, failed_as, failed_is}
 

@@ -18,8 +18,8 @@ use Rattle.map_model.proofs.Reasonings.{own_rows}
 use Rattle.redo_journal.specs.declared.place.Place.{Place}
 use Rattle.segment.specs.declared.fault.StoreFault.{StoreFault}
 use Rattle.segment.specs.declared.fault.StoreFault.TheVariants.{Failed}
-use Rattle.segment_frames.specs.Standing.{StandsFor}
-use Rattle.window_tally.specs.View.{TallyView, IsTally}
+use Rattle.segment_frames.specs.FrameStanding.{StandsFor}
+use Rattle.window_tally.specs.TallyView.{TallyView, IsTally}
 use Rattle.window_tally.proofs.ViewLaws.{sum-few}
 use Rattle.resize_region.specs.OldRows.{IsDamageIn}
 use Rattle.resize_region.specs.Source.{Walks}

@@ -10,13 +10,13 @@ use Rattle.header_gate.specs.Places.{segment_size}
 use Rattle.map_model.specs.Array.{rows, spread_over}
 use Rattle.map_model.specs.Image.{array_of}
 use Rattle.map_model.specs.Regions.{Spares}
-use Rattle.range_scan.specs.Faults.{IsDamageAt}
+use Rattle.range_scan.specs.SegmentFaults.{IsDamageAt}
 use Rattle.range_scan.proofs.Walks.{walk_written}
 use Rattle.redo_journal.specs.declared.place.Place.{Place}
 use Rattle.redo_journal.specs.Frames.{Batch}
 use Rattle.segment.specs.declared.fault.StoreFault.{StoreFault}
 use Rattle.segment.specs.declared.fault.StoreFault.TheVariants.{Failed}
-use Rattle.window_tally.specs.View.{TallyView}
+use Rattle.window_tally.specs.TallyView.{TallyView}
 use Rattle.resize_region.specs.declared.old_rows.OldRows.{OldRows}
 use Rattle.resize_region.specs.Spare.{HasWritten}
 use Rattle.resize_region.specs.OldRows.{IsDamageIn, ReadsRows}

@@ -10,9 +10,9 @@ use Rattle.redo_journal.specs.declared.place.Place.{Place}
 use Rattle.segment.specs.declared.fault.StoreFault.{StoreFault}
 use Rattle.segment.specs.declared.fault.StoreFault.TheVariants.{Failed}
 use Rattle.range_scan.specs.Checking.{LieAbove}
-use Rattle.range_scan.specs.Faults.{IsDamageAt}
+use Rattle.range_scan.specs.SegmentFaults.{IsDamageAt}
 use Rattle.range_scan.specs.Walk.{after_walk}
-use Rattle.window_tally.specs.View.{TallyView}
+use Rattle.window_tally.specs.TallyView.{TallyView}
 use Rattle.resize_region.specs.Source.{Walks}
 use Rattle.resize_region.specs.declared.old_rows.OldRows.{OldRows}
 

@@ -15,8 +15,8 @@ use Rattle.redo_journal.specs.Rest.{RestsAt}
 use Rattle.segment.specs.Rows.{key_at}
 use Rattle.segment.specs.declared.fault.StoreFault.{StoreFault}
 use Rattle.segment.specs.declared.fault.StoreFault.TheVariants.{Failed}
-use Rattle.segment_frames.specs.Standing.{StandsFor}
-use Rattle.window_tally.specs.View.{TallyView}
+use Rattle.segment_frames.specs.FrameStanding.{StandsFor}
+use Rattle.window_tally.specs.TallyView.{TallyView}
 use Rattle.resize_region.specs.Resized.{Resizes}
 use Rattle.resize_region.specs.Shares.{HasCause}
 use Rattle.segment_frames.specs.Lists.{most_segments}

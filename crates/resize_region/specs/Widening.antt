@@ -15,14 +15,14 @@ use Rattle.redo_journal.specs.Frames.{Batch}
 use Rattle.redo_journal.specs.Rest.{RestsAt}
 use Rattle.segment.specs.declared.fault.StoreFault.{StoreFault}
 use Rattle.segment.specs.declared.fault.StoreFault.TheVariants.{Failed}
-use Rattle.window_tally.specs.View.{TallyView}
+use Rattle.window_tally.specs.TallyView.{TallyView}
 use Rattle.resize_region.specs.Spare.{HasWritten}
 use Rattle.resize_region.specs.OldRows.{IsDamageIn}
 use Rattle.resize_region.specs.Shares.{StandsBare}
 use Rattle.resize_region.specs.Source.{Walks}
 use Rattle.resize_region.specs.Upgraded.{Upgrades, widened, in_wide, upgraded, upgraded_height}
 use Rattle.segment_frames.specs.Lists.{most_segments}
-use Rattle.segment_frames.specs.Parts.{parts}
+use Rattle.segment_frames.specs.SegmentParts.{parts}
 
 -- a store of format 1 on a station, over whose file nothing is to be laid, frames for its journal, and that many segments of
 -- format 2 with room for its records

@@ -8,8 +8,8 @@ ghost use Rattle.header_gate.specs.InPlace.{IsBare};
 ghost use Rattle.header_gate.specs.Places.{IsLayout, file_length};
 ghost use Rattle.map_model.specs.Image.{array_of};
 ghost use Rattle.redo_journal.specs.Rest.{RestsAt};
-ghost use Rattle.segment_frames.specs.Standing.{IsSettledAt, StandsFor};
-ghost use Rattle.window_tally.specs.View.{TallyView};
+ghost use Rattle.segment_frames.specs.FrameStanding.{IsSettledAt, StandsFor};
+ghost use Rattle.window_tally.specs.TallyView.{TallyView};
 ghost use Rattle.resize_region.specs.Resized.{Settles};
 
 use redo_journal::{Frames, Place, clear};
@@ -34,8 +34,10 @@ pub fn clear_store<S: Station>(
     // Below version 4, with one journal, the station stays as it was: no call is made.
     ensures untouched { place.now.layout.version ≢ PAIRED → station.new ≡ station.old }
     // On Ok the array stays, and a tally that stood for the file still does.
-    ensures stands { OnOk result ((tally : TallyView) → EachHeld (StandsFor place.now tally) (S.view station.old) → EachHeld (StandsFor place.now tally) (S.view station.new)) }
-    ensures array { OnOk result (Told (S.view station.old) → array_of (S.view station.new).held ≡ array_of (S.view station.old).held) }
+    ensures stands { OnOk result ((tally : TallyView) → EachHeld (StandsFor place.now tally) (S.view station.old) →
+        EachHeld (StandsFor place.now tally) (S.view station.new)) }
+    ensures array { OnOk result (Told (S.view station.old) →
+        array_of (S.view station.new).held ≡ array_of (S.view station.old).held) }
     // On Ok nothing is pending, no page is to be replayed over the live region, and the station is at rest.
     ensures nothing { OnOk result (NothingPending (S.view station.new)) }
     ensures bare { OnOk result (Told (S.view station.new) → IsBare place.now.layout (S.view station.new).held) }

@@ -54,7 +54,8 @@ pub(crate) fn gather<S: Station>(
     ensures left { OnOk result (wanted.records + rows_left tally.now.counts rows.new ≡ rows_left tally.now.counts rows.old) }
     ensures same { OnOk result (Told (S.view station.old) →
         share_in wide wanted.f frames.new ++ rows_ahead (array_of (S.view station.old).held) rows.new ≡ rows_ahead (array_of (S.view station.old).held) rows.old) }
-    ensures others { (i : ℕ) → i ≢ wanted.f → i < places wide frames.old → share_in wide i frames.new ≡ share_in wide i frames.old }
+    ensures others { (i : ℕ) → i ≢ wanted.f → i < places wide frames.old →
+        share_in wide i frames.new ≡ share_in wide i frames.old }
     ensures rest { frames.new ≡ record frames.old { slots = frames.new.slots } }
     ensures reads { ReadsRows place.now tally.now result rows.old rows.new (S.view station.old) (S.view station.new) }
 {
@@ -108,7 +109,8 @@ fn read_on<S: Station>(
     ensures among { OnOk result (IsAmongRows place.now tally.now rows.new) }
     ensures order { OnOk result (Told (S.view station.old) → IsInOrder (array_of (S.view station.old).held) rows.new) }
     ensures left { OnOk result (rows_left tally.now.counts rows.new ≡ rows_left tally.now.counts rows.old) }
-    ensures same { OnOk result (Told (S.view station.old) → rows_ahead (array_of (S.view station.old).held) rows.new ≡ rows_ahead (array_of (S.view station.old).held) rows.old) }
+    ensures same { OnOk result (Told (S.view station.old) →
+        rows_ahead (array_of (S.view station.old).held) rows.new ≡ rows_ahead (array_of (S.view station.old).held) rows.old) }
     ensures reads { ReadsRows place.now tally.now result rows.old rows.new (S.view station.old) (S.view station.new) }
 {
     if next_counted(&mut rows.reader, tally, station, &mut rows.page)? {

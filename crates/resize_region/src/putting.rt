@@ -22,7 +22,8 @@ pub fn put_row(frames: &mut Frames, format: u32, f: u32, count: u32, row: &Row)
     ensures shares { HasShares format frames.new }
     ensures share { share_in format f frames.new ≡ share_in format f frames.old ++ record_of row.now ∷ [] }
     // All other places stay, and so does all of the frames but their slots.
-    ensures others { (i : ℕ) → i ≢ f → i < places format frames.old → share_in format i frames.new ≡ share_in format i frames.old }
+    ensures others { (i : ℕ) → i ≢ f → i < places format frames.old →
+        share_in format i frames.new ≡ share_in format i frames.old }
     ensures rest { frames.new ≡ record frames.old { slots = frames.new.slots } }
 {
     let size = format as usize;

@@ -12,9 +12,9 @@ ghost use Rattle.key_slot.specs.Format.{narrow, wide};
 ghost use Rattle.map_model.specs.Array.{resized};
 ghost use Rattle.map_model.specs.Image.{array_of};
 ghost use Rattle.map_model.specs.Standing.{StandsWith};
-ghost use Rattle.range_scan.specs.Faults.{IsDamageAt};
+ghost use Rattle.range_scan.specs.SegmentFaults.{IsDamageAt};
 ghost use Rattle.redo_journal.specs.Rest.{RestsAt};
-ghost use Rattle.segment_frames.specs.Standing.{StandsFor};
+ghost use Rattle.segment_frames.specs.FrameStanding.{StandsFor};
 ghost use Rattle.resize_region.specs.Resizing.{CanResize};
 ghost use Rattle.resize_region.specs.Source.{Walks};
 ghost use Rattle.resize_region.specs.Upgraded.{Upgrades, TooManyFor, widened, upgraded, upgraded_height};
@@ -67,7 +67,8 @@ pub fn upgrade<S: Station>(
 
     // At every moment, and in the held bytes whatever is answered, the file represents the same map, in the old array or in the
     // new one at format 2; no byte differs but those of the selector, the other copy and the other region.
-    ensures steps { Steps (Upgrades place.old (upgraded_height place.old.layout tally.now.height)) (S.view station.old) (S.view station.new) }
+    ensures steps { Steps (Upgrades place.old (upgraded_height place.old.layout tally.now.height)) (S.view station.old)
+        (S.view station.new) }
     // On Ok nothing is pending, and the station is at rest.
     ensures settled { OnOk result (NothingPending (S.view station.new)) }
     ensures rests { OnOk result (RestsAt place.new.layout frames.new.turn (S.view station.new)) }
@@ -88,9 +89,11 @@ pub fn upgrade<S: Station>(
     ensures cost { (S.view station.new).travel.written ≤ (S.view station.old).travel.written +
         (segment_size (widened place.old.layout) * 2 ^ upgraded_height place.old.layout tally.now.height + 9) }
     // The live region is read in one direction, each segment at most once.
-    ensures reads { (n : ℕ) × (n ≤ 2 ^ tally.now.height) × Walks place.old 0 n (S.view station.old).travel (S.view station.new).travel }
+    ensures reads { (n : ℕ) × (n ≤ 2 ^ tally.now.height) ×
+        Walks place.old 0 n (S.view station.old).travel (S.view station.new).travel }
     // At `Done` the whole live region was read, in one direction, each segment once.
-    ensures whole { result ≡ Ok Upgrade.Done → Walks place.old 0 (2 ^ tally.now.height) (S.view station.old).travel (S.view station.new).travel }
+    ensures whole { result ≡ Ok Upgrade.Done → Walks place.old 0 (2 ^ tally.now.height) (S.view station.old).travel
+        (S.view station.new).travel }
 
     // At most one call for each old segment, one for each n new ones, rounded up, if the frames have room for n of format 2, and
     // four for a flip.

@@ -16,7 +16,7 @@ ghost use Rattle.resize_region.specs.Shares.{places, HasShares, share_in};
 ghost use Rattle.resize_region.specs.Source.{Walks};
 ghost use Rattle.resize_region.specs.Upgraded.{widened, in_wide};
 ghost use Rattle.resize_region.specs.Widening.{CanWiden, WritesWide};
-ghost use Rattle.segment_frames.specs.Parts.{parts};
+ghost use Rattle.segment_frames.specs.SegmentParts.{parts};
 ghost use Rattle.segment_frames.specs.Lists.{most_segments};
 
 use crate::copying::{fits_more, write_shares};
@@ -47,10 +47,14 @@ pub(crate) fn copy_wide<S: Station>(
     requires can { CanWiden place.now tally.now segments frames.old (S.view station.old) }
     requires height { tally.now.height ≤ height_limit place.now.layout }
     requires records { records ≡ sum tally.now.counts }
-    ensures writes { WritesWide result place.now tally.now segments frames.old frames.new (S.view station.old) (S.view station.new) }
-    ensures whole { OnOk result (Walks place.now 0 (2 ^ tally.now.height) (S.view station.old).travel (S.view station.new).travel) }
-    ensures calls { (S.view station.new).calls ≤ (S.view station.old).calls + (2 ^ tally.now.height + parts (most_segments (widened place.now.layout)) segments) }
-    ensures reads { (n : ℕ) × (n ≤ 2 ^ tally.now.height) × Walks place.now 0 n (S.view station.old).travel (S.view station.new).travel }
+    ensures writes { WritesWide result place.now tally.now segments frames.old frames.new (S.view station.old)
+        (S.view station.new) }
+    ensures whole { OnOk result (Walks place.now 0 (2 ^ tally.now.height) (S.view station.old).travel
+        (S.view station.new).travel) }
+    ensures calls { (S.view station.new).calls ≤ (S.view station.old).calls + (2 ^ tally.now.height +
+        parts (most_segments (widened place.now.layout)) segments) }
+    ensures reads { (n : ℕ) × (n ≤ 2 ^ tally.now.height) ×
+        Walks place.now 0 n (S.view station.old).travel (S.view station.new).travel }
 {
     let mut rows = OldRows {
         reader: RegionReader::new(place.layout, place.region, 0, segments_at(tally.height())),
@@ -80,9 +84,11 @@ fn write_wide<S: Station>(
     ensures among { OnOk result (IsAmongRows place.now tally.now rows.new) }
     ensures done { OnOk result (rows_left tally.now.counts rows.new ≡ 0) }
     ensures order { OnOk result (Told (S.view station.old) → IsInOrder (array_of (S.view station.old).held) rows.new) }
-    ensures writes { WritesWide result place.now tally.now spread.segments frames.old frames.new (S.view station.old) (S.view station.new) }
+    ensures writes { WritesWide result place.now tally.now spread.segments frames.old frames.new (S.view station.old)
+        (S.view station.new) }
     ensures upto { rows.new.reader.next ≤ 2 ^ tally.now.height }
-    ensures calls { (S.view station.new).calls ≤ (S.view station.old).calls + (rows.new.reader.next + parts (most_segments (widened place.now.layout)) spread.segments) }
+    ensures calls { (S.view station.new).calls ≤ (S.view station.old).calls + (rows.new.reader.next +
+        parts (most_segments (widened place.now.layout)) spread.segments) }
     ensures reads { Walks place.now 0 rows.new.reader.next (S.view station.old).travel (S.view station.new).travel }
 {
     let all = place.layout.journal / WIDE;
@@ -123,9 +129,12 @@ fn write_places<S: Station>(
     requires inside { first + count ≤ 2 ^ height_limit (widened place.now.layout) }
     requires live { EachHeld (IsAt place.now) (S.view station.old) }
     ensures steps { Steps (Spares place.now.layout place.now.region) (S.view station.old) (S.view station.new) }
-    ensures written { OnOk result (Told (S.view station.old) → (i : ℕ) → i < count → FitsSegment wide (share_in wide i frames.now) →
+    ensures written { OnOk result (Told (S.view station.old) → (i : ℕ) → i < count →
+        FitsSegment wide (share_in wide i frames.now) →
         IsSegment wide (share_in wide i frames.now) (spare_bytes (in_wide place.now) (first + i) (S.view station.new).held)) }
-    ensures others { Told (S.view station.old) → (i : ℕ) → i < first → spare_bytes (in_wide place.now) i (S.view station.new).held ≡ spare_bytes (in_wide place.now) i (S.view station.old).held }
+    ensures others { Told (S.view station.old) → (i : ℕ) → i < first →
+        spare_bytes (in_wide place.now) i (S.view station.new).held ≡
+        spare_bytes (in_wide place.now) i (S.view station.old).held }
     ensures writes { WritesSpare (segment_size (widened place.now.layout) * count) (S.view station.old) (S.view station.new) }
     ensures fault { IfErr result (λ fault. fault ≡ StoreFault.Failed) }
     ensures failed { IsErrOf result StoreFault.Failed → Rose (S.view station.old).disk_faults (S.view station.new).disk_faults }

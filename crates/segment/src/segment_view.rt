@@ -68,9 +68,11 @@ impl<'a> SegmentView<'a> {
         ensures count { IfOk result (λ rows. length rows ≡ kept) }
         // It fails exactly if a slot is bad, or else if the number of rows isn't `kept`. It names the segment, and the first
         // bad slot or both numbers.
-        ensures damage { IfErr result (λ fault. (why : Damage) × (damage_of (format_of bytes.now) bytes.now kept ≡ Some why) × (fault ≡ StoreFault.Damaged segment why)) }
+        ensures damage { IfErr result (λ fault. (why : Damage) × (damage_of (format_of bytes.now) bytes.now kept ≡ Some why) ×
+            (fault ≡ StoreFault.Damaged segment why)) }
         // If it names two numbers of rows, the second one is `kept`, and the first differs.
-        ensures other { (found other : ℕ) → result ≡ Err (StoreFault.Damaged segment (Damage.OtherCount found other)) → (other ≡ kept) × (found ≢ kept) }
+        ensures other { (found other : ℕ) → result ≡ Err (StoreFault.Damaged segment (Damage.OtherCount found other)) →
+            (other ≡ kept) × (found ≢ kept) }
     {
         validate_kept(bytes, segment, kept)?;
         Ok(SegmentView::again(bytes, kept))

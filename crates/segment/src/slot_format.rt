@@ -15,7 +15,8 @@ pub(crate) trait SlotFormat<const SIZE: usize> {
 
     /// Whether a slot holds a row. It fails if the bytes are no slot.
     fn holds_row(slot: &[u8; SIZE]) -> Result<bool, BadSlot>
-        ensures read { IfOk result (λ holds. slot_of number slot.now ≡ Some (if holds then Some (fields_of number slot.now) else None)) }
+        ensures read { IfOk result (λ holds. slot_of number slot.now ≡ Some (if holds then Some (fields_of number slot.now)
+            else None)) }
         ensures bad { OnErr result (slot_of number slot.now ≡ None) };
 
     /// Whether the key of a slot is below that of the next one, if both hold rows.

@@ -4,7 +4,7 @@ ghost use Rattle.std.specs.Prelude.{◌≡◌, ◌≢◌, ℕ, Some, length, IfO
 ghost use Rattle.key_slot.specs.Format.{HasFormat, format_of};
 ghost use Rattle.key_slot.specs.Segment.{IsSegment, segment_of};
 ghost use Rattle.segment.specs.Validated.{damage_of};
-ghost use Rattle.segment.specs.Validating.{page_damage};
+ghost use Rattle.segment.specs.SegmentReasons.{page_damage};
 
 use super::counted::count_rows;
 use super::fault::{BadSegment, Damage, StoreFault};
@@ -36,9 +36,11 @@ pub fn validate_kept(page: &[u8], segment: u32, kept: u32) -> Result<(), StoreFa
     ensures count { OnOk result (length (segment_of (format_of page.now) page.now) ≡ kept) }
     // It fails exactly if a slot is bad, or else if the number of rows isn't `kept`. It names the segment, and the first
     // bad slot or both numbers.
-    ensures damage { IfErr result (λ fault. (why : Damage) × (damage_of (format_of page.now) page.now kept ≡ Some why) × (fault ≡ StoreFault.Damaged segment why)) }
+    ensures damage { IfErr result (λ fault. (why : Damage) × (damage_of (format_of page.now) page.now kept ≡ Some why) ×
+        (fault ≡ StoreFault.Damaged segment why)) }
     // If it names two numbers of rows, the second one is `kept`, and the first differs.
-    ensures other { (found other : ℕ) → result ≡ Err (StoreFault.Damaged segment (Damage.OtherCount found other)) → (other ≡ kept) × (found ≢ kept) }
+    ensures other { (found other : ℕ) → result ≡ Err (StoreFault.Damaged segment (Damage.OtherCount found other)) →
+        (other ≡ kept) × (found ≢ kept) }
 {
     match count_rows(page) {
         Ok(found) => match validate_count(segment, found, kept) {

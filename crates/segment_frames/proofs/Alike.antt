@@ -18,14 +18,14 @@ use Rattle.map_model.specs.Image.{Represents, height_of, array_from, array_in, a
 use Rattle.map_model.specs.Batches.{KeepsHeader}
 use Rattle.map_model.proofs.Headers.{same_segments}
 use Rattle.map_model.proofs.Recovering.{same_header, kept, represents_own}
-use Rattle.window_tally.specs.View.{TallyView}
+use Rattle.window_tally.specs.TallyView.{TallyView}
 use Rattle.redo_journal.specs.declared.place.Place.{Place}
 use Rattle.redo_journal.specs.Commit.{Clears}
 use Rattle.redo_journal.specs.Frames.{Batch}
 use Rattle.redo_journal.specs.Rest.{RestsAt}
 use Rattle.redo_journal.proofs.Live.{rest_recovers, rest_live, rests_still}
 use Rattle.segment_frames.specs.Lists.{IsHeld}
-use Rattle.segment_frames.specs.Standing.{IsSettledAt, StandsFor}
+use Rattle.segment_frames.specs.FrameStanding.{IsSettledAt, StandsFor}
 
 pub record Alike (place : Place) (old new : List ℕ) : Type 0 where
   pub settled : IsSettledAt place new

@@ -12,7 +12,7 @@ use Rattle.key_slot.specs.Format.{narrow, wide, slot_size}
 use Rattle.raw_slots.specs.declared.TheConstants.{SLOT_SIZE as RAW_SIZE}
 use Rattle.raw_slots.specs.Slots.{bytes_of}
 use Rattle.raw_slots.proofs.Grouping.{group_at}
-use Rattle.segment_frames.specs.Held.{grouped, HoldsRows}
+use Rattle.segment_frames.specs.HeldRecords.{grouped, HoldsRows}
 use Rattle.segment_frames.proofs.Grouped.{within_groups}
 use Rattle.segment_frames.proofs.FrameLaws.{slot_of-slot_in}
 

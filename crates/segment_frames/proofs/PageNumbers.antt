@@ -15,7 +15,7 @@ use Rattle.std.proofs.lemmas.Bool.{cases_lt}
 use Rattle.segment_frames.specs.declared.runs.Runs.{Runs}
 use Rattle.redo_journal.specs.Neighbours.{run_count}
 use Rattle.redo_journal.proofs.RunCounts.{run_count_joined, run_count_side_by_side}
-use Rattle.segment_frames.specs.Reading.{call_for, calls_for}
+use Rattle.segment_frames.specs.FrameReading.{call_for, calls_for}
 use Rattle.segment_frames.specs.Lists.{most_segments, numbers_of, segments_in}
 
 -- runs side by side

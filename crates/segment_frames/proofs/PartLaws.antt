@@ -1,7 +1,7 @@
 -- Segments in parts, one part after another.
 use Rattle.std.proofs.Common.{ℕ, ◌+◌, ◌-◌, ◌<◌, ◌≤◌, arith}
 use Rattle.std.proofs.Math.Nat.{le-div_iff_mul-le}
-use Rattle.segment_frames.specs.Parts.{InParts, GoesInParts}
+use Rattle.segment_frames.specs.SegmentParts.{InParts, GoesInParts}
 
 -- none is made
 pub parts_none : (room count done : ℕ) → InParts room count done 0

@@ -27,10 +27,10 @@ use Rattle.redo_journal.specs.declared.place.Place.{Place}
 use Rattle.redo_journal.specs.Commit.{IsAt}
 use Rattle.redo_journal.specs.Frames.{Batch, IsFrames}
 use Rattle.map_model.specs.Array.{segment_at}
-use Rattle.segment_frames.specs.Held.{grouped, HoldsRows}
-use Rattle.segment_frames.specs.Standing.{IsSettledAt}
+use Rattle.segment_frames.specs.HeldRecords.{grouped, HoldsRows}
+use Rattle.segment_frames.specs.FrameStanding.{IsSettledAt}
 use Rattle.segment_frames.specs.Lists.{frames_of, page_at, rows_at, segments_in, IsHeld}
-use Rattle.segment_frames.specs.Reading.{HasRead, segment_bytes_at}
+use Rattle.segment_frames.specs.FrameReading.{HasRead, segment_bytes_at}
 use Rattle.segment_frames.proofs.Slots.{splice_inside}
 use Rattle.segment_frames.proofs.FrameLaws.{length-rows_in, rows_in_at, holds_decoded}
 use Rattle.segment_frames.proofs.Grouped.{all_within, length-grouped, length-frames_of, frames_at}

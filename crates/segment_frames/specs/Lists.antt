@@ -12,7 +12,7 @@ use Rattle.header_gate.specs.Places.{IsSlotFormat}
 use Rattle.header_gate.specs.Paged.{pages_of_all}
 use Rattle.redo_journal.specs.Frames.{Batch, IsFrames}
 use Rattle.segment_frames.specs.declared.runs.Runs.{Runs}
-use Rattle.segment_frames.specs.Held.{grouped, HoldsLists}
+use Rattle.segment_frames.specs.HeldRecords.{grouped, HoldsLists}
 
 -- the slots of the frames of segment f, one frame a page
 abbrev pub frames_of : ℕ → ℕ → List (List ℕ) → List (List ℕ)

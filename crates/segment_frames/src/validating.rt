@@ -3,9 +3,9 @@
 ghost use Rattle.std.specs.Prelude.{◌≡◌, ◌+◌, ◌*◌, ◌≤◌, length, OnOk, IfErr};
 ghost use Rattle.header_gate.specs.Places.{IsSlotFormat};
 ghost use Rattle.redo_journal.specs.Frames.{IsFrames};
-ghost use Rattle.segment_frames.specs.Held.{grouped, HoldsRows};
+ghost use Rattle.segment_frames.specs.HeldRecords.{grouped, HoldsRows};
 ghost use Rattle.segment_frames.specs.Lists.{page_at, rows_at};
-ghost use Rattle.segment_frames.specs.Reading.{IsPageFault};
+ghost use Rattle.segment_frames.specs.FrameReading.{IsPageFault};
 
 use key_slot::SEGMENT_SLOTS;
 use redo_journal::Frames;

@@ -4,7 +4,7 @@
 ghost use Rattle.std.specs.Prelude.{◌≤◌, T, length, IfOk};
 ghost use Rattle.std.specs.List.{list_all};
 ghost use Rattle.batch_intent.specs.Spelling.{fits_item};
-ghost use Rattle.pma_store.specs.Store.{IsOpenOn};
+ghost use Rattle.pma_store.specs.StoreView.{IsOpenOn};
 
 use crate::files::{Counts, FORMATS, file_of, lay, layout_of, noting, row, see_records};
 use crate::store::{Bench, batch, open, opens};
@@ -15,7 +15,6 @@ use pma_store::{Batch, Store};
 use station::{CrashStation, MemStation, Pick, Station};
 use std::alloc::Global;
 use std::process::Abort;
-use std::test::Fail;
 
 // The most calls that an opening, and a batch behind it, make in these tests.
 const CALLS: u32 = 120;
@@ -24,43 +23,40 @@ const CALLS: u32 = 120;
 pub type Item = (bool, u32);
 
 // The bytes of an intent of these items, with records of a format.
-fn spelled(rt: &impl Abort, alloc: Global, format: u32, items: &[Item]) -> Result<Vec<u8>, Fail> {
+fn spelled(rt: &impl Abort, alloc: Global, format: u32, items: &[Item]) -> Vec<u8> {
     assert!(rt; items.len() <= MOST_ITEMS as usize);
-    let mut bytes = Vec::from_slice(alloc, &[items.len() as u8])?;
+    let mut bytes = Vec::from_slice(alloc, &[items.len() as u8]).expect(rt, "memory");
     for (puts, number) in items {
-        let row = row(*number, format)?;
+        let row = row(rt, *number, format);
         let key = row.key.as_bytes();
         if *puts {
             let value = row.value.as_bytes();
-            bytes.extend_from_slice(&[1, key.len() as u8, value.len() as u8])?;
-            bytes.extend_from_slice(key)?;
-            bytes.extend_from_slice(value)?;
+            bytes
+                .extend_from_slice(&[1, key.len() as u8, value.len() as u8])
+                .expect(rt, "memory");
+            bytes.extend_from_slice(key).expect(rt, "memory");
+            bytes.extend_from_slice(value).expect(rt, "memory");
         } else {
-            bytes.extend_from_slice(&[2, key.len() as u8, 0])?;
-            bytes.extend_from_slice(key)?;
+            bytes
+                .extend_from_slice(&[2, key.len() as u8, 0])
+                .expect(rt, "memory");
+            bytes.extend_from_slice(key).expect(rt, "memory");
         }
     }
-    Ok(bytes)
+    bytes
 }
 
 /// The intent of these items, with records of a format, as a file has it.
-pub fn intent_of(
-    rt: &impl Abort,
-    alloc: Global,
-    format: u32,
-    items: &[Item],
-) -> Result<Intent, Fail>
+pub fn intent_of(rt: &impl Abort, alloc: Global, format: u32, items: &[Item]) -> Intent
     requires { 1 ≤ format × (format ≤ 2) }
-    ensures { IfOk result (λ intent. (1 ≤ length intent) × T (list_all (fits_item format) intent)) }
+    ensures { (1 ≤ length result) × T (list_all (fits_item format) result) }
 {
-    let mut page = vec![in alloc; 0; 4096]?;
+    let mut page = vec![in alloc; 0; 4096].expect(rt, "memory");
     lay(rt, &mut page, 640, &[1]);
-    lay(rt, &mut page, 3584, &spelled(rt, alloc, format, items)?);
-    let mut station = MemStation::new(alloc, &page, 4096, 0, &[], None)?;
-    match read_intent(&mut station, layout_of(format, 2, 4)) {
-        Ok(Some(intent)) => Ok(intent),
-        _ => Err("no intent".into()),
-    }
+    lay(rt, &mut page, 3584, &spelled(rt, alloc, format, items));
+    let mut station = MemStation::new(alloc, &page, 4096, 0, &[], None).expect(rt, "memory");
+    let read = read_intent(&mut station, layout_of(format, 2, 4)).expect(rt, "an intent");
+    read.expect(rt, "an odd gate")
 }
 
 /// The height and the counts before a batch, its items, the last number of the records, the last one behind the batch, which
@@ -178,39 +174,24 @@ fn batch_once<S: Station>(
     }
 }
 
-// Sees that a store has the records before a batch or those behind it, and answers whether it has the latter.
-fn see_either_in(
-    rt: &impl Abort,
-    bench: &mut Bench<MemStation>,
-    layout: Layout,
-    batch: &Row,
-) -> Result<bool, Fail> {
+// Opens a file, sees that it has the records before a batch or those behind it, and answers whether it has the latter.
+fn see_either(rt: &impl Abort, alloc: Global, file: &[u8], layout: Layout, batch: &Row) -> bool {
+    let mut bench = bench_of(rt, alloc, file);
     let (_, _, _, before, after, _) = *batch;
     assert!(rt; before < 1000 && after < 1000);
-    let first = bench.get(rt, &row(1, layout.format)?.key)?;
+    let first = bench
+        .get(rt, &row(rt, 1, layout.format).key)
+        .expect(rt, "no fault");
+    let is_before = first.is_some();
     let held = bench.held();
-    assert!(rt; held.len() > 640);
-    assert_eq!(rt; held[640], 0, "the gate");
-    if first.is_some() {
-        see_records(rt, held, layout, 1, before)?;
+    assert!(rt; held.len() > 640 && held[640] == 0, "the gate");
+    if is_before {
+        see_records(rt, held, layout, 1, before);
     } else {
-        see_records(rt, held, layout, 2, after)?;
+        see_records(rt, held, layout, 2, after);
     }
-    Ok(first.is_none())
-}
-
-// Opens a file, sees that it has the records before a batch or those behind it, and answers whether it has the latter.
-fn see_either(
-    rt: &impl Abort,
-    alloc: Global,
-    file: &[u8],
-    layout: Layout,
-    batch: &Row,
-) -> Result<bool, Fail> {
-    let mut bench = bench_of(rt, alloc, file)?;
-    let seen = see_either_in(rt, &mut bench, layout, batch);
     bench.end();
-    seen
+    !is_before
 }
 
 // Stops the opening of a file at each of its calls: it has the same records then. A call that fails alone leaves what a stop at it
@@ -222,25 +203,29 @@ fn see_stopped_openings(
     layout: Layout,
     batch: &Row,
     is_after: bool,
-) -> Result<(), Fail> {
-    let mut last = Vec::from_slice(alloc, file)?;
+) {
+    let mut last = Vec::from_slice(alloc, file).expect(rt, "memory");
     assert!(rt; file.len() < 1000000);
     for call in 0..CALLS {
-        let mut stopped = MemStation::new(alloc, file, file.len(), 0, &[], Some(call))?;
-        let mut failed = MemStation::new(alloc, file, file.len(), 0, &[call], None)?;
+        let mut stopped = MemStation::new(alloc, file, file.len(), 0, &[], Some(call)).expect(
+            rt, "memory",
+        );
+        let mut failed = MemStation::new(alloc, file, file.len(), 0, &[call], None).expect(
+            rt, "memory",
+        );
         let is_stopped = !opens(alloc, &mut stopped);
         let is_failed = !opens(alloc, &mut failed);
         assert!(rt; is_stopped == is_failed && stopped.held() == failed.held());
         if !is_stopped {
-            return Ok(());
+            return;
         }
         if stopped.held() != last.as_slice() {
-            let again = see_either(rt, alloc, stopped.held(), layout, batch)?;
+            let again = see_either(rt, alloc, stopped.held(), layout, batch);
             assert_eq!(rt; again, is_after);
-            last = Vec::from_slice(alloc, stopped.held())?;
+            last = Vec::from_slice(alloc, stopped.held()).expect(rt, "memory");
         }
     }
-    Err("the opening makes more calls".into())
+    panic!(rt; "the opening makes more calls");
 }
 
 // Opens what a batch has left that was stopped, failed or done, in format 1 also after stops.
@@ -251,56 +236,56 @@ fn see_left(
     layout: Layout,
     batch: &Row,
     is_done: bool,
-) -> Result<(), Fail> {
-    let is_after = see_either(rt, alloc, file, layout, batch)?;
+) {
+    let is_after = see_either(rt, alloc, file, layout, batch);
     assert!(rt; is_after || !is_done);
     if layout.format == 1 {
-        see_stopped_openings(rt, alloc, file, layout, batch, is_after)?;
+        see_stopped_openings(rt, alloc, file, layout, batch, is_after);
     }
-    Ok(())
 }
 
 // Has each call fail in turn while a store is opened and a batch is made in it. What the last fault left isn't opened again.
-fn see_faults(rt: &impl Abort, alloc: Global, format: u32, batch: &Row) -> Result<(), Fail>
+fn see_faults(rt: &impl Abort, alloc: Global, format: u32, batch: &Row)
     requires { 1 ≤ format × (format ≤ 2) }
 {
     let (height, counts, items, _, _, want) = *batch;
     let layout = layout_of(format, 2, 4);
-    let file = file_of(rt, alloc, layout, height, counts)?;
-    let intent = intent_of(rt, alloc, format, items)?;
+    let file = file_of(rt, alloc, layout, height, counts);
+    let intent = intent_of(rt, alloc, format, items);
     let mut last = Vec::new(alloc);
     assert!(rt; file.len() < 1000000);
     for call in 0..CALLS {
-        let mut station = MemStation::new(alloc, &file, file.len(), 0, &[call], None)?;
+        let mut station = MemStation::new(alloc, &file, file.len(), 0, &[call], None).expect(
+            rt, "memory",
+        );
         let done = batch_once(rt, alloc, &mut station, format, &intent);
         if done.is_some() {
             assert_eq!(rt; done, Some(want));
             return see_left(rt, alloc, station.held(), layout, batch, true);
         }
         if station.held() != last.as_slice() {
-            last = Vec::from_slice(alloc, station.held())?;
-            see_left(rt, alloc, &last, layout, batch, false)?;
+            last = Vec::from_slice(alloc, station.held()).expect(rt, "memory");
+            see_left(rt, alloc, &last, layout, batch, false);
         }
     }
-    Err("the batch makes more calls".into())
+    panic!(rt; "the batch makes more calls");
 }
 
 // Stops a batch behind each of its calls, with what is pending lost or torn. What is left with all held bytes is what a fault at
 // the next call leaves, so that isn't looked at here.
-fn see_stops(rt: &impl Abort, alloc: Global, format: u32, batch: &Row) -> Result<(), Fail>
+fn see_stops(rt: &impl Abort, alloc: Global, format: u32, batch: &Row)
     requires { 1 ≤ format × (format ≤ 2) }
 {
     let (height, counts, items, _, _, want) = *batch;
     let layout = layout_of(format, 2, 4);
-    let file = file_of(rt, alloc, layout, height, counts)?;
-    let intent = intent_of(rt, alloc, format, items)?;
-    let mut station = noting(rt, alloc, &file)?;
+    let file = file_of(rt, alloc, layout, height, counts);
+    let intent = intent_of(rt, alloc, format, items);
+    let mut station = noting(rt, alloc, &file);
     let done = batch_once(rt, alloc, &mut station, format, &intent);
     assert_eq!(rt; done, Some(want));
     for pick in [Pick::Settled, Pick::Fill(255)] {
-        see_images(rt, alloc, &station, pick, layout, batch)?;
+        see_images(rt, alloc, &station, pick, layout, batch);
     }
-    Ok(())
 }
 
 // Opens what a crash after each of a batch's calls leaves with what is pending left so, but for what the last one left.
@@ -311,93 +296,84 @@ fn see_images(
     pick: Pick,
     layout: Layout,
     batch: &Row,
-) -> Result<(), Fail> {
+) {
     let noted = station.noted();
     let mut last = Vec::new(alloc);
     assert!(rt; noted < 400, "there was room for all notes");
     for calls in 0..=noted as u32 {
-        let image = station.crash_image(alloc, calls, pick)?;
+        let image = station.crash_image(alloc, calls, pick).expect(rt, "memory");
         let is_done = calls as usize == noted;
         if image != last || is_done {
-            see_left(rt, alloc, &image, layout, batch, is_done)?;
+            see_left(rt, alloc, &image, layout, batch, is_done);
             last = image;
         }
     }
-    Ok(())
 }
 
 #[test]
-fn a_failed_call_of_a_batch_that_grows(rt: HostRuntime) -> Result<(), Fail> {
+fn a_failed_call_of_a_batch_that_grows(rt: HostRuntime) {
     for format in FORMATS {
-        see_faults(&rt, rt.alloc(), format, &BATCHES[0])?;
+        see_faults(&rt, rt.alloc(), format, &BATCHES[0]);
     }
-    Ok(())
 }
 
 #[test]
-fn a_failed_call_of_a_batch_that_spreads(rt: HostRuntime) -> Result<(), Fail> {
+fn a_failed_call_of_a_batch_that_spreads(rt: HostRuntime) {
     for format in FORMATS {
-        see_faults(&rt, rt.alloc(), format, &BATCHES[1])?;
+        see_faults(&rt, rt.alloc(), format, &BATCHES[1]);
     }
-    Ok(())
 }
 
 #[test]
-fn a_failed_call_of_a_batch_that_shrinks(rt: HostRuntime) -> Result<(), Fail> {
+fn a_failed_call_of_a_batch_that_shrinks(rt: HostRuntime) {
     for format in FORMATS {
-        see_faults(&rt, rt.alloc(), format, &BATCHES[2])?;
+        see_faults(&rt, rt.alloc(), format, &BATCHES[2]);
     }
-    Ok(())
 }
 
 #[test]
-fn a_batch_that_grows_is_stopped_at_every_call(rt: HostRuntime) -> Result<(), Fail> {
+fn a_batch_that_grows_is_stopped_at_every_call(rt: HostRuntime) {
     see_stops(&rt, rt.alloc(), 1, &BATCHES[0])
 }
 
 #[test]
-fn a_batch_that_spreads_is_stopped_at_every_call(rt: HostRuntime) -> Result<(), Fail> {
+fn a_batch_that_spreads_is_stopped_at_every_call(rt: HostRuntime) {
     see_stops(&rt, rt.alloc(), 1, &BATCHES[1])
 }
 
 #[test]
-fn a_batch_that_shrinks_is_stopped_at_every_call(rt: HostRuntime) -> Result<(), Fail> {
+fn a_batch_that_shrinks_is_stopped_at_every_call(rt: HostRuntime) {
     see_stops(&rt, rt.alloc(), 1, &BATCHES[2])
 }
 
 #[test]
-fn a_batch_of_format_2_is_stopped_at_every_call(rt: HostRuntime) -> Result<(), Fail> {
+fn a_batch_of_format_2_is_stopped_at_every_call(rt: HostRuntime) {
     see_stops(&rt, rt.alloc(), 2, &BATCHES[0])
 }
 
 #[test]
-fn a_failed_call_of_a_batch_of_three_segments(rt: HostRuntime) -> Result<(), Fail> {
+fn a_failed_call_of_a_batch_of_three_segments(rt: HostRuntime) {
     for format in FORMATS {
-        see_faults(&rt, rt.alloc(), format, &BATCHES[3])?;
+        see_faults(&rt, rt.alloc(), format, &BATCHES[3]);
     }
-    Ok(())
 }
 
 #[test]
-fn a_batch_of_three_segments_is_stopped_at_every_call(rt: HostRuntime) -> Result<(), Fail> {
+fn a_batch_of_three_segments_is_stopped_at_every_call(rt: HostRuntime) {
     see_stops(&rt, rt.alloc(), 1, &BATCHES[3])
 }
 
 #[test]
-fn a_batch_of_three_segments_of_format_2_is_stopped_at_every_call(
-    rt: HostRuntime,
-) -> Result<(), Fail> {
+fn a_batch_of_three_segments_of_format_2_is_stopped_at_every_call(rt: HostRuntime) {
     see_stops(&rt, rt.alloc(), 2, &BATCHES[3])
 }
 
 #[test]
-fn a_failed_call_of_a_batch_of_two_segments_of_format_2(rt: HostRuntime) -> Result<(), Fail> {
+fn a_failed_call_of_a_batch_of_two_segments_of_format_2(rt: HostRuntime) {
     see_faults(&rt, rt.alloc(), 2, &BATCHES[4])
 }
 
 #[test]
-fn a_batch_of_two_segments_of_format_2_is_stopped_at_every_call(
-    rt: HostRuntime,
-) -> Result<(), Fail> {
+fn a_batch_of_two_segments_of_format_2_is_stopped_at_every_call(rt: HostRuntime) {
     see_stops(&rt, rt.alloc(), 2, &BATCHES[4])
 }

@@ -5,47 +5,30 @@ ghost use Rattle.std.specs.Prelude.{◌≤◌};
 use crate::files::{file_of, layout_of, noting, row};
 use crate::store::Bench;
 use header_gate::{INDEXED, Layout, PAIRED};
-use key_slot::Row;
 use station::{CrashStation, Station};
 use std::alloc::Global;
 use std::process::Abort;
-use std::test::Fail;
 
 // The calls that were made, and the bytes that were written.
 fn spent(bench: &Bench<CrashStation>) -> (usize, u64) {
     (bench.station.noted(), bench.station.travel().written)
 }
 
-// The calls and the bytes that a put makes.
-fn spent_by_put(
-    rt: &impl Abort,
-    bench: &mut Bench<CrashStation>,
-    row: &Row,
-) -> Result<(usize, u64), Fail> {
-    let (calls, bytes) = spent(bench);
-    bench.put(rt, row)?;
-    let (all_calls, all_bytes) = spent(bench);
-    Ok((
-        all_calls.saturating_sub(calls),
-        all_bytes.saturating_sub(bytes),
-    ))
-}
-
 // The calls and the bytes that a put makes behind that many records of one segment.
-fn put_next(
-    rt: &impl Abort,
-    alloc: Global,
-    layout: Layout,
-    count: u32,
-) -> Result<(usize, u64), Fail>
+fn put_next(rt: &impl Abort, alloc: Global, layout: Layout, count: u32) -> (usize, u64)
     requires { count ≤ 64 }
 {
-    let file = file_of(rt, alloc, layout, 0, [count, 0, 0, 0, 0, 0, 0, 0])?;
-    let row = row(count + 1, layout.format)?;
-    let mut bench = Bench::open(alloc, noting(rt, alloc, &file)?)?;
-    let spent = spent_by_put(rt, &mut bench, &row);
+    let file = file_of(rt, alloc, layout, 0, [count, 0, 0, 0, 0, 0, 0, 0]);
+    let row = row(rt, count + 1, layout.format);
+    let mut bench = Bench::open(alloc, noting(rt, alloc, &file)).expect(rt, "it opens");
+    let (calls, bytes) = spent(&bench);
+    bench.put(rt, &row).expect(rt, "no fault");
+    let (all_calls, all_bytes) = spent(&bench);
     bench.end();
-    spent
+    (
+        all_calls.saturating_sub(calls),
+        all_bytes.saturating_sub(bytes),
+    )
 }
 
 /// Version, slot format, the records before, and calls and bytes of a put of one more.
@@ -67,15 +50,14 @@ const PUTS: [(u32, u32, u32, usize, u64); 8] = [
 ];
 
 #[test]
-fn a_put_makes_so_many_calls(rt: HostRuntime) -> Result<(), Fail> {
+fn a_put_makes_so_many_calls(rt: HostRuntime) {
     for (version, format, count, calls, bytes) in PUTS {
         assert!(rt; 1 <= format && format <= 2 && count <= 64);
         let layout = Layout {
             version,
             ..layout_of(format, 2, 4)
         };
-        let found = put_next(&rt, rt.alloc(), layout, count)?;
+        let found = put_next(&rt, rt.alloc(), layout, count);
         assert_eq!(rt; found, (calls, bytes), "version {version}, format {format}");
     }
-    Ok(())
 }

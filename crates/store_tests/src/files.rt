@@ -9,7 +9,6 @@ use slot_wide::encode_wide;
 use station::{CrashStation, MemStation};
 use std::alloc::Global;
 use std::process::Abort;
-use std::test::Fail;
 
 /// How many records each of at most eight segments has.
 pub type Counts = [u32; 8];
@@ -32,7 +31,7 @@ pub fn layout_of(format: u32, height: u32, journal: u32) -> Layout
 }
 
 /// The record of a number; the keys ascend with the numbers. One of format 2 is as long as one may be.
-pub fn row(number: u32, format: u32) -> Result<Row, Fail> {
+pub fn row(rt: &impl Abort, number: u32, format: u32) -> Row {
     let [_, high, middle, low] = number.to_be_bytes();
     let mut key = [b'k'; MAX_KEY_LEN];
     key[1..4].copy_from_slice(&[high, middle, low]);
@@ -43,10 +42,10 @@ pub fn row(number: u32, format: u32) -> Result<Row, Fail> {
     } else {
         (MAX_KEY_LEN, MAX_VALUE_LEN)
     };
-    Ok(Row {
-        key: Key::from_bytes(&key[..key_len])?,
-        value: Value::from_bytes(&value[..value_len])?,
-    })
+    Row {
+        key: Key::from_bytes(&key[..key_len]).expect(rt, "a key"),
+        value: Value::from_bytes(&value[..value_len]).expect(rt, "a value"),
+    }
 }
 
 // The offset of a segment: behind the header and a page of the journal's table with its images, twice where there are two.
@@ -84,19 +83,19 @@ pub fn file_of(
     layout: Layout,
     height: u32,
     counts: Counts,
-) -> Result<Vec<u8>, Fail> {
+) -> Vec<u8> {
     let end = offset_of(rt, layout, 2, 0);
     assert!(rt; end < 2000000);
-    let mut file = vec![in alloc; 0; end + area_of(layout)]?;
+    let mut file = vec![in alloc; 0; end + area_of(layout)].expect(rt, "memory");
     lay_header(rt, &mut file, layout, height);
     let mut number = 0;
     for (i, count) in counts.iter().enumerate() {
         assert!(rt; i < 16 && number < 1000 && *count <= 64);
         let offset = offset_of(rt, layout, 0, i as u32);
-        lay_rows(rt, &mut file, layout.format, offset, number, *count)?;
+        lay_rows(rt, &mut file, layout.format, offset, number, *count);
         number += *count;
     }
-    Ok(file)
+    file
 }
 
 // Lays the header of a store of this layout and height, whose live region is 0, over zeros.
@@ -110,20 +109,12 @@ fn lay_header(rt: &impl Abort, file: &mut [u8], layout: Layout, height: u32) {
 }
 
 // Lays that many records into a segment, with the numbers behind `before`.
-fn lay_rows(
-    rt: &impl Abort,
-    file: &mut [u8],
-    format: u32,
-    offset: usize,
-    before: u32,
-    count: u32,
-) -> Result<(), Fail> {
+fn lay_rows(rt: &impl Abort, file: &mut [u8], format: u32, offset: usize, before: u32, count: u32) {
     assert!(rt; format <= 2 && offset < 2000000 && before < 2000 && count <= 64);
     for i in 0..count {
-        let row = row(before + i + 1, format)?;
+        let row = row(rt, before + i + 1, format);
         lay_row(rt, file, offset + (64 * format * i) as usize, &row);
     }
-    Ok(())
 }
 
 // Lays a record over a file, in a slot of format 1 where that has room for it.
@@ -143,7 +134,7 @@ pub fn see_records(
     layout: Layout,
     first: u32,
     last: u32,
-) -> Result<(u32, Counts), Fail> {
+) -> (u32, Counts) {
     assert!(rt; file.len() >= offset_of(rt, layout, 2, 0));
     assert!(rt; file.len() >= 8192 && last < 1000);
     let live = file[0] % 2;
@@ -158,10 +149,10 @@ pub fn see_records(
     for segment in 0..1u32 << height {
         let offset = offset_of(rt, laid, live as u32, segment);
         assert!(rt; segment < 8 && offset <= file.len() && size <= file.len() - offset);
-        let rows = Segment::decode(&file[offset..offset + size])?;
+        let rows = Segment::decode(&file[offset..offset + size]).expect(rt, "a segment");
         for i in 0..rows.len() {
             let Row { key, value } = rows.row(i);
-            let wanted = row(number, layout.format)?;
+            let wanted = row(rt, number, layout.format);
             assert!(rt;
                 key == wanted.key && value == wanted.value,
                 "record {i} of {segment}"
@@ -172,12 +163,12 @@ pub fn see_records(
         counts[segment as usize] = rows.len();
     }
     assert_eq!(rt; number, last + 1);
-    Ok((height, counts))
+    (height, counts)
 }
 
 /// A station that holds a file, with notes of all its calls.
-pub fn noting(rt: &impl Abort, alloc: Global, file: &[u8]) -> Result<CrashStation, Fail> {
+pub fn noting(rt: &impl Abort, alloc: Global, file: &[u8]) -> CrashStation {
     assert!(rt; file.len() < 2000000);
-    let inner = MemStation::new(alloc, file, file.len(), 0, &[], None)?;
-    Ok(CrashStation::new(alloc, inner, 400, 1000000)?)
+    let inner = MemStation::new(alloc, file, file.len(), 0, &[], None).expect(rt, "memory");
+    CrashStation::new(alloc, inner, 400, 1000000).expect(rt, "memory")
 }

@@ -1,46 +1,43 @@
 //! What records that are put and removed in order are charged, one by one and as a batch.
 
-ghost use Rattle.std.specs.Prelude.{◌≤◌, T, length};
-ghost use Rattle.std.specs.List.{list_all};
-ghost use Rattle.batch_intent.specs.Spelling.{fits_item};
+ghost use Rattle.std.specs.Prelude.{◌≤◌};
 
 use crate::batches::{Item, intent_of};
 use crate::files::{FORMATS, file_of, layout_of, row};
 use crate::sessions::Session;
-use batch_intent::Intent;
 use cost_ledger::Cost;
 use header_gate::Layout;
 use pma_store::Batch;
 use std::alloc::Global;
 use std::process::Abort;
-use std::test::Fail;
 
 // A session on an empty store.
-fn empty_session(rt: &impl Abort, alloc: Global, layout: Layout) -> Result<Session, Fail> {
-    let file = file_of(rt, alloc, layout, 0, [0; 8])?;
+fn empty_session(rt: &impl Abort, alloc: Global, layout: Layout) -> Session {
+    let file = file_of(rt, alloc, layout, 0, [0; 8]);
     Session::over(rt, alloc, &file, 1000000)
 }
 
 // Puts the record of a number.
-fn put_row(rt: &impl Abort, session: &mut Session, number: u32) -> Result<(), Fail> {
-    session.put(rt, &row(number, session.format())?)?;
-    Ok(())
+fn put_row(rt: &impl Abort, session: &mut Session, number: u32) {
+    session
+        .put(rt, &row(rt, number, session.format()))
+        .expect(rt, "no fault");
 }
 
 // Puts the records with the numbers from 1 up to a last one.
-fn put_rows(rt: &impl Abort, session: &mut Session, last: u32) -> Result<(), Fail> {
+fn put_rows(rt: &impl Abort, session: &mut Session, last: u32) {
     for number in 1..=last {
-        put_row(rt, session, number)?;
+        put_row(rt, session, number);
     }
-    Ok(())
 }
 
 // Removes them.
-fn remove_rows(rt: &impl Abort, session: &mut Session, last: u32) -> Result<(), Fail> {
+fn remove_rows(rt: &impl Abort, session: &mut Session, last: u32) {
     for number in 1..=last {
-        session.remove(rt, &row(number, session.format())?.key)?;
+        session
+            .remove(rt, &row(rt, number, session.format()).key)
+            .expect(rt, "no fault");
     }
-    Ok(())
 }
 
 /// How many records are put and then removed, how many updates that is, what they are charged, and the bound.
@@ -57,21 +54,7 @@ const SESSIONS: [(u32, u32, u64, u128, u128); 7] = [
     (65, 56, 121, 367, 62226),
 ];
 
-// Puts and removes records in an empty store, and sees what they are charged.
-fn see_charge_in(
-    rt: &impl Abort,
-    session: &mut Session,
-    puts: u32,
-    removals: u32,
-    cost: Cost,
-) -> Result<(), Fail> {
-    put_rows(rt, session, puts)?;
-    remove_rows(rt, session, removals)?;
-    assert_eq!(rt; session.cost(), cost);
-    Ok(())
-}
-
-// Does so in a store of this layout.
+// Puts and removes records in an empty store of this layout, and sees what they are charged.
 fn see_charge(
     rt: &impl Abort,
     alloc: Global,
@@ -79,15 +62,16 @@ fn see_charge(
     puts: u32,
     removals: u32,
     cost: Cost,
-) -> Result<(), Fail> {
-    let mut session = empty_session(rt, alloc, layout)?;
-    let seen = see_charge_in(rt, &mut session, puts, removals, cost);
+) {
+    let mut session = empty_session(rt, alloc, layout);
+    put_rows(rt, &mut session, puts);
+    remove_rows(rt, &mut session, removals);
+    assert_eq!(rt; session.cost(), cost);
     session.end();
-    seen
 }
 
 #[test]
-fn records_are_charged(rt: HostRuntime) -> Result<(), Fail> {
+fn records_are_charged(rt: HostRuntime) {
     for format in FORMATS {
         let layout = layout_of(format, 2, 4);
         for (puts, removals, updates, charge, bound) in SESSIONS {
@@ -96,33 +80,24 @@ fn records_are_charged(rt: HostRuntime) -> Result<(), Fail> {
                 charge,
                 bound,
             };
-            see_charge(&rt, rt.alloc(), layout, puts, removals, cost)?;
+            see_charge(&rt, rt.alloc(), layout, puts, removals, cost);
         }
     }
-    Ok(())
 }
 
-// Fills a store of one segment, and sees that a put without room is charged nothing, and one of a present key as an update.
-fn see_full_in(rt: &impl Abort, session: &mut Session) -> Result<(), Fail> {
-    put_rows(rt, session, 64)?;
-    put_row(rt, session, 65)?;
-    put_row(rt, session, 1)?;
+/// A put without room is charged nothing, and one of a present key as an update.
+#[test]
+fn a_full_store_is_charged_nothing(rt: HostRuntime) {
+    let mut session = empty_session(&rt, rt.alloc(), layout_of(1, 0, 4));
+    put_rows(&rt, &mut session, 65);
+    put_row(&rt, &mut session, 1);
     let cost = Cost {
         updates: 66,
         charge: 130,
         bound: 33956,
     };
     assert_eq!(rt; session.cost(), cost);
-    Ok(())
-}
-
-/// A put without room and one of a present key.
-#[test]
-fn a_full_store_is_charged_nothing(rt: HostRuntime) -> Result<(), Fail> {
-    let mut session = empty_session(&rt, rt.alloc(), layout_of(1, 0, 4))?;
-    let seen = see_full_in(&rt, &mut session);
     session.end();
-    seen
 }
 
 /// How many records are put, the items of a batch then, how many updates that is in all, what they are charged, and the bound.
@@ -137,45 +112,21 @@ const BATCHES: [(u32, &[Item], u64, u128, u128); 4] = [
 
 // Puts records into an empty store of one segment, makes a batch, and sees what they are charged, and that the batch is refused
 // exactly if it is no update.
-fn see_batch_in(
-    rt: &impl Abort,
-    session: &mut Session,
-    format: u32,
-    puts: u32,
-    intent: &Intent,
-    cost: Cost,
-) -> Result<(), Fail>
-    requires some { 1 ≤ length intent.now }
-    requires fit { T (list_all (fits_item format) intent.now) }
+fn see_batch(rt: &impl Abort, alloc: Global, format: u32, puts: u32, items: &[Item], cost: Cost)
+    requires { 1 ≤ format × (format ≤ 2) }
 {
-    put_rows(rt, session, puts)?;
-    let answer = session.batch(rt, intent, format)?;
+    let intent = intent_of(rt, alloc, format, items);
+    let mut session = empty_session(rt, alloc, layout_of(format, 0, 4));
+    put_rows(rt, &mut session, puts);
+    let answer = session.batch(rt, &intent, format).expect(rt, "no fault");
     let is_full = answer == Batch::Full { most: 64 };
     assert!(rt; is_full == (cost.updates == u64::from(puts)));
     assert_eq!(rt; session.cost(), cost);
-    Ok(())
-}
-
-// Does so in a store of this format.
-fn see_batch(
-    rt: &impl Abort,
-    alloc: Global,
-    format: u32,
-    puts: u32,
-    items: &[Item],
-    cost: Cost,
-) -> Result<(), Fail>
-    requires { 1 ≤ format × (format ≤ 2) }
-{
-    let intent = intent_of(rt, alloc, format, items)?;
-    let mut session = empty_session(rt, alloc, layout_of(format, 0, 4))?;
-    let seen = see_batch_in(rt, &mut session, format, puts, &intent, cost);
     session.end();
-    seen
 }
 
 #[test]
-fn a_batch_is_charged_by_its_items(rt: HostRuntime) -> Result<(), Fail> {
+fn a_batch_is_charged_by_its_items(rt: HostRuntime) {
     for format in FORMATS {
         for (puts, items, updates, charge, bound) in BATCHES {
             let cost = Cost {
@@ -183,40 +134,24 @@ fn a_batch_is_charged_by_its_items(rt: HostRuntime) -> Result<(), Fail> {
                 charge,
                 bound,
             };
-            see_batch(&rt, rt.alloc(), format, puts, items, cost)?;
+            see_batch(&rt, rt.alloc(), format, puts, items, cost);
         }
     }
-    Ok(())
-}
-
-// Makes a batch in a store that takes none, and sees that its file and its cost stay.
-fn see_no_batch_in(
-    rt: &impl Abort,
-    alloc: Global,
-    session: &mut Session,
-    intent: &Intent,
-) -> Result<(), Fail>
-    requires some { 1 ≤ length intent.now }
-    requires fit { T (list_all (fits_item 1) intent.now) }
-{
-    let file = Vec::from_slice(alloc, session.held())?;
-    let answer = session.batch(rt, intent, 1)?;
-    assert_eq!(rt; answer, Batch::NoBatch);
-    assert_eq!(rt; session.cost().updates, 0);
-    assert!(rt; session.held() == file.as_slice());
-    Ok(())
 }
 
 /// In a file without batches nothing is made, written or charged.
 #[test]
-fn a_file_of_version_1_is_charged_no_batch(rt: HostRuntime) -> Result<(), Fail> {
+fn a_file_of_version_1_is_charged_no_batch(rt: HostRuntime) {
     let layout = Layout {
         version: 1,
         ..layout_of(1, 0, 4)
     };
-    let intent = intent_of(&rt, rt.alloc(), 1, &[(true, 1), (false, 2)])?;
-    let mut session = empty_session(&rt, rt.alloc(), layout)?;
-    let seen = see_no_batch_in(&rt, rt.alloc(), &mut session, &intent);
+    let intent = intent_of(&rt, rt.alloc(), 1, &[(true, 1), (false, 2)]);
+    let mut session = empty_session(&rt, rt.alloc(), layout);
+    let file = Vec::from_slice(rt.alloc(), session.held()).expect(&rt, "memory");
+    let answer = session.batch(&rt, &intent, 1).expect(&rt, "no fault");
+    assert_eq!(rt; answer, Batch::NoBatch);
+    assert_eq!(rt; session.cost().updates, 0);
+    assert!(rt; session.held() == file.as_slice());
     session.end();
-    seen
 }

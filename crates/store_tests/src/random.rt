@@ -10,7 +10,6 @@ use station::MemStation;
 use std::alloc::Global;
 use std::collections::BTreeMap;
 use std::process::Abort;
-use std::test::Fail;
 
 // How many keys there are, more than the store has room for, and how many records that is: 8 * (64 - 3), at height 3.
 const KEYS: u32 = 600;
@@ -30,16 +29,17 @@ fn put_both(
     map: &mut BTreeMap<u32, u32>,
     number: u32,
     value: u32,
-) -> Result<(), Fail> {
+) {
     let row = Row {
-        key: row(number, bench.format())?.key,
-        value: Value::from_bytes(&value.to_be_bytes())?,
+        key: row(rt, number, bench.format()).key,
+        value: Value::from_bytes(&value.to_be_bytes()).expect(rt, "a value"),
     };
-    let (put, _) = bench.put(rt, &row)?;
+    let (put, _) = bench.put(rt, &row).expect(rt, "no fault");
     let full = map.len() == MOST as usize;
     let present = map.contains_key(&number);
     if present || !full {
-        map.insert(number, value)?;
+        let inserted: Result<_, _> = map.insert(number, value);
+        assert!(rt; inserted.is_ok(), "memory");
     }
     let want = match (present, full) {
         (true, _) => Put::Replaced,
@@ -47,7 +47,6 @@ fn put_both(
         (false, true) => Put::Full { most: MOST },
     };
     assert!(rt; put == want, "put {number} as {value}");
-    Ok(())
 }
 
 // Takes a key away from both, and sees that they answer the same.
@@ -56,13 +55,14 @@ fn remove_both(
     bench: &mut Bench<MemStation>,
     map: &mut BTreeMap<u32, u32>,
     number: u32,
-) -> Result<(), Fail> {
-    let (removed, _) = bench.remove(rt, &row(number, bench.format())?.key)?;
+) {
+    let (removed, _) = bench
+        .remove(rt, &row(rt, number, bench.format()).key)
+        .expect(rt, "no fault");
     assert!(rt;
         removed == map.remove(&number).is_some(),
         "removal {number}"
     );
-    Ok(())
 }
 
 // A put or a removal of the key that a drawn number names.
@@ -73,7 +73,7 @@ fn update_both(
     drawn: u64,
     is_put: bool,
     value: u32,
-) -> Result<(), Fail> {
+) {
     let number = ((drawn >> 33) % u64::from(KEYS)) as u32;
     if is_put {
         put_both(rt, bench, map, number, value)
@@ -89,33 +89,29 @@ fn hundred(
     map: &mut BTreeMap<u32, u32>,
     round: u32,
     puts: u64,
-) -> Result<(), Fail> {
+) {
     let mut x = u64::from(round);
     for i in 0..100 {
         x = next(x);
-        update_both(rt, bench, map, x, (x >> 20) % 16 < puts, i)?;
+        update_both(rt, bench, map, x, (x >> 20) % 16 < puts, i);
     }
     let height = bench.height();
-    let checked = bench.check(rt)?;
+    let checked = bench.check(rt).expect(rt, "no fault");
     assert!(rt; checked.records as usize == map.len() && checked.height == height);
-    Ok(())
 }
 
 // Sees that each key has the same value in both.
-fn see_both(
-    rt: &impl Abort,
-    bench: &mut Bench<MemStation>,
-    map: &BTreeMap<u32, u32>,
-) -> Result<(), Fail> {
+fn see_both(rt: &impl Abort, bench: &mut Bench<MemStation>, map: &BTreeMap<u32, u32>) {
     for number in 0..KEYS {
-        let found = bench.get(rt, &row(number, bench.format())?.key)?;
+        let found = bench
+            .get(rt, &row(rt, number, bench.format()).key)
+            .expect(rt, "no fault");
         let want = match map.get(&number) {
-            Some(value) => Some(Value::from_bytes(&value.to_be_bytes())?),
+            Some(value) => Some(Value::from_bytes(&value.to_be_bytes()).expect(rt, "a value")),
             None => None,
         };
         assert!(rt; found == want, "key {number}");
     }
-    Ok(())
 }
 
 // Hundreds of updates with the rounds from `first` on and below `end`, with that many puts among sixteen.
@@ -126,40 +122,28 @@ fn rounds(
     first: u32,
     end: u32,
     puts: u64,
-) -> Result<(), Fail> {
+) {
     for round in first..end {
-        hundred(rt, bench, map, round, puts)?;
+        hundred(rt, bench, map, round, puts);
     }
     see_both(rt, bench, map)
 }
 
-// Fills an empty store, and empties it until it shrinks.
-fn see_updates_in(
-    rt: &impl Abort,
-    bench: &mut Bench<MemStation>,
-    map: &mut BTreeMap<u32, u32>,
-) -> Result<(), Fail> {
-    rounds(rt, bench, map, 0, 15, 15)?;
-    assert!(rt; map.len() == MOST as usize && bench.height() == 3);
-    rounds(rt, bench, map, 15, 36, 1)?;
-    assert!(rt; bench.height() < 3);
-    Ok(())
-}
-
-// Does so with one of this layout.
-fn see_updates(rt: &impl Abort, alloc: Global, layout: Layout) -> Result<(), Fail> {
-    let mut bench = empty_bench(rt, alloc, layout)?;
+// Fills an empty store of this layout, and empties it until it shrinks.
+fn see_updates(rt: &impl Abort, alloc: Global, layout: Layout) {
+    let mut bench = empty_bench(rt, alloc, layout);
     let mut map = BTreeMap::new(alloc);
-    let seen = see_updates_in(rt, &mut bench, &mut map);
+    rounds(rt, &mut bench, &mut map, 0, 15, 15);
+    assert!(rt; map.len() == MOST as usize && bench.height() == 3);
+    rounds(rt, &mut bench, &mut map, 15, 36, 1);
+    assert!(rt; bench.height() < 3);
     bench.end();
-    seen
 }
 
 /// The first rounds fill the store, and the later ones empty it until it shrinks.
 #[test]
-fn random_updates_are_those_of_an_ordered_map(rt: HostRuntime) -> Result<(), Fail> {
+fn random_updates_are_those_of_an_ordered_map(rt: HostRuntime) {
     for (format, journal) in [(1, 4), (1, 8), (2, 4), (2, 16)] {
-        see_updates(&rt, rt.alloc(), layout_of(format, 3, journal))?;
+        see_updates(&rt, rt.alloc(), layout_of(format, 3, journal));
     }
-    Ok(())
 }

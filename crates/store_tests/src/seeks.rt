@@ -10,7 +10,6 @@ use key_slot::Key;
 use segment::StoreFault;
 use std::alloc::Global;
 use std::process::Abort;
-use std::test::Fail;
 
 /// The numbers of a lower bound, of the record from which is looked, and of an upper bound.
 type Bounds = (Option<u32>, Option<u32>, Option<u32>);
@@ -68,38 +67,42 @@ fn session_over(
     height: u32,
     counts: Counts,
     fails: u32,
-) -> Result<Session, Fail>
+) -> Session
     requires { 1 ≤ format × (format ≤ 2) }
 {
-    let file = file_of(rt, alloc, layout_of(format, 2, 4), height, counts)?;
+    let file = file_of(rt, alloc, layout_of(format, 2, 4), height, counts);
     Session::over(rt, alloc, &file, fails)
 }
 
 // The key of the record of a number.
-fn key(number: Option<u32>, format: u32) -> Result<Option<Key>, Fail> {
+fn key(rt: &impl Abort, number: Option<u32>, format: u32) -> Option<Key> {
     match number {
-        Some(number) => Ok(Some(row(number, format)?.key)),
-        None => Ok(None),
+        Some(number) => Some(row(rt, number, format).key),
+        None => None,
     }
 }
 
 // The keys of the records that have these numbers.
-fn keys(bounds: Bounds, format: u32) -> Result<Keys, Fail> {
+fn keys(rt: &impl Abort, bounds: Bounds, format: u32) -> Keys {
     let (low, past, high) = bounds;
-    Ok((key(low, format)?, key(past, format)?, key(high, format)?))
+    (
+        key(rt, low, format),
+        key(rt, past, format),
+        key(rt, high, format),
+    )
 }
 
 // Sees what is found on a way in a store of this format, and that no more is read for it than that many segments.
-fn see_look(rt: &impl Abort, alloc: Global, format: u32, way: Way, look: &Look) -> Result<(), Fail>
+fn see_look(rt: &impl Abort, alloc: Global, format: u32, way: Way, look: &Look)
     requires { 1 ≤ format × (format ≤ 2) }
 {
     let (height, counts, bounds, wanted, segments) = *look;
-    let keys = keys(bounds, format)?;
-    let wanted = key(wanted, format)?;
-    let session = session_over(rt, alloc, format, height, counts, 1000)?;
+    let keys = keys(rt, bounds, format);
+    let wanted = key(rt, wanted, format);
+    let session = session_over(rt, alloc, format, height, counts, 1000);
     let before = session.travel();
     let looked = session.look(rt, way, keys);
-    let found = looked.found?;
+    let found = looked.found.expect(rt, "no fault");
     assert!(rt; found.map(|row| row.key) == wanted, "{bounds:?}");
     let after = looked.travel;
     assert_eq!(rt;
@@ -107,43 +110,41 @@ fn see_look(rt: &impl Abort, alloc: Global, format: u32, way: Way, look: &Look) 
         (4096 * format as u64).checked_mul(segments)
     );
     assert!(rt; after.written == before.written && !looked.closed);
-    Ok(())
 }
 
 // Sees what is found on a way in stores of both formats.
-fn see_looks(rt: &impl Abort, alloc: Global, way: Way, looks: &[Look]) -> Result<(), Fail> {
+fn see_looks(rt: &impl Abort, alloc: Global, way: Way, looks: &[Look]) {
     for format in FORMATS {
         for look in looks {
-            see_look(rt, alloc, format, way, look)?;
+            see_look(rt, alloc, format, way, look);
         }
     }
-    Ok(())
 }
 
 /// A record is found in the segment to which the later of two bounds belongs, or in the next one.
 #[test]
-fn the_next_record_is_found(rt: HostRuntime) -> Result<(), Fail> {
+fn the_next_record_is_found(rt: HostRuntime) {
     see_looks(&rt, rt.alloc(), Ahead, &LOOKS)
 }
 
 /// A record is found in the segment to which the earlier of two bounds belongs, or in the one before it.
 #[test]
-fn the_previous_record_is_found(rt: HostRuntime) -> Result<(), Fail> {
+fn the_previous_record_is_found(rt: HostRuntime) {
     see_looks(&rt, rt.alloc(), Behind, &LOOKS_BEHIND)
 }
 
 /// The opening of a store of two segments makes five calls, one of which reads both, so that the sixth reads the segment of the
 /// bound, and the seventh the other one.
 #[test]
-fn a_look_that_fails_closes_the_store(rt: HostRuntime) -> Result<(), Fail> {
+fn a_look_that_fails_closes_the_store(rt: HostRuntime) {
     for (way, past, fails, segments) in [
         (Ahead, 32, 5, 1),
         (Ahead, 32, 6, 2),
         (Behind, 33, 5, 1),
         (Behind, 33, 6, 2),
     ] {
-        let keys = keys((None, Some(past), None), 1)?;
-        let session = session_over(&rt, rt.alloc(), 1, 1, TWO, fails)?;
+        let keys = keys(&rt, (None, Some(past), None), 1);
+        let session = session_over(&rt, rt.alloc(), 1, 1, TWO, fails);
         let before = session.travel();
         let looked = session.look(&rt, way, keys);
         assert!(rt; matches!(looked.found, Err(StoreFault::Failed)) && looked.closed);
@@ -152,5 +153,4 @@ fn a_look_that_fails_closes_the_store(rt: HostRuntime) -> Result<(), Fail> {
             Some(4096 * segments)
         );
     }
-    Ok(())
 }

@@ -5,7 +5,7 @@ ghost use Rattle.std.specs.Prelude.{◌≡◌, ◌≤◌, T, IsTrue, is_err, len
 ghost use Rattle.std.specs.List.{list_all};
 ghost use Rattle.batch_intent.specs.Spelling.{fits_item};
 ghost use Rattle.key_slot.specs.Record.{is_record};
-ghost use Rattle.pma_store.specs.Store.{IsOpenOn};
+ghost use Rattle.pma_store.specs.StoreView.{IsOpenOn};
 ghost use Rattle.station.specs.MemStation.{mem_view};
 
 use crate::store::open;
@@ -19,7 +19,6 @@ use station::{MemStation, Station, Travel};
 use std::alloc::Global;
 use std::marker::Model;
 use std::process::Abort;
-use std::test::Fail;
 
 /// A session on a store, and the station on which that is open, unless a fault has closed it. Clauses see nothing of it.
 #[derive(Drop)]
@@ -62,11 +61,13 @@ impl Model for Session {
 
 impl Session {
     /// Begins a session on a store in memory that holds a file, whose call of a number fails.
-    pub fn over(rt: &impl Abort, alloc: Global, file: &[u8], fails: u32) -> Result<Session, Fail> {
+    pub fn over(rt: &impl Abort, alloc: Global, file: &[u8], fails: u32) -> Session {
         assert!(rt; file.len() < 1000000);
-        let mut station = MemStation::new(alloc, file, file.len(), 0, &[fails], None)?;
-        let store = open(alloc, &mut station)?;
-        Ok(Session::begin(store, station))
+        let mut station = MemStation::new(alloc, file, file.len(), 0, &[fails], None).expect(
+            rt, "memory",
+        );
+        let store = open(alloc, &mut station).expect(rt, "it opens");
+        Session::begin(store, station)
     }
 
     // Begins a session on a store.

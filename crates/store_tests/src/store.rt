@@ -5,7 +5,7 @@ ghost use Rattle.std.specs.Prelude.{◌≡◌, ◌≤◌, T, IsTrue, is_err, len
 ghost use Rattle.std.specs.List.{list_all};
 ghost use Rattle.batch_intent.specs.Spelling.{fits_item};
 ghost use Rattle.key_slot.specs.Record.{is_record};
-ghost use Rattle.pma_store.specs.Store.{IsOpenOn};
+ghost use Rattle.pma_store.specs.StoreView.{IsOpenOn};
 
 use batch_intent::Intent;
 use key_slot::{Key, Row, Value};

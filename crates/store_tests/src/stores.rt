@@ -8,7 +8,6 @@ use pma_store::{Checked, Put, Report};
 use station::MemStation;
 use std::alloc::Global;
 use std::process::Abort;
-use std::test::Fail;
 
 /// The number of an update that spreads both segments, and how many updates the segment that was the cause had had since
 /// the last spread; or of one that changes the height, and none.
@@ -53,59 +52,49 @@ fn wanted(events: &[Event], number: u32) -> Report {
 }
 
 /// A store on a station in memory that holds a file.
-pub fn bench_of(rt: &impl Abort, alloc: Global, file: &[u8]) -> Result<Bench<MemStation>, Fail> {
+pub fn bench_of(rt: &impl Abort, alloc: Global, file: &[u8]) -> Bench<MemStation> {
     assert!(rt; file.len() < 1000000);
-    let station = MemStation::new(alloc, file, file.len(), 0, &[], None)?;
-    Ok(Bench::open(alloc, station)?)
+    let station = MemStation::new(alloc, file, file.len(), 0, &[], None).expect(rt, "memory");
+    Bench::open(alloc, station).expect(rt, "it opens")
 }
 
 /// An empty store in memory.
-pub fn empty_bench(
-    rt: &impl Abort,
-    alloc: Global,
-    layout: Layout,
-) -> Result<Bench<MemStation>, Fail> {
-    let file = file_of(rt, alloc, layout, 0, [0; 8])?;
+pub fn empty_bench(rt: &impl Abort, alloc: Global, layout: Layout) -> Bench<MemStation> {
+    let file = file_of(rt, alloc, layout, 0, [0; 8]);
     bench_of(rt, alloc, &file)
 }
 
 // Puts the record of a number.
-fn put_row(
-    rt: &impl Abort,
-    bench: &mut Bench<MemStation>,
-    number: u32,
-) -> Result<(Put, Report), Fail> {
-    Ok(bench.put(rt, &row(number, bench.format())?)?)
+fn put_row(rt: &impl Abort, bench: &mut Bench<MemStation>, number: u32) -> (Put, Report) {
+    bench
+        .put(rt, &row(rt, number, bench.format()))
+        .expect(rt, "no fault")
 }
 
 // Removes the record of a number.
-fn remove_row(
-    rt: &impl Abort,
-    bench: &mut Bench<MemStation>,
-    number: u32,
-) -> Result<(bool, Report), Fail> {
-    Ok(bench.remove(rt, &row(number, bench.format())?.key)?)
+fn remove_row(rt: &impl Abort, bench: &mut Bench<MemStation>, number: u32) -> (bool, Report) {
+    bench
+        .remove(rt, &row(rt, number, bench.format()).key)
+        .expect(rt, "no fault")
 }
 
 // Puts the records with the numbers from 1 up to `last`, and sees what comes of each.
-fn see_puts(rt: &impl Abort, bench: &mut Bench<MemStation>, last: u32) -> Result<(), Fail> {
+fn see_puts(rt: &impl Abort, bench: &mut Bench<MemStation>, last: u32) {
     for number in 1..=last {
-        let answer = put_row(rt, bench, number)?;
+        let answer = put_row(rt, bench, number);
         assert!(rt; answer == (Put::New, wanted(&PUTS, number)), "put {number}");
     }
-    Ok(())
 }
 
 // Removes the records with the numbers from 1 up to `last`, and sees what comes of each.
-fn see_removals(rt: &impl Abort, bench: &mut Bench<MemStation>, last: u32) -> Result<(), Fail> {
+fn see_removals(rt: &impl Abort, bench: &mut Bench<MemStation>, last: u32) {
     for number in 1..=last {
-        let answer = remove_row(rt, bench, number)?;
+        let answer = remove_row(rt, bench, number);
         assert!(rt;
             answer == (true, wanted(&REMOVALS, number)),
             "removal {number}"
         );
     }
-    Ok(())
 }
 
 /// How many records are put and then removed, and the height and the counts that are left.
@@ -121,29 +110,8 @@ const SESSIONS: [(u32, u32, u32, Counts); 9] = [
     (65, 56, 0, [9, 0, 0, 0, 0, 0, 0, 0]),
 ];
 
-// Puts the records with the numbers from 1 up to `puts`, removes those up to `removals`, and sees what is left.
-fn see_session_in(
-    rt: &impl Abort,
-    bench: &mut Bench<MemStation>,
-    layout: Layout,
-    puts: u32,
-    removals: u32,
-    left: (u32, Counts),
-) -> Result<(), Fail> {
-    see_puts(rt, bench, puts)?;
-    see_removals(rt, bench, removals)?;
-    assert!(rt; removals <= puts && puts < 1000);
-    let checked = Checked {
-        records: puts - removals,
-        height: left.0,
-    };
-    assert_eq!(rt; bench.check(rt)?, checked);
-    let found = see_records(rt, bench.held(), layout, removals + 1, puts)?;
-    assert_eq!(rt; found, left);
-    Ok(())
-}
-
-// Does so in an empty store of this layout.
+// Puts the records with the numbers from 1 up to `puts` into an empty store of this layout, removes those up to `removals`, and
+// sees what is left.
 fn see_session(
     rt: &impl Abort,
     alloc: Global,
@@ -151,80 +119,71 @@ fn see_session(
     puts: u32,
     removals: u32,
     left: (u32, Counts),
-) -> Result<(), Fail> {
-    let mut bench = empty_bench(rt, alloc, layout)?;
-    let seen = see_session_in(rt, &mut bench, layout, puts, removals, left);
+) {
+    let mut bench = empty_bench(rt, alloc, layout);
+    see_puts(rt, &mut bench, puts);
+    see_removals(rt, &mut bench, removals);
+    assert!(rt; removals <= puts && puts < 1000);
+    let checked = Checked {
+        records: puts - removals,
+        height: left.0,
+    };
+    assert_eq!(rt; bench.check(rt).expect(rt, "no fault"), checked);
+    let found = see_records(rt, bench.held(), layout, removals + 1, puts);
+    assert_eq!(rt; found, left);
     bench.end();
-    seen
 }
 
 #[test]
-fn records_are_put_and_removed_in_order(rt: HostRuntime) -> Result<(), Fail> {
+fn records_are_put_and_removed_in_order(rt: HostRuntime) {
     for format in FORMATS {
         let layout = layout_of(format, 2, 4);
         for (puts, removals, height, counts) in SESSIONS {
-            see_session(&rt, rt.alloc(), layout, puts, removals, (height, counts))?;
+            see_session(&rt, rt.alloc(), layout, puts, removals, (height, counts));
         }
     }
-    Ok(())
 }
 
-// Fills a store of at most two segments, and sees that it takes no other record.
-fn see_full_in(rt: &impl Abort, bench: &mut Bench<MemStation>, layout: Layout) -> Result<(), Fail> {
-    see_puts(rt, bench, 126)?;
+// Fills an empty store of this layout, which has at most two segments, and sees that it takes no other record.
+fn see_full(rt: &impl Abort, alloc: Global, layout: Layout) {
+    let mut bench = empty_bench(rt, alloc, layout);
+    see_puts(rt, &mut bench, 126);
     let full = (Put::Full { most: 126 }, wanted(&[], 0));
     for number in [127, 0] {
-        let answer = put_row(rt, bench, number)?;
+        let answer = put_row(rt, &mut bench, number);
         assert!(rt; answer == full, "put {number}");
     }
-    let found = see_records(rt, bench.held(), layout, 1, 126)?;
+    let found = see_records(rt, bench.held(), layout, 1, 126);
     assert_eq!(rt; found, (1, [62, 64, 0, 0, 0, 0, 0, 0]));
-    Ok(())
-}
-
-// Does so with one of this layout.
-fn see_full(rt: &impl Abort, alloc: Global, layout: Layout) -> Result<(), Fail> {
-    let mut bench = empty_bench(rt, alloc, layout)?;
-    let seen = see_full_in(rt, &mut bench, layout);
     bench.end();
-    seen
 }
 
 /// A new key finds no room, whichever segment it belongs to.
 #[test]
-fn a_store_of_two_segments_is_full(rt: HostRuntime) -> Result<(), Fail> {
+fn a_store_of_two_segments_is_full(rt: HostRuntime) {
     for format in FORMATS {
-        see_full(&rt, rt.alloc(), layout_of(format, 1, 4))?;
+        see_full(&rt, rt.alloc(), layout_of(format, 1, 4));
     }
-    Ok(())
 }
 
-// Puts records into an opened store of 32 and 64, and sees which puts spread both segments.
-fn see_spreads_in(rt: &impl Abort, bench: &mut Bench<MemStation>) -> Result<(), Fail> {
+// Puts records into an opened store of 32 and 64 of this layout, and sees which puts spread both segments.
+fn see_spreads(rt: &impl Abort, alloc: Global, layout: Layout) {
+    let file = file_of(rt, alloc, layout, 1, [32, 64, 0, 0, 0, 0, 0, 0]);
+    let mut bench = bench_of(rt, alloc, &file);
     for number in 97..=113 {
-        let (put, report) = put_row(rt, bench, number)?;
+        let (put, report) = put_row(rt, &mut bench, number);
         let spread = number == 97 || number == 113;
         assert!(rt; put == Put::New && report.rebalanced.is_some() == spread);
         let updates = (number == 113).then_some(16);
         assert_eq!(rt; report.child_updates, updates);
     }
-    Ok(())
-}
-
-// Does so with one of this layout.
-fn see_spreads(rt: &impl Abort, alloc: Global, layout: Layout) -> Result<(), Fail> {
-    let file = file_of(rt, alloc, layout, 1, [32, 64, 0, 0, 0, 0, 0, 0])?;
-    let mut bench = bench_of(rt, alloc, &file)?;
-    let seen = see_spreads_in(rt, &mut bench);
     bench.end();
-    seen
 }
 
 /// No window is rested in a store that was opened, so the first spread tells no number of updates; the next one does.
 #[test]
-fn an_opened_store_of_32_and_64_records(rt: HostRuntime) -> Result<(), Fail> {
+fn an_opened_store_of_32_and_64_records(rt: HostRuntime) {
     for format in FORMATS {
-        see_spreads(&rt, rt.alloc(), layout_of(format, 2, 4))?;
+        see_spreads(&rt, rt.alloc(), layout_of(format, 2, 4));
     }
-    Ok(())
 }

@@ -4,7 +4,7 @@ use Rattle.std.proofs.lemmas.Bool.{cases_lt, lt-ltb, le-leb, le-ltb}
 use Rattle.std.proofs.lemmas.List.{get_or-take, get_or-set_same, get_or-set_other, get_or_past, length-take}
 use Rattle.key_slot.specs.Record.{Bytes}
 use Rattle.veb_index.specs.Nodes.{fence_place}
-use Rattle.veb_index.specs.View.{IndexView, fence_at, fence_of}
+use Rattle.veb_index.specs.IndexView.{IndexView, fence_at, fence_of}
 use Rattle.veb_index.proofs.Middles.{fence_place-apart}
 
 module _ (n : ℕ) (keys : List Bytes) (fits : n ≤ length keys) (x : ℕ) (key : Bytes) (lt : x < n) where

@@ -4,7 +4,7 @@ use Rattle.std.proofs.lemmas.Bool.{cases_lt, eqb-true, eqb-false, eq-eqb, ltb-tr
 use Rattle.std.proofs.lemmas.List.Sums.{get_or-le-sum_by}
 use Rattle.density_rule.specs.Bounds.{upper_of, lower_of, least_of, is_in_bounds, IsInBounds}
 use Rattle.density_rule.specs.Windows.{count_in, IsBalanced}
-use Rattle.density_rule.specs.Updates.{count_after, counts_after, is_broken, highest_broken}
+use Rattle.density_rule.specs.CountUpdates.{count_after, counts_after, is_broken, highest_broken}
 use Rattle.density_rule.specs.Marks.{mark_of}
 use Rattle.density_rule.proofs.Bounding.{least_of-le-lower_of, over_upper_of, upper_of-lt}
 use Rattle.density_rule.proofs.Greatest.{IsGreatest, greatest_is}
@@ -16,7 +16,7 @@ use Rattle.window_tally.specs.declared.Change.{Change}
 use Rattle.window_tally.specs.declared.Change.TheVariants.{Add, Take}
 use Rattle.window_tally.specs.declared.Pick.TheVariants.{Spread, Grow, Shrink, AtLimit}
 use Rattle.density_rule.specs.declared.Window.{Window}
-use Rattle.window_tally.specs.View.{TallyView, IsTally}
+use Rattle.window_tally.specs.TallyView.{TallyView, IsTally}
 use Rattle.window_tally.specs.Choice.{adds, resize_of, pick_of, IsPossible}
 
 pub taken : (change : Change) (n : ℕ) → (change ≡ Take → 1 ≤ n) → adds change ≡ false → 1 ≤ n

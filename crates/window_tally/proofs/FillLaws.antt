@@ -5,7 +5,7 @@ use Rattle.std.proofs.lemmas.List.{get_or-set_same, get_or-set_other}
 use Rattle.std.proofs.Math.Nat.{add-mul}
 use Rattle.density_rule.specs.Windows.{IsWindow}
 use Rattle.density_rule.proofs.Places.{not_over}
-use Rattle.window_tally.specs.Places.{place, Fills, FillsBelow}
+use Rattle.window_tally.specs.TallyPlaces.{place, Fills, FillsBelow}
 use Rattle.window_tally.proofs.PlaceLaws.{inside_places, place_ends, level_before}
 
 pub fills_none : {X : Type 0} (d : X) (value : ℕ → X) (first : ℕ) (old : List X) → Fills d value first 0 old old

@@ -5,7 +5,7 @@ use Rattle.std.proofs.lemmas.List.{length-replicate, get_or-replicate, get_or_pa
 use Rattle.std.proofs.lemmas.List.Folds.{sum_by-replicate}
 use Rattle.std.proofs.Math.Pow.{pow_pos, pow_mono}
 use Rattle.density_rule.specs.Bounds.{IsInBounds}
-use Rattle.density_rule.specs.Updates.{counts_after}
+use Rattle.density_rule.specs.CountUpdates.{counts_after}
 use Rattle.density_rule.specs.Spread.{shares, spread_counts, resized_counts}
 use Rattle.density_rule.proofs.MarkLaws.{marks_by_same}
 use Rattle.density_rule.proofs.Totals.{count_in-le-sum}
@@ -14,9 +14,9 @@ use Rattle.density_rule.proofs.Shares.{length-shares, sum-shares, count_in-share
 use Rattle.density_rule.proofs.Balance.{count_in-root}
 use Rattle.density_rule.specs.Windows.{IsWindow, count_in, is_properly_inside}
 use Rattle.density_rule.specs.Marks.{no_marks, updated_marks, spread_marks, resized_marks}
-use Rattle.window_tally.specs.View.{TallyView, IsTally, empty_tally}
-use Rattle.window_tally.specs.Places.{place, leaves_of, marks_in, HasCounts, IsTree, FillsBelow, part_of}
-use Rattle.window_tally.specs.Inside.{view_by, KeepsBy}
+use Rattle.window_tally.specs.TallyView.{TallyView, IsTally, empty_tally}
+use Rattle.window_tally.specs.TallyPlaces.{place, leaves_of, marks_in, HasCounts, IsTree, FillsBelow, part_of}
+use Rattle.window_tally.specs.TallyFields.{view_by, KeepsBy}
 use Rattle.window_tally.proofs.PlaceLaws.{leaves_of-counts, place_in_tree}
 use Rattle.window_tally.proofs.ViewLaws.{records_fit, empty_is, forgotten_is, loaded_is, updated_is, spread_is, resized_is}
 use Rattle.window_tally.proofs.RestLaws.{marks_in-spread, marks_in-resized}

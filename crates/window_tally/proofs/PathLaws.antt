@@ -4,7 +4,7 @@ use Rattle.std.proofs.lemmas.Bool.{cases_lt, cases_eq}
 use Rattle.std.proofs.lemmas.List.{length-set, get_or-set_same, get_or-set_other}
 use Rattle.density_rule.specs.Windows.{IsWindow}
 use Rattle.density_rule.proofs.Places.{over_in_store}
-use Rattle.window_tally.specs.Places.{place}
+use Rattle.window_tally.specs.TallyPlaces.{place}
 use Rattle.window_tally.proofs.PlaceLaws.{place_in_tree, places_differ}
 
 -- the windows of heights below `top` over the segment hold these values, and all others what they held

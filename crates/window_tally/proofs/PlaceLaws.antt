@@ -7,7 +7,7 @@ use Rattle.std.proofs.Math.Nat.{mul-le-mul_right, add-mul}
 use Rattle.std.proofs.Math.Pow.{pow_pos, pow_mono}
 use Rattle.density_rule.specs.Windows.{IsWindow}
 use Rattle.density_rule.proofs.Totals.{count_in-segment}
-use Rattle.window_tally.specs.Places.{place, leaves_of, HasCounts}
+use Rattle.window_tally.specs.TallyPlaces.{place, leaves_of, HasCounts}
 
 pub twice : (h : ℕ) → 2 ^ (h + 1) ≡ 2 ^ h + 2 ^ h
 twice h = pow-add 2 h 1 ∙ omega arith

@@ -6,7 +6,7 @@ use Rattle.density_rule.specs.Windows.{IsWindow, is_properly_inside}
 use Rattle.density_rule.specs.Marks.{mark_of, updated_marks, spread_marks, resized_marks, one_more}
 use Rattle.density_rule.proofs.MarkLaws.{mark_of-marks_by, marks_by_same}
 use Rattle.density_rule.proofs.Places.{place_inside, properly_inside_test, properly_inside_from}
-use Rattle.window_tally.specs.Places.{place, marks_in, FillsBelow}
+use Rattle.window_tally.specs.TallyPlaces.{place, marks_in, FillsBelow}
 use Rattle.window_tally.proofs.PathLaws.{WritesPath}
 
 -- a window below the root

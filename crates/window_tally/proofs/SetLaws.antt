@@ -3,12 +3,12 @@ use Rattle.std.proofs.Common.{◌≡◌, ℕ, ◌+◌, ◌-◌, ◌/◌, ◌^◌
 use Rattle.std.proofs.lemmas.Bool.{cases_eq, cond-true, cond-false}
 use Rattle.density_rule.specs.Windows.{count_in}
 use Rattle.density_rule.specs.Bounds.{is_in_bounds}
-use Rattle.density_rule.specs.Updates.{count_after, counts_after, is_broken, greatest_below}
+use Rattle.density_rule.specs.CountUpdates.{count_after, counts_after, is_broken, greatest_below}
 use Rattle.density_rule.proofs.Greatest.{greatest_below-more}
 use Rattle.density_rule.proofs.Places.{over_in_store}
 use Rattle.density_rule.proofs.Changes.{count_in-set, count_in-set_other, count_in-updated, count-le-count_in}
 use Rattle.density_rule.proofs.Totals.{count_in-le-sum}
-use Rattle.window_tally.specs.Places.{place, leaves_of, HasCounts, IsTree}
+use Rattle.window_tally.specs.TallyPlaces.{place, leaves_of, HasCounts, IsTree}
 use Rattle.window_tally.proofs.PlaceLaws.{length-leaves_of, get_or-leaves_of}
 use Rattle.window_tally.proofs.PathLaws.{WritesPath}
 

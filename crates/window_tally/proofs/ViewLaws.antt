@@ -7,7 +7,7 @@ use Rattle.std.proofs.Math.Nat.{mul-le-mul_left}
 use Rattle.std.proofs.Math.Pow.{pow_mono}
 use Rattle.density_rule.specs.Bounds.{upper_of, lower_of, IsInBounds}
 use Rattle.density_rule.specs.Windows.{IsWindow, count_in}
-use Rattle.density_rule.specs.Updates.{count_after, counts_after}
+use Rattle.density_rule.specs.CountUpdates.{count_after, counts_after}
 use Rattle.density_rule.specs.Spread.{shares, spread_counts, resized_counts}
 use Rattle.density_rule.specs.Laws.{IsBetween}
 use Rattle.density_rule.specs.Marks.{no_marks, updated_marks, spread_marks, resized_marks, KeepsDrift}
@@ -18,7 +18,7 @@ use Rattle.density_rule.proofs.Changes.{length-counts_after}
 use Rattle.density_rule.proofs.Shares.{length-shares, length-spread_counts, count_in-spread_outside, get_or-shares, share_between}
 use Rattle.density_rule.proofs.Room.{even_inside}
 use Rattle.density_rule.proofs.Drift.{keeps_none, keeps_updated, keeps_spread, keeps_resized}
-use Rattle.window_tally.specs.View.{TallyView, IsTally, empty_tally}
+use Rattle.window_tally.specs.TallyView.{TallyView, IsTally, empty_tally}
 use Rattle.density_rule.specs.declared.TheConstants.{SEGMENT_RECORDS}
 
 -- few records, so sums fit

@@ -6,7 +6,7 @@ use Rattle.window_tally.specs.declared.Change.{Change}
 use Rattle.window_tally.specs.declared.Change.TheVariants.{Add, Take}
 use Rattle.window_tally.specs.declared.Pick.{Pick}
 use Rattle.window_tally.specs.declared.Pick.TheVariants.{Fits, Spread, Grow, Shrink, AtLimit}
-use Rattle.window_tally.specs.View.{TallyView}
+use Rattle.window_tally.specs.TallyView.{TallyView}
 
 -- whether it is one record more
 abbrev pub adds : Change → Bool

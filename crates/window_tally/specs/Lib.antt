@@ -1,4 +1,4 @@
-pub mod View
+pub mod TallyView
 pub mod Choice
-pub mod Places
-pub mod Inside
+pub mod TallyPlaces
+pub mod TallyFields

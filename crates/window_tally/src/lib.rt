@@ -13,7 +13,7 @@ ghost use Rattle.std.specs.Prelude.{◌≡◌, ℕ, ◌+◌, ◌-◌, ◌*◌, �
 ghost use Rattle.density_rule.specs.declared.Window.{Window};
 ghost use Rattle.density_rule.specs.Bounds.{upper_of, IsInBounds};
 ghost use Rattle.density_rule.specs.Windows.{IsWindow, count_in, IsBalanced};
-ghost use Rattle.density_rule.specs.Updates.{counts_after, highest_broken as highest_broken_of};
+ghost use Rattle.density_rule.specs.CountUpdates.{counts_after, highest_broken as highest_broken_of};
 ghost use Rattle.density_rule.specs.Spread.{spread_counts, resized_counts};
 ghost use Rattle.density_rule.specs.Marks.{mark_of, no_marks, updated_marks, spread_marks, resized_marks, WithinDrift};
 ghost use Rattle.density_rule.specs.declared.TheConstants.{SEGMENT_RECORDS};
@@ -73,11 +73,11 @@ pub struct Tally {
 }
 
 impl Model for Tally {
-    ghost use Rattle.window_tally.specs.View.{TallyView};
+    ghost use Rattle.window_tally.specs.TallyView.{TallyView};
 
     ghost Value = { TallyView };
 
-    ghost use Rattle.window_tally.specs.Inside.{view_of, IsKept};
+    ghost use Rattle.window_tally.specs.TallyFields.{view_of, IsKept};
 
     ghost view = { view_of };
 
@@ -85,7 +85,7 @@ impl Model for Tally {
 }
 
 impl Tally {
-    ghost use Rattle.window_tally.specs.View.{empty_tally, since_of, IsTally};
+    ghost use Rattle.window_tally.specs.TallyView.{empty_tally, since_of, IsTally};
     ghost use Rattle.window_tally.specs.Choice.{adds, pick_of, resize_of, IsPossible};
 
     /// An empty tally of height 0, with room for the windows of a store of height `hmax`, which is at most 16.

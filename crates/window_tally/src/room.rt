@@ -59,7 +59,8 @@ pub fn clear_marks(marks: &mut Vec<Option<u64>>, places: usize)
 pub fn fit_counts(counts: &mut Vec<u32>, places: usize)
     requires { places ≤ vec_capacity counts.old }
     ensures size { length counts.new.items ≡ places }
-    ensures kept { (i : ℕ) → i < places → i < length counts.old.items → slice_index counts.new.items i ≡ slice_index counts.old.items i }
+    ensures kept { (i : ℕ) → i < places → i < length counts.old.items →
+        slice_index counts.new.items i ≡ slice_index counts.old.items i }
     ensures room { vec_capacity counts.old ≤ vec_capacity counts.new }
 {
     let _ = counts.resize(places, 0);

@@ -2,12 +2,12 @@
 
 ghost use Rattle.std.specs.Prelude.{◌≡◌, ℕ, ◌+◌, ◌-◌, ◌*◌, ◌/◌, ◌^◌, ◌<◌, ◌≤◌, List, length, replicate, slice_index, slice_range, slice_set, IfSome, Option, Some, None};
 ghost use Rattle.density_rule.specs.Windows.{IsWindow};
-ghost use Rattle.density_rule.specs.Updates.{count_after, counts_after, highest_broken as highest_broken_of};
+ghost use Rattle.density_rule.specs.CountUpdates.{count_after, counts_after, highest_broken as highest_broken_of};
 ghost use Rattle.density_rule.specs.Spread.{share as share_of};
 ghost use Rattle.density_rule.specs.Marks.{updated_marks, one_more};
 ghost use Rattle.std.specs.Option.{option_map};
 ghost use Rattle.window_tally.specs.Choice.{adds};
-ghost use Rattle.window_tally.specs.Places.{place, leaves_of, marks_in, HasCounts, IsTree, Fills, FillsBelow, part_of};
+ghost use Rattle.window_tally.specs.TallyPlaces.{place, leaves_of, marks_in, HasCounts, IsTree, Fills, FillsBelow, part_of};
 ghost use Rattle.density_rule.specs.declared.TheConstants.{SEGMENT_RECORDS};
 
 use crate::Change;

@@ -6,7 +6,8 @@ use Rattle.std.specs.FinMap.{contains_key, insert, len, get-empty, len-empty, le
 use Rattle.std.specs.Cmp.Lexicographic.{nat_list_cmp_total}
 use Rattle.key_slot.specs.Record.{Bytes, Record, key_cmp}
 use Rattle.density_rule.specs.Bounds.{upper_of}
-use Rattle.map_model.specs.Store.{bind, map_after, height_after, Adds, effect_by, effect_of, effect_map, effect_height}
+use Rattle.map_model.specs.Store.{bind, Adds, effect_by, effect_of, effect_map, effect_height}
+use Rattle.map_model.specs.After.{map_after, height_after}
 use Rattle.map_model.specs.Scan.{scanned}
 use Rattle.command_text.specs.Answers.{found_or_absent, range_lines, effect_line}
 use Rattle.command_text.specs.declared.command.Command.TheVariants.{Put, Get, Range}

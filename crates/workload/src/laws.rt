@@ -20,10 +20,12 @@ pub fn summaries_grow()
     // The generator begins with the seed, and each step gives the next number, of which the next command is made.
     ensures seed { (seed : ℕ) → draw seed 0 ≡ seed }
     ensures drawn { (count seed : ℕ) → draw seed (count + 1) ≡ next_draw (draw seed count) }
-    ensures command { (count seed : ℕ) → command_numbered seed (count + 1) ≡ command_by (next_draw (draw seed count)) (count + 1) }
+    ensures command { (count seed : ℕ) → command_numbered seed (count + 1) ≡ command_by (next_draw (draw seed count)) (count +
+        1) }
     // The store begins empty, and each command changes it as the array's definition says.
     ensures empty { (seed : ℕ) → gen_state 0 seed ≡ empty_state }
-    ensures state { (count seed : ℕ) → gen_state (count + 1) seed ≡ array_step gen_layout (gen_state count seed) (command_numbered seed (count + 1)) }
+    ensures state { (count seed : ℕ) → gen_state (count + 1) seed ≡
+        array_step gen_layout (gen_state count seed) (command_numbered seed (count + 1)) }
     // The counts begin at 0, and each command is counted by the lines of its reply.
     ensures none { (seed : ℕ) → gen_counts 0 seed ≡ summary_of 0 [] }
     ensures counts { (count seed : ℕ) → gen_counts (count + 1) seed ≡
@@ -50,7 +52,8 @@ pub fn runs_go_on()
         HasRun count seed x s state → c ≡ command_by (next_draw x) (count + 1) → CountsBy (answers gen_layout state c) last →
         HasRun (count + 1) seed (next_draw x) (counted s (last ∷ [])) (array_step gen_layout state c) }
     // In the end the size of the store makes the counts the whole summary.
-    ensures ends { (count seed x : ℕ) (s : Summary) (state : ArrayState) → HasRun count seed x s state → sized s (plain state) ≡ gen_summary count seed }
+    ensures ends { (count seed x : ℕ) (s : Summary) (state : ArrayState) → HasRun count seed x s state →
+        sized s (plain state) ≡ gen_summary count seed }
 {}
 
 /// A law: what an opening makes of the file of the empty store is the empty state.

@@ -6,7 +6,7 @@ use Rattle.batch_intent.specs.declared.places.TheConstants.{INTENT}
 use Rattle.header_gate.specs.declared.reason.Reason.TheVariants.{Intent}
 use Rattle.map_model.specs.Store.{Update}
 use Rattle.batch_intent.specs.Spelling.{items_in, fits_item}
-use Rattle.batch_intent.specs.Validating.{wrong_place}
+use Rattle.batch_intent.specs.IntentReasons.{wrong_place}
 use Rattle.batch_intent.specs.Gate.{intent_area, reason_at}
 use Rattle.batch_intent.proofs.Gates.{area_read, early_idle, even_idle, odd_applies}
 use Rattle.batch_intent.proofs.Sound.{spells_of_none}

@@ -2,7 +2,7 @@ use Rattle.std.proofs.Common.{ℕ, suc, sym, ap, ◌∙◌, arith, ◌+◌, ◌�
 use Rattle.std.specs.Str.{bytes_eq}
 use Rattle.station.specs.Bytes.{byte}
 use Rattle.batch_intent.specs.declared.places.TheConstants.{INTENT_SIZE}
-use Rattle.map_model.specs.Items.{has_item}
+use Rattle.map_model.specs.ItemWords.{has_item}
 use Rattle.batch_intent.specs.Spelling.{place_from, after_item, key_field, items_from, items_in}
 use Rattle.batch_intent.proofs.ItemsRead.{place_next, room_at, found_from, missed_next}
 use Rattle.batch_intent.proofs.spelling.find_item.Goals as goal

@@ -1,9 +1,9 @@
 use Rattle.std.proofs.Common.{◌≡◌, ℕ, suc, ◌+◌, true, false, List, [], ◌∷◌, ◌++◌, length, sym, ap, ◌∙◌, arith, refl, Some}
 use Rattle.station.specs.Bytes.{byte}
 use Rattle.map_model.specs.Store.{Update}
-use Rattle.map_model.specs.Items.{has_item}
+use Rattle.map_model.specs.ItemWords.{has_item}
 use Rattle.batch_intent.specs.Spelling.{intent_bytes, key_field, item_at, after_item, place_from, items_from, items_in}
-use Rattle.batch_intent.specs.Validating.{is_item, is_wrong_item, first_wrong}
+use Rattle.batch_intent.specs.IntentReasons.{is_item, is_wrong_item, first_wrong}
 use Rattle.batch_intent.proofs.ItemsRead.{place_next, items_next, length-items_from}
 use Rattle.batch_intent.proofs.Validated.{wrong_by, right_by, wrong_at, none_next, found_of, counted}
 use Rattle.batch_intent.proofs.validating.validate_intent.Goals as goal

@@ -1,7 +1,7 @@
 use Rattle.std.proofs.Common.{◌≡◌, ◌≤◌, length, None}
 use Rattle.batch_intent.specs.declared.places.TheConstants.{INTENT_SIZE}
 use Rattle.batch_intent.specs.Spelling.{place_from, items_from, intent_bytes}
-use Rattle.batch_intent.specs.Validating.{first_wrong}
+use Rattle.batch_intent.specs.IntentReasons.{first_wrong}
 use Rattle.batch_intent.proofs.validating.validate_intent.Given as goal
 
 abbrev pub invariant-loop-j : goal.invariant-loop-j

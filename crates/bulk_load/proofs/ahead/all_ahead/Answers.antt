@@ -5,8 +5,8 @@ use Rattle.key_slot.specs.Record.{Record}
 use Rattle.key_slot.specs.Segment.{FitsSegment}
 use Rattle.map_model.specs.Array.{rows}
 use Rattle.range_scan.specs.PageView.{PageView}
-use Rattle.range_scan.specs.ReaderView.{ReaderView}
-use Rattle.range_scan.specs.Reading.{last_behind}
+use Rattle.range_scan.specs.RegionReaderView.{ReaderView}
+use Rattle.range_scan.specs.RegionReading.{last_behind}
 use Rattle.resize_region.proofs.OldRowLaws.{own_start}
 use Rattle.bulk_load.proofs.AheadLaws.{no_rows_fit}
 use Rattle.bulk_load.proofs.ahead.all_ahead.Goals as goal

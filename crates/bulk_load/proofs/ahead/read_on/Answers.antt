@@ -8,8 +8,8 @@ use Rattle.key_slot.specs.Segment.{FitsSegment, IsSegment, segment_of}
 use Rattle.map_model.specs.Array.{rows}
 use Rattle.map_model.specs.Image.{array_of}
 use Rattle.range_scan.specs.Checking.{LieAbove}
-use Rattle.range_scan.specs.ReaderView.{ReaderView}
-use Rattle.range_scan.specs.Reading.{behind, page_in, page_fault, next_page}
+use Rattle.range_scan.specs.RegionReaderView.{ReaderView}
+use Rattle.range_scan.specs.RegionReading.{behind, page_in, page_fault, next_page}
 use Rattle.range_scan.specs.Walk.{after_walk}
 use Rattle.range_scan.proofs.Checks.{above_more}
 use Rattle.range_scan.proofs.Standing.{count_kept}

@@ -10,8 +10,8 @@ use Rattle.key_slot.specs.Row.{record_of}
 use Rattle.key_slot.specs.declared.row.Row.{Row}
 use Rattle.map_model.specs.Array.{Array}
 use Rattle.map_model.specs.Image.{array_of}
-use Rattle.map_model.specs.Reasons.{begins_above}
-use Rattle.window_tally.specs.View.{TallyView}
+use Rattle.map_model.specs.FileReasons.{begins_above}
+use Rattle.window_tally.specs.TallyView.{TallyView}
 use Rattle.resize_region.proofs.OldRowLaws.{failed_as, own_size, rose_on}
 use Rattle.bulk_load.specs.declared.ahead.Ahead.{Ahead}
 use Rattle.bulk_load.specs.declared.packing.Taken.{Taken}

@@ -3,7 +3,7 @@ use Rattle.std.specs.Prelude.{IfSome}
 use Rattle.station.specs.View.{Told}
 use Rattle.key_slot.specs.Record.{Record}
 use Rattle.map_model.specs.Image.{array_of}
-use Rattle.map_model.specs.Reasons.{begins_above}
+use Rattle.map_model.specs.FileReasons.{begins_above}
 use Rattle.bulk_load.specs.Ahead.{left_in, under, over, hand, read_by}
 use Rattle.bulk_load.specs.Amid.{Goes, IsAmid}
 use Rattle.bulk_load.specs.Loads.{most_records}

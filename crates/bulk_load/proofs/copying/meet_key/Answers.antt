@@ -5,8 +5,8 @@ use Rattle.station.proofs.Composition.{told_on}
 use Rattle.key_slot.specs.Record.{IsAscending}
 use Rattle.map_model.specs.Array.{Array}
 use Rattle.map_model.specs.Image.{array_of}
-use Rattle.range_scan.specs.ReaderView.{ReaderView}
-use Rattle.window_tally.specs.View.{TallyView}
+use Rattle.range_scan.specs.RegionReaderView.{ReaderView}
+use Rattle.window_tally.specs.TallyView.{TallyView}
 use Rattle.resize_region.proofs.OldRowLaws.{own_size}
 use Rattle.bulk_load.specs.declared.ahead.Ahead.{Ahead}
 use Rattle.bulk_load.specs.declared.fault.LoadFault.{LoadFault}

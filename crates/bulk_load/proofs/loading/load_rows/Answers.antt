@@ -7,7 +7,7 @@ use Rattle.header_gate.specs.Flip.{Flips}
 use Rattle.key_slot.specs.Record.{Record}
 use Rattle.map_model.specs.Image.{Represents}
 use Rattle.map_model.proofs.Spreading.{counts-spread_over}
-use Rattle.segment_frames.specs.Standing.{IsSettledAt, StandsFor}
+use Rattle.segment_frames.specs.FrameStanding.{IsSettledAt, StandsFor}
 use Rattle.map_model.specs.Regions.{Spares}
 use Rattle.redo_journal.specs.Rest.{RestsAt}
 use Rattle.station.specs.Steps.{Steps}
@@ -16,7 +16,7 @@ use Rattle.resize_region.proofs.ResizeLaws.{leaves_all, bare_of, rests_new}
 use Rattle.resize_region.proofs.SettledLaws.{stands_kept}
 use Rattle.bulk_load.specs.Loads.{most_records, TextFor, Loads}
 use Rattle.bulk_load.proofs.LoadLaws.{tall_limit, bare_new, spare_loads, loads_same, flips_load, represents, array_new, settled_new, enough, at_of, no_records_fault, file_fault, file_no_damage}
-use Rattle.bulk_load.specs.Faults.{IsLoadFault, IsNoDamage, IsNoDisk, IsShownBy, load_fault_of}
+use Rattle.bulk_load.specs.LoadFaults.{IsNoDisk, load_fault_of}
 use Rattle.bulk_load.proofs.CauseLaws.{file_shown}
 use Rattle.bulk_load.proofs.ReadLaws.{takes_none}
 use Rattle.std.proofs.Math.Pow.{pow_pos}
@@ -99,34 +99,36 @@ make_live-requires-clause-other g c =
     let place = c.args.place.now in
     each_on (StandsFor place c.args.tally.now) (λ image. live_copy image ≡ 1 - (1 - place.region)) c.write_text.ensures.steps c.requires.stands (λ d i is step. omega (arith, step.live_is, c.requires.region))
 
-pub returns-in-Ok-clause-steps : goal.returns-in-Ok-clause-steps
-returns-in-Ok-clause-steps g c =
-    let at = (goal.at.returns-in-Ok-clause-steps g c).In_ok-loaded in
+pub returns-clause-steps : goal.returns-clause-steps
+returns-clause-steps g c =
+    let at = (goal.at.returns-clause-steps g c).In_ok-loaded in
     andthen c.write_text.ensures.steps c.make_live.ensures.steps (λ d i left step. spare_loads c.args.place.now (Text g at) d i (c.requires.stands d left).settled (bare_of c.args.place.now (g.met.S.Station.lawful c.args.station.now) c.requires.nothing c.requires.bare d left) step) (λ d e i left one mid two. both g at d e i left one two)
 
-pub returns-in-Err-clause-steps : goal.returns-in-Err-clause-steps
-returns-in-Err-clause-steps g c =
-    let at = (goal.at.returns-in-Err-clause-steps g c).In_ok-loaded in
+pub returns-in_err-make_live-clause-steps : goal.returns-in_err-make_live-clause-steps
+returns-in_err-make_live-clause-steps g c =
+    let at = (goal.at.returns-in_err-make_live-clause-steps g c).In_ok-loaded in
     andthen c.write_text.ensures.steps c.make_live.ensures.steps (λ d i left step. spare_loads c.args.place.now (Text g at) d i (c.requires.stands d left).settled (bare_of c.args.place.now (g.met.S.Station.lawful c.args.station.now) c.requires.nothing c.requires.bare d left) step) (λ d e i left one mid two. both g at d e i left one two)
 
-pub returns-in-Err-clause-fault : goal.returns-in-Err-clause-fault
-returns-in-Err-clause-fault g c =
-    let at = (goal.at.returns-in-Err-clause-fault g c).After-count-records in
-    subst (IsLoadFault c.args.place.now.layout.format (most_records c.args.place.now.layout) (sum c.args.tally.now.counts) c.args.reader.now (g.I.Source.view c.args.source.now) (g.I.Source.view c.write_text.new.source)) (sym c.of_file.ensures)
-    (no_records_fault c.args.place.now.layout.format (most_records c.args.place.now.layout) (sum c.args.tally.now.counts) c.args.reader.now (g.I.Source.view c.args.source.now) (g.I.Source.view c.write_text.new.source) (load_fault_of c.in-Err.fault)
-    (omega (arith, c.if-records-gt0.false, records_are g at)) (file_fault c.args.place.now.layout.format (most_records c.args.place.now.layout) c.args.reader.now (g.I.Source.view c.args.source.now) (g.I.Source.view c.write_text.new.source) c.in-Err.fault))
+pub returns-in_err-make_live-clause-fault : goal.returns-in_err-make_live-clause-fault
+returns-in_err-make_live-clause-fault g c =
+    let p = err_from_is_err_and c.from_residual-in_err-make_live.result c.from_residual-in_err-make_live.ensures.1 in
+    let at = (goal.at.returns-in_err-make_live-clause-fault g c).After-count-records in
+    rw (p.1, p.2) (no_records_fault c.args.place.now.layout.format (most_records c.args.place.now.layout) (sum c.args.tally.now.counts) c.args.reader.now (g.I.Source.view c.args.source.now) (g.I.Source.view c.write_text.new.source) (load_fault_of c.in_err-make_live.field-0.0)
+    (omega (arith, c.if-records-gt0.false, records_are g at)) (file_fault c.args.place.now.layout.format (most_records c.args.place.now.layout) c.args.reader.now (g.I.Source.view c.args.source.now) (g.I.Source.view c.write_text.new.source) c.in_err-make_live.field-0.0))
 
-pub returns-in-Err-clause-kept : goal.returns-in-Err-clause-kept
-returns-in-Err-clause-kept g c no_disk =
-    let disk = c.of_file.ensures ∙ ap load_fault_of c.in-Err.ensures.fault in
-    absurd (subst IsNoDisk disk no_disk)
+pub returns-in_err-make_live-clause-kept : goal.returns-in_err-make_live-clause-kept
+returns-in_err-make_live-clause-kept g c =
+    let p = err_from_is_err_and c.from_residual-in_err-make_live.result c.from_residual-in_err-make_live.ensures.1 in
+    rw (p.1, p.2) (λ no_disk. let disk = ap load_fault_of c.in_err-make_live.ensures.fault in absurd (subst IsNoDisk disk no_disk))
 
-pub returns-in-Err-clause-damaged : goal.returns-in-Err-clause-damaged
-returns-in-Err-clause-damaged g c told = subst IsNoDamage (sym c.of_file.ensures) (file_no_damage c.in-Err.fault c.in-Err.ensures.fault)
+pub returns-in_err-make_live-clause-damaged : goal.returns-in_err-make_live-clause-damaged
+returns-in_err-make_live-clause-damaged g c =
+    let p = err_from_is_err_and c.from_residual-in_err-make_live.result c.from_residual-in_err-make_live.ensures.1 in
+    rw (p.1, p.2) (λ told. file_no_damage c.in_err-make_live.field-0.0 c.in_err-make_live.ensures.fault)
 
-pub returns-in-Ok-clause-loaded : goal.returns-in-Ok-clause-loaded
-returns-in-Ok-clause-loaded g c =
-    let at = (goal.at.returns-in-Ok-clause-loaded g c).In_ok-loaded in
+pub returns-clause-loaded : goal.returns-clause-loaded
+returns-clause-loaded g c =
+    let at = (goal.at.returns-clause-loaded g c).In_ok-loaded in
     let place = c.args.place.now in
     let loaded = c.in_ok-loaded.loaded in
     let a = g.S.Station.view c.args.station.now in
@@ -143,22 +145,22 @@ returns-in-Ok-clause-loaded g c =
         array = λ told_n.
             let told_b = told_back c.make_live.ensures.steps.frame told_n in
             let told = told_back c.write_text.ensures.steps.frame told_b in
-            array_new place loaded.height w.0 a.held b.held c.requires.region (c.requires.stands a.held (inl (told, refl))).settled (c.requires.bare told) (c.write_text.ensures.steps.held told) c.requires.layout w.1.limit w.1.are_rows w.1.least (w.1.written told_b) n.held (c.in-Ok.ensures.flipped told_b);
+            array_new place loaded.height w.0 a.held b.held c.requires.region (c.requires.stands a.held (inl (told, refl))).settled (c.requires.bare told) (c.write_text.ensures.steps.held told) c.requires.layout w.1.limit w.1.are_rows w.1.least (w.1.written told_b) n.held (c.in_ok-make_live.ensures.flipped told_b);
         balanced = subst (IsBalanced loaded.height) (sym counts) (balanced_spread (length w.0) loaded.height (omega (arith, w.1.limit, tall_limit place.layout c.requires.layout)) (enough (length w.0) loaded.height (omega (arith, w.1.limit, tall_limit place.layout c.requires.layout)) w.1.least) w.1.least.holds);
-        represents = each_held n (λ image. Represents image (from_sorted w.0) loaded.height) lawful c.in-Ok.ensures.settled (λ told_n.
+        represents = each_held n (λ image. Represents image (from_sorted w.0) loaded.height) lawful c.in_ok-make_live.ensures.settled (λ told_n.
             let told_b = told_back c.make_live.ensures.steps.frame told_n in
             let told = told_back c.write_text.ensures.steps.frame told_b in
-            represents place loaded.height w.0 a.held b.held c.requires.region (c.requires.stands a.held (inl (told, refl))).settled (c.requires.bare told) (c.write_text.ensures.steps.held told) c.requires.layout w.1.limit w.1.are_rows w.1.least (w.1.written told_b) n.held (c.in-Ok.ensures.flipped told_b));
-        settled = each_held n (IsSettledAt (record place { region = 1 - place.region })) lawful c.in-Ok.ensures.settled (λ told_n.
+            represents place loaded.height w.0 a.held b.held c.requires.region (c.requires.stands a.held (inl (told, refl))).settled (c.requires.bare told) (c.write_text.ensures.steps.held told) c.requires.layout w.1.limit w.1.are_rows w.1.least (w.1.written told_b) n.held (c.in_ok-make_live.ensures.flipped told_b));
+        settled = each_held n (IsSettledAt (record place { region = 1 - place.region })) lawful c.in_ok-make_live.ensures.settled (λ told_n.
             let told_b = told_back c.make_live.ensures.steps.frame told_n in
             let told = told_back c.write_text.ensures.steps.frame told_b in
-            settled_new place loaded.height w.0 a.held b.held c.requires.region (c.requires.stands a.held (inl (told, refl))).settled (c.requires.bare told) (c.write_text.ensures.steps.held told) c.requires.layout w.1.limit w.1.are_rows w.1.least (w.1.written told_b) n.held (c.in-Ok.ensures.flipped told_b));
+            settled_new place loaded.height w.0 a.held b.held c.requires.region (c.requires.stands a.held (inl (told, refl))).settled (c.requires.bare told) (c.write_text.ensures.steps.held told) c.requires.layout w.1.limit w.1.are_rows w.1.least (w.1.written told_b) n.held (c.in_ok-make_live.ensures.flipped told_b));
       },
     )
 
-pub returns-in-Ok-clause-rests : goal.returns-in-Ok-clause-rests
-returns-in-Ok-clause-rests g c =
-    let at = (goal.at.returns-in-Ok-clause-rests g c).In_ok-loaded in
+pub returns-clause-rests : goal.returns-clause-rests
+returns-clause-rests g c =
+    let at = (goal.at.returns-clause-rests g c).In_ok-loaded in
     let place = c.args.place.now in
     let loaded = c.in_ok-loaded.loaded in
     let a = g.S.Station.view c.args.station.now in
@@ -167,9 +169,9 @@ returns-in-Ok-clause-rests g c =
     let w = c.in_ok-loaded.ensures.written in
     let steps : Steps (Loads place (Text g at)) a n = andthen c.write_text.ensures.steps c.make_live.ensures.steps (λ d i left step. spare_loads place (Text g at) d i (c.requires.stands d left).settled (bare_of c.args.place.now (g.met.S.Station.lawful c.args.station.now) c.requires.nothing c.requires.bare d left) step) (λ d e i left one mid two. both g at d e i left one two) in
     subst (λ (turn : ℕ). RestsAt place.layout turn n) (sym c.write_text.ensures.turn)
-    (rests_new place.layout place.layout c.args.frames.now.turn (g.met.S.Station.lawful c.make_live.new.station) c.in-Ok.ensures.settled steps.frame refl (λ told. (steps.held told).gate_is) (λ told.
+    (rests_new place.layout place.layout c.args.frames.now.turn (g.met.S.Station.lawful c.make_live.new.station) c.in_ok-make_live.ensures.settled steps.frame refl (λ told. (steps.held told).gate_is) (λ told.
     let told_b = told_on c.write_text.ensures.steps.frame told in
-    bare_new place loaded.height w.0 a.held b.held c.requires.region (c.requires.stands a.held (inl (told, refl))).settled (c.requires.bare told) (c.write_text.ensures.steps.held told) c.requires.layout w.1.limit w.1.are_rows w.1.least (w.1.written told_b) n.held (c.in-Ok.ensures.flipped told_b)) c.requires.rests)
+    bare_new place loaded.height w.0 a.held b.held c.requires.region (c.requires.stands a.held (inl (told, refl))).settled (c.requires.bare told) (c.write_text.ensures.steps.held told) c.requires.layout w.1.limit w.1.are_rows w.1.least (w.1.written told_b) n.held (c.in_ok-make_live.ensures.flipped told_b)) c.requires.rests)
 
 -- What shows the damage.
 
@@ -177,8 +179,10 @@ pub returns-in_err-loaded-clause-shown : goal.returns-in_err-loaded-clause-shown
 returns-in_err-loaded-clause-shown g c =
     let p = err_from_is_err_and c.from_residual.result c.from_residual.ensures.1 in rw (p.1, p.2) c.in_err-loaded.ensures.shown
 
-pub returns-in-Err-clause-shown : goal.returns-in-Err-clause-shown
-returns-in-Err-clause-shown g c = subst (IsShownBy c.args.place.now.layout.format c.write_text.new.frames) (sym c.of_file.ensures) (file_shown c.args.place.now.layout.format 0 c.write_text.new.frames c.in-Err.fault (inl c.in-Err.ensures.fault))
+pub returns-in_err-make_live-clause-shown : goal.returns-in_err-make_live-clause-shown
+returns-in_err-make_live-clause-shown g c =
+    let p = err_from_is_err_and c.from_residual-in_err-make_live.result c.from_residual-in_err-make_live.ensures.1 in
+    rw (p.1, p.2) (file_shown c.args.place.now.layout.format 0 c.write_text.new.frames c.in_err-make_live.field-0.0 (inl c.in_err-make_live.ensures.fault))
 
 -- Where it holds records, no call is made.
 
@@ -188,11 +192,11 @@ no_records g c none some = omega (arith, records_are g c, none, some)
 pub returns-in_err-loaded-clause-untouched : goal.returns-in_err-loaded-clause-untouched
 returns-in_err-loaded-clause-untouched g c some = absurd (no_records g (goal.at.returns-in_err-loaded-clause-untouched g c).After-count-records (omega (arith, c.if-records-gt0.false)) some)
 
-pub returns-in-Ok-clause-untouched : goal.returns-in-Ok-clause-untouched
-returns-in-Ok-clause-untouched g c some = absurd (no_records g (goal.at.returns-in-Ok-clause-untouched g c).After-count-records (omega (arith, c.if-records-gt0.false)) some)
+pub returns-clause-untouched : goal.returns-clause-untouched
+returns-clause-untouched g c some = absurd (no_records g (goal.at.returns-clause-untouched g c).After-count-records (omega (arith, c.if-records-gt0.false)) some)
 
-pub returns-in-Err-clause-untouched : goal.returns-in-Err-clause-untouched
-returns-in-Err-clause-untouched g c some = absurd (no_records g (goal.at.returns-in-Err-clause-untouched g c).After-count-records (omega (arith, c.if-records-gt0.false)) some)
+pub returns-in_err-make_live-clause-untouched : goal.returns-in_err-make_live-clause-untouched
+returns-in_err-make_live-clause-untouched g c some = absurd (no_records g (goal.at.returns-in_err-make_live-clause-untouched g c).After-count-records (omega (arith, c.if-records-gt0.false)) some)
 
 pub returns-then-records-gt0-clause-untouched : goal.returns-then-records-gt0-clause-untouched
 returns-then-records-gt0-clause-untouched g c some = (refl, refl)

@@ -11,7 +11,7 @@ use Rattle.map_model.specs.Regions.{Spares}
 use Rattle.range_scan.specs.Checking.{LieAbove}
 use Rattle.map_model.specs.Image.{array_of}
 use Rattle.resize_region.specs.Shares.{StandsBare}
-use Rattle.window_tally.specs.View.{TallyView}
+use Rattle.window_tally.specs.TallyView.{TallyView}
 use Rattle.resize_region.proofs.OldRowLaws.{rose_on}
 use Rattle.bulk_load.specs.declared.packing.Taken.{Taken}
 use Rattle.bulk_load.specs.Amid.{Goes, IsLiveDamage, Tries}
@@ -20,7 +20,7 @@ use Rattle.bulk_load.specs.Packing.{CanFill}
 use Rattle.key_slot.proofs.SegmentLaws.{times_up}
 use Rattle.resize_region.specs.Source.{Walks}
 use Rattle.bulk_load.specs.Spreading.{used_by}
-use Rattle.bulk_load.specs.Updates.{ReadsBeside}
+use Rattle.bulk_load.specs.MergeUpdates.{ReadsBeside}
 use Rattle.bulk_load.proofs.AloneLaws.{file_text}
 use Rattle.bulk_load.proofs.Calls.{fill_on, spares_on}
 use Rattle.bulk_load.specs.declared.merged.Merged.{Merged}
@@ -47,20 +47,19 @@ module _ (g : _) (c : After-start_run-run g) where
   tall : 2 ^ c.start_run-run.result.ahead.tally.now.height ≡ 2 ^ c.args.tally.now.height
   tall = ap (λ (t : TallyView). 2 ^ t.height) c.start_run-run.ensures.tally
 
-pub merge_text-requires-clause-between : goal.merge_text-requires-clause-between
-merge_text-requires-clause-between g c =
-    let at = (goal.at.merge_text-requires-clause-between g c).After-start_run-run in
+pub merge_text-requires : goal.merge_text-requires
+merge_text-requires g c =
+    let at = (goal.at.merge_text-requires g c).After-start_run-run in
     let e = c.start_run-run.ensures in
-    starts_between c.args.place.now c.start_run-run.result c.start_run-run.new.frames (g.S.Station.view c.args.station.now) (started g at) e.taken e.none e.ahead (in_order g at) (own g at) e.above e.last e.edits e.found e.page e.start
-
-pub merge_text-requires-clause-going : goal.merge_text-requires-clause-going
-merge_text-requires-clause-going g c = ap (λ (t : Taken). t.ended) c.start_run-run.ensures.none
-
-pub merge_text-requires-clause-start : goal.merge_text-requires-clause-start
-merge_text-requires-clause-start g c told =
-    let at = (goal.at.merge_text-requires-clause-start g c).After-start_run-run in
-    let e = c.start_run-run.ensures in
-    starts_merged c.args.place.now c.start_run-run.result c.start_run-run.new.frames (g.S.Station.view c.args.station.now) (started g at) e.taken e.none e.ahead (in_order g at) (own g at) e.above e.last e.edits e.found e.page e.start e.all told
+    record {
+      starts = record {
+        between = starts_between c.args.place.now c.start_run-run.result c.start_run-run.new.frames (g.S.Station.view c.args.station.now) (started g at) e.taken e.none e.ahead (in_order g at) (own g at) e.above e.last e.edits e.found e.page e.start;
+        unread = c.requires.unread;
+        going = ap (λ (t : Taken). t.ended) e.none;
+        alone = record { keys = record { edits_are = e.edits; last = e.last }; binds = ap (λ (x : Found). x.stored + x.replaced) e.found };
+        start = λ told. starts_merged c.args.place.now c.start_run-run.result c.start_run-run.new.frames (g.S.Station.view c.args.station.now) (started g at) e.taken e.none e.ahead (in_order g at) (own g at) e.above e.last e.edits e.found e.page e.start e.all told;
+      };
+    }
 
 -- The text wasn't read.
 
@@ -85,9 +84,6 @@ returns-in_err-merge_text-clause-text g c =
     rw (p.1, p.2)
     (subst (λ (t : TallyView). IsTextFault c.args.place.now.layout.format (most_records c.args.place.now.layout) (sum t.counts) c.args.reader.now (g.I.Source.view c.args.source.now) (g.I.Source.view c.merge_text.new.source) c.in_err-merge_text.field-0.0) c.start_run-run.ensures.tally
     c.in_err-merge_text.ensures.text)
-
-pub merge_text-requires-clause-alone : goal.merge_text-requires-clause-alone
-merge_text-requires-clause-alone g c = record { keys = record { edits_are = c.start_run-run.ensures.edits; last = c.start_run-run.ensures.last }; binds = ap (λ (x : Found). x.stored + x.replaced) c.start_run-run.ensures.found }
 
 -- a live segment that is damaged
 seen : (g : _) (c : After-merge_text g) (fault : LoadFault) → IsLiveDamage c.args.place.now c.start_run-run.result.ahead.reader.next (g.S.Station.view c.args.station.now).travel (g.S.Station.view c.merge_text.new.station).travel c.start_run-run.result.ahead.tally.now fault
@@ -171,93 +167,95 @@ module _ (g : _) (c : After-spread_taken g) where
   both_steps : Steps (Spares c.args.place.now.layout c.args.place.now.region) a (g.S.Station.view c.spread_taken.new.station)
   both_steps = spares_on c.args.place.now gone.steps c.spread_taken.ensures.steps
 
-pub returns-in-Ok-clause-written : goal.returns-in-Ok-clause-written
-returns-in-Ok-clause-written g c =
-    let at = (goal.at.returns-in-Ok-clause-written g c).After-spread_taken in
+pub returns-clause-written : goal.returns-clause-written
+returns-clause-written g c =
+    let at = (goal.at.returns-clause-written g c).After-spread_taken in
     let x = picked g at in (
       x.rows,
       record {
         text = x.out;
         are_rows = x.taken.rows_are;
         count = x.taken.count;
-        least = subst (λ (n : ℕ). IsLeastHeight n c.in-Ok.height) x.taken.count c.in-Ok.ensures.least;
-        limit = c.in-Ok.ensures.limit;
+        least = subst (λ (n : ℕ). IsLeastHeight n c.in_ok-height.height) x.taken.count c.in_ok-height.ensures.least;
+        limit = c.in_ok-height.ensures.limit;
         written = λ told_z.
             let told_b = told_back c.spread_taken.ensures.steps.frame told_z in
-            c.in-Ok.ensures.written told_b x.rows x.taken (x.packed (told_back (gone g at).steps.frame told_b));
+            c.in_ok-height.ensures.written told_b x.rows x.taken (x.packed (told_back (gone g at).steps.frame told_b));
       },
     )
 
-pub returns-in-Ok-clause-count : goal.returns-in-Ok-clause-count
-returns-in-Ok-clause-count g c = omega (arith, c.in_ok-merge_text.ensures.count, ap (λ (t : TallyView). sum t.counts) c.start_run-run.ensures.tally)
+pub returns-clause-count : goal.returns-clause-count
+returns-clause-count g c = omega (arith, c.in_ok-merge_text.ensures.count, ap (λ (t : TallyView). sum t.counts) c.start_run-run.ensures.tally)
 
-pub returns-in-Ok-clause-steps : goal.returns-in-Ok-clause-steps
-returns-in-Ok-clause-steps g c = both_steps g (goal.at.returns-in-Ok-clause-steps g c).After-spread_taken
+pub returns-clause-steps : goal.returns-clause-steps
+returns-clause-steps g c = both_steps g (goal.at.returns-clause-steps g c).After-spread_taken
 
-pub returns-in-Ok-clause-journal : goal.returns-in-Ok-clause-journal
-returns-in-Ok-clause-journal g c = c.spread_taken.ensures.journal ∙ c.merge_text.ensures.tries.journal ∙ c.start_run-run.ensures.journal
+pub returns-clause-journal : goal.returns-clause-journal
+returns-clause-journal g c = c.spread_taken.ensures.journal ∙ c.merge_text.ensures.tries.journal ∙ c.start_run-run.ensures.journal
 
-pub returns-in-Ok-clause-turn : goal.returns-in-Ok-clause-turn
-returns-in-Ok-clause-turn g c = c.spread_taken.ensures.turn ∙ c.merge_text.ensures.tries.turn ∙ c.start_run-run.ensures.turn
+pub returns-clause-turn : goal.returns-clause-turn
+returns-clause-turn g c = c.spread_taken.ensures.turn ∙ c.merge_text.ensures.tries.turn ∙ c.start_run-run.ensures.turn
 
-pub returns-in-Ok-clause-cost : goal.returns-in-Ok-clause-cost
-returns-in-Ok-clause-cost g c = let at = (goal.at.returns-in-Ok-clause-cost g c).After-spread_taken in c.in-Ok.ensures.cost (a g at).travel.written (cost_start g at)
+pub returns-clause-cost : goal.returns-clause-cost
+returns-clause-cost g c = let at = (goal.at.returns-clause-cost g c).After-spread_taken in c.in_ok-height.ensures.cost (a g at).travel.written (cost_start g at)
 
-pub returns-in-Ok-clause-calls : goal.returns-in-Ok-clause-calls
-returns-in-Ok-clause-calls g c =
-    let at = (goal.at.returns-in-Ok-clause-calls g c).After-spread_taken in
+pub returns-clause-calls : goal.returns-clause-calls
+returns-clause-calls g c =
+    let at = (goal.at.returns-clause-calls g c).After-spread_taken in
     let n = 2 ^ c.args.tally.now.height in
-    omega (arith, c.in-Ok.ensures.calls ((a g at).calls + n) (goes_runs c.args.place.now c.requires.can.layout n c.start_run-run.new.frames c.merge_text.new.frames (a g at) (b g at) c.merge_text.new.run.taken.written c.merge_text.new.run.ahead.reader.next (all_read g at) (gone g at)))
+    omega (arith, c.in_ok-height.ensures.calls ((a g at).calls + n) (goes_runs c.args.place.now c.requires.can.layout n c.start_run-run.new.frames c.merge_text.new.frames (a g at) (b g at) c.merge_text.new.run.taken.written c.merge_text.new.run.ahead.reader.next (all_read g at) (gone g at)))
 
-pub returns-in-Ok-clause-most_cost : goal.returns-in-Ok-clause-most_cost
-returns-in-Ok-clause-most_cost g c = let at = (goal.at.returns-in-Ok-clause-most_cost g c).After-spread_taken in c.spread_taken.ensures.most_cost (a g at).travel.written (cost_start g at)
+pub returns-clause-most_cost : goal.returns-clause-most_cost
+returns-clause-most_cost g c = let at = (goal.at.returns-clause-most_cost g c).After-spread_taken in c.spread_taken.ensures.most_cost (a g at).travel.written (cost_start g at)
 
-pub returns-in-Ok-clause-most_calls : goal.returns-in-Ok-clause-most_calls
-returns-in-Ok-clause-most_calls g c =
-    let at = (goal.at.returns-in-Ok-clause-most_calls g c).After-spread_taken in
+pub returns-clause-most_calls : goal.returns-clause-most_calls
+returns-clause-most_calls g c =
+    let at = (goal.at.returns-clause-most_calls g c).After-spread_taken in
     let n = 2 ^ c.args.tally.now.height in
     omega (arith, c.spread_taken.ensures.most_calls ((a g at).calls + n) (goes_runs c.args.place.now c.requires.can.layout n c.start_run-run.new.frames c.merge_text.new.frames (a g at) (b g at) c.merge_text.new.run.taken.written c.merge_text.new.run.ahead.reader.next (all_read g at) (gone g at)))
 
 -- A fault of the spreading.
 
-pub returns-in-Err-clause-fault : goal.returns-in-Err-clause-fault
-returns-in-Err-clause-fault g c =
-    let at = (goal.at.returns-in-Err-clause-fault g c).After-spread_taken in
+pub returns-in_err-height-clause-fault : goal.returns-in_err-height-clause-fault
+returns-in_err-height-clause-fault g c =
+    let p = err_from_is_err_and c.from_residual-in_err-height.result c.from_residual-in_err-height.ensures.1 in
+    let at = (goal.at.returns-in_err-height-clause-fault g c).After-spread_taken in
     let x = picked g at in
-    file_merge_fault c.args.place.now.layout.format (most_records c.args.place.now.layout) (a g at) c.args.reader.now (g.I.Source.view c.args.source.now) (g.I.Source.view c.merge_text.new.source) c.in-Err.fault c.in-Err.ensures.fault
-    (λ told. c.in-Err.ensures.damaged (told_on (gone g at).steps.frame told) x.rows x.taken (x.packed told))
+    rw (p.1, p.2) (file_merge_fault c.args.place.now.layout.format (most_records c.args.place.now.layout) (a g at) c.args.reader.now (g.I.Source.view c.args.source.now) (g.I.Source.view c.merge_text.new.source) c.in_err-height.field-0.0 c.in_err-height.ensures.fault
+    (λ told. c.in_err-height.ensures.damaged (told_on (gone g at).steps.frame told) x.rows x.taken (x.packed told)))
 
-pub returns-in-Err-clause-text : goal.returns-in-Err-clause-text
-returns-in-Err-clause-text g c = file_text c.args.place.now.layout.format (most_records c.args.place.now.layout) (sum c.args.tally.now.counts) c.args.reader.now (g.I.Source.view c.args.source.now) (g.I.Source.view c.merge_text.new.source) c.in-Err.fault c.in-Err.ensures.fault
+pub returns-in_err-height-clause-text : goal.returns-in_err-height-clause-text
+returns-in_err-height-clause-text g c =
+    let p = err_from_is_err_and c.from_residual-in_err-height.result c.from_residual-in_err-height.ensures.1 in
+    rw (p.1, p.2) (file_text c.args.place.now.layout.format (most_records c.args.place.now.layout) (sum c.args.tally.now.counts) c.args.reader.now (g.I.Source.view c.args.source.now) (g.I.Source.view c.merge_text.new.source) c.in_err-height.field-0.0 c.in_err-height.ensures.fault)
 
-pub returns-in-Err-clause-shown : goal.returns-in-Err-clause-shown
-returns-in-Err-clause-shown g c = packed_shown c.args.place.now.layout.format c.args.tally.now c.spread_taken.new.frames c.in-Err.fault c.in-Err.ensures.shown
+pub returns-in_err-height-clause-shown : goal.returns-in_err-height-clause-shown
+returns-in_err-height-clause-shown g c =
+    let p = err_from_is_err_and c.from_residual-in_err-height.result c.from_residual-in_err-height.ensures.1 in
+    rw (p.1, p.2) (packed_shown c.args.place.now.layout.format c.args.tally.now c.spread_taken.new.frames c.in_err-height.field-0.0 c.in_err-height.ensures.shown)
 
-pub returns-in-Err-clause-last : goal.returns-in-Err-clause-last
-returns-in-Err-clause-last g c = packed_last c.args.place.now (g.S.Station.view c.args.station.now).travel (g.S.Station.view c.spread_taken.new.station).travel c.args.tally.now c.spread_taken.new.frames c.in-Err.fault c.in-Err.ensures.shown
+pub returns-in_err-height-clause-last : goal.returns-in_err-height-clause-last
+returns-in_err-height-clause-last g c =
+    let p = err_from_is_err_and c.from_residual-in_err-height.result c.from_residual-in_err-height.ensures.1 in
+    rw (p.1, p.2) (packed_last c.args.place.now (g.S.Station.view c.args.station.now).travel (g.S.Station.view c.spread_taken.new.station).travel c.args.tally.now c.spread_taken.new.frames c.in_err-height.field-0.0 c.in_err-height.ensures.shown)
 
-pub returns-in-Err-clause-steps : goal.returns-in-Err-clause-steps
-returns-in-Err-clause-steps g c = both_steps g (goal.at.returns-in-Err-clause-steps g c).After-spread_taken
+pub returns-in_err-height-clause-steps : goal.returns-in_err-height-clause-steps
+returns-in_err-height-clause-steps g c = both_steps g (goal.at.returns-in_err-height-clause-steps g c).After-spread_taken
 
-pub returns-in-Err-clause-journal : goal.returns-in-Err-clause-journal
-returns-in-Err-clause-journal g c = c.spread_taken.ensures.journal ∙ c.merge_text.ensures.tries.journal ∙ c.start_run-run.ensures.journal
+pub returns-in_err-height-clause-journal : goal.returns-in_err-height-clause-journal
+returns-in_err-height-clause-journal g c = c.spread_taken.ensures.journal ∙ c.merge_text.ensures.tries.journal ∙ c.start_run-run.ensures.journal
 
-pub returns-in-Err-clause-turn : goal.returns-in-Err-clause-turn
-returns-in-Err-clause-turn g c = c.spread_taken.ensures.turn ∙ c.merge_text.ensures.tries.turn ∙ c.start_run-run.ensures.turn
+pub returns-in_err-height-clause-turn : goal.returns-in_err-height-clause-turn
+returns-in_err-height-clause-turn g c = c.spread_taken.ensures.turn ∙ c.merge_text.ensures.tries.turn ∙ c.start_run-run.ensures.turn
 
-pub returns-in-Err-clause-most_cost : goal.returns-in-Err-clause-most_cost
-returns-in-Err-clause-most_cost g c = let at = (goal.at.returns-in-Err-clause-most_cost g c).After-spread_taken in c.spread_taken.ensures.most_cost (a g at).travel.written (cost_start g at)
+pub returns-in_err-height-clause-most_cost : goal.returns-in_err-height-clause-most_cost
+returns-in_err-height-clause-most_cost g c = let at = (goal.at.returns-in_err-height-clause-most_cost g c).After-spread_taken in c.spread_taken.ensures.most_cost (a g at).travel.written (cost_start g at)
 
-pub returns-in-Err-clause-most_calls : goal.returns-in-Err-clause-most_calls
-returns-in-Err-clause-most_calls g c =
-    let at = (goal.at.returns-in-Err-clause-most_calls g c).After-spread_taken in
+pub returns-in_err-height-clause-most_calls : goal.returns-in_err-height-clause-most_calls
+returns-in_err-height-clause-most_calls g c =
+    let at = (goal.at.returns-in_err-height-clause-most_calls g c).After-spread_taken in
     let n = 2 ^ c.args.tally.now.height in
     omega (arith, c.spread_taken.ensures.most_calls ((a g at).calls + n) (goes_runs c.args.place.now c.requires.can.layout n c.start_run-run.new.frames c.merge_text.new.frames (a g at) (b g at) c.merge_text.new.run.taken.written c.merge_text.new.run.ahead.reader.next (all_read g at) (gone g at)))
-
-pub returns-in-Err-clause-failed : goal.returns-in-Err-clause-failed
-returns-in-Err-clause-failed g c is =
-    let at = (goal.at.returns-in-Err-clause-failed g c).After-spread_taken in
-    rose_on (a g at) (b g at) (g.S.Station.view c.spread_taken.new.station).disk_faults (gone g at).steps.frame.disk_faults (c.in-Err.ensures.failed (disk_as {T = ℕ} c.in-Err.fault (disk_is {T = Merged} c.in-Err.fault is)))
 
 -- What is read.
 
@@ -284,11 +282,35 @@ reads_all g c =
     let few : used_by t.records ≤ used_by (most_records l) = omega (arith, c.in_ok-merge_text.ensures.taking.few) in
     (2 ^ c.args.tally.now.height, omega arith, record { between = reads.between; walks = reads.walks; bytes_are = omega (arith, reads.bytes_are, times_up (segment_size l) (used_by t.records) (used_by (most_records l)) few) })
 
-pub returns-in-Ok-clause-reads : goal.returns-in-Ok-clause-reads
-returns-in-Ok-clause-reads g c = reads_all g (goal.at.returns-in-Ok-clause-reads g c).After-spread_taken
+pub returns-clause-reads : goal.returns-clause-reads
+returns-clause-reads g c = reads_all g (goal.at.returns-clause-reads g c).After-spread_taken
 
-pub returns-in-Err-clause-reads : goal.returns-in-Err-clause-reads
-returns-in-Err-clause-reads g c = reads_all g (goal.at.returns-in-Err-clause-reads g c).After-spread_taken
+pub returns-in_err-height-clause-reads : goal.returns-in_err-height-clause-reads
+returns-in_err-height-clause-reads g c = reads_all g (goal.at.returns-in_err-height-clause-reads g c).After-spread_taken
 
-pub returns-in-Ok-clause-whole_reads : goal.returns-in-Ok-clause-whole_reads
-returns-in-Ok-clause-whole_reads g c = most_read g (goal.at.returns-in-Ok-clause-whole_reads g c).After-spread_taken
+pub returns-clause-whole_reads : goal.returns-clause-whole_reads
+returns-clause-whole_reads g c = most_read g (goal.at.returns-clause-whole_reads g c).After-spread_taken
+
+pub returns-in_err-merge_text-clause-reading : goal.returns-in_err-merge_text-clause-reading
+returns-in_err-merge_text-clause-reading g c =
+    let p = err_from_is_err_and c.from_residual.result c.from_residual.ensures.1 in
+    let reading = c.in_err-merge_text.ensures.reading in
+    let fault = c.in_err-merge_text.field-0.0 in
+    rw (p.1, p.2) (record { whole = tt; takes = reading.takes; failed = λ is. reading.failed (disk_as {T = Unit {0}} fault (disk_is {T = Merged} fault is)); went = reading.went })
+
+pub returns-in_err-height-clause-reading : goal.returns-in_err-height-clause-reading
+returns-in_err-height-clause-reading g c =
+    let p = err_from_is_err_and c.from_residual-in_err-height.result c.from_residual-in_err-height.ensures.1 in
+    let at = (goal.at.returns-in_err-height-clause-reading g c).After-spread_taken in
+    let reading = c.in_ok-merge_text.ensures.reading in
+    rw (p.1, p.2) (record {
+      whole = tt;
+      takes = reading.takes;
+      failed = λ is. rose_on (a g at) (b g at) (g.S.Station.view c.spread_taken.new.station).disk_faults (gone g at).steps.frame.disk_faults (c.in_err-height.ensures.failed (disk_as {T = ℕ} c.in_err-height.field-0.0 (disk_is {T = Merged} c.in_err-height.field-0.0 is)));
+      went = reading.went;
+    })
+
+pub returns-clause-reading : goal.returns-clause-reading
+returns-clause-reading g c =
+    let reading = c.in_ok-merge_text.ensures.reading in
+    record { whole = reading.whole; takes = reading.takes; failed = λ is. absurd cc; went = reading.went }

@@ -3,7 +3,7 @@ use Rattle.station.specs.View.{Told}
 use Rattle.line_source.specs.Progress.{HasGiven}
 use Rattle.line_source.specs.SourceView.{SourceTold}
 use Rattle.bulk_load.specs.Amid.{Goes, IsBetween}
-use Rattle.bulk_load.specs.Updates.{HasReadAlone, HasReadLines}
+use Rattle.bulk_load.specs.MergeUpdates.{HasReadAlone, HasReadLines}
 use Rattle.bulk_load.proofs.merging.merge_lines.Given as goal
 
 abbrev pub invariant-loop-line : goal.invariant-loop-line

@@ -7,10 +7,10 @@ use Rattle.std.specs.FinMap.{entries}
 use Rattle.station.proofs.Composition.{told_on}
 use Rattle.key_slot.specs.Row.{record_of}
 use Rattle.map_model.specs.Image.{array_of}
-use Rattle.map_model.specs.Items.{effect_count}
-use Rattle.map_model.specs.Reasons.{begins_above}
+use Rattle.map_model.specs.ItemWords.{effect_count}
+use Rattle.map_model.specs.FileReasons.{begins_above}
 use Rattle.map_model.specs.Store.{bind, effect_by}
-use Rattle.window_tally.specs.View.{TallyView}
+use Rattle.window_tally.specs.TallyView.{TallyView}
 use Rattle.command_text.specs.declared.merge.MergeLine.TheVariants.{Bind}
 use Rattle.resize_region.proofs.OldRowLaws.{rose_on}
 use Rattle.bulk_load.specs.declared.fault.LoadFault.{LoadFault}
@@ -20,7 +20,7 @@ use Rattle.bulk_load.specs.Ahead.{IsAbove, left_in, under}
 use Rattle.bulk_load.specs.Amid.{TakesUpdate, counts_in}
 use Rattle.bulk_load.specs.Loads.{most_records}
 use Rattle.bulk_load.specs.MergeText.{front_rows}
-use Rattle.bulk_load.specs.Merging.{reads}
+use Rattle.bulk_load.specs.MergeLines.{reads}
 use Rattle.bulk_load.proofs.AloneLaws.{alone_edit, copy_no_line, pack_no_line, stays_of, copy_due, bound_binds, bound_balance, pack_due}
 use Rattle.bulk_load.proofs.AmidLaws.{array_on, goes_on, goes_tries, live_on, packs_goes, packs_tries, taking_inside, tries_on}
 use Rattle.bulk_load.proofs.Calls.{fill_on}
@@ -88,9 +88,9 @@ take_result-requires-clause-can g c = c.in_ok-met.ensures.amid.can
 pub take_result-requires-clause-taking : goal.take_result-requires-clause-taking
 take_result-requires-clause-taking g c = c.in_ok-met.ensures.amid.taking
 
-pub returns-in-Ok : goal.returns-in-Ok
-returns-in-Ok g c n =
-    let at = (goal.at.returns-in-Ok g c).In_ok-met in
+pub returns : goal.returns
+returns g c n =
+    let at = (goal.at.returns g c).In_ok-met in
     let place = c.args.place.now in
     let old = c.args.run.now in
     let m = c.meet_key.new.run in
@@ -105,7 +105,7 @@ returns-in-Ok g c n =
     let b = g.S.Station.view c.meet_key.new.station in
     let z = g.S.Station.view c.take_result.new.station in
     let meets = c.in_ok-met.ensures in
-    let packs = c.in-Ok.ensures in
+    let packs = c.in_ok-take_result.ensures in
     let new : MergeRun = record m { taken = t; found = found } in
     let same = same_found g at in
     let parts = goes_parts old c.args.row.now.key c.requires.goes in
@@ -151,39 +151,25 @@ returns-in-Ok g c n =
       failed = λ is. absurd (never_disk {T = Unit {0}} tt is);
     }
 
-pub returns-in-Err : goal.returns-in-Err
-returns-in-Err g c n =
-    let at = (goal.at.returns-in-Err g c).In_ok-met in
-    let place = c.args.place.now in
-    let old = c.args.run.now in
-    let m = c.meet_key.new.run in
-    let t = c.take_result.new.taken in
-    let e = record_of c.args.row.now in
-    let u = bind c.args.row.now.key c.args.row.now.value in
-    let f = c.args.frames.now in
-    let f1 = c.meet_key.new.frames in
-    let f2 = c.take_result.new.frames in
-    let a = g.S.Station.view c.args.station.now in
-    let b = g.S.Station.view c.meet_key.new.station in
-    let z = g.S.Station.view c.take_result.new.station in
-    let meets = c.in_ok-met.ensures in
-    let packs = c.take_result.ensures in
-    record {
+pub returns-in_err-take_result : goal.returns-in_err-take_result
+returns-in_err-take_result g c =
+    let p = err_from_is_err_and c.from_residual-in_err-take_result.result c.from_residual-in_err-take_result.ensures.1 in
+    rw (p.1, p.2) (λ n. let at = (goal.at.returns-in_err-take_result g c).In_ok-met in let place = c.args.place.now in let old = c.args.run.now in let m = c.meet_key.new.run in let t = c.take_result.new.taken in let e = record_of c.args.row.now in let u = bind c.args.row.now.key c.args.row.now.value in let f = c.args.frames.now in let f1 = c.meet_key.new.frames in let f2 = c.take_result.new.frames in let a = g.S.Station.view c.args.station.now in let b = g.S.Station.view c.meet_key.new.station in let z = g.S.Station.view c.take_result.new.station in let meets = c.in_ok-met.ensures in let packs = c.take_result.ensures in record {
       between = tt;
       takes = tt;
       faulty = λ told w edits has.
           let segments = array_of a.held in
           let low = under (Some c.args.row.now.key) (left_in segments old.ahead) in
           let taken = meets.taken told (front_rows edits (entries w)) has.taken in
-          pack_update_fault place w edits old f a has u n m.taken.records (Bind c.args.row.now) refl c.requires.goes (omega (arith, front_size place w edits old f a has u, taken.count, has.taken.count, length-append (front_rows edits (entries w)) low)) c.in-Err.fault c.in-Err.ensures.fault;
-      stops = pack_may_stop (most_records place.layout) m.taken.records c.in-Err.fault c.in-Err.ensures.fault;
+          pack_update_fault place w edits old f a has u n m.taken.records (Bind c.args.row.now) refl c.requires.goes (omega (arith, front_size place w edits old f a has u, taken.count, has.taken.count, length-append (front_rows edits (entries w)) low)) c.in_err-take_result.field-0.0 c.in_err-take_result.ensures.fault;
+      stops = pack_may_stop (most_records place.layout) m.taken.records c.in_err-take_result.field-0.0 c.in_err-take_result.ensures.fault;
       alone = tt;
-      due = λ edits has. pack_due edits old has.keys u place c.requires.between.balance has.binds n (Bind c.args.row.now) refl c.requires.goes m.taken.records c.in-Err.fault c.in-Err.ensures.fault (omega (arith, meets.count, sum_by-take-le (λ x. x) m.ahead.tally.now.counts m.ahead.reader.next, ap (λ (x : TallyView). sum x.counts) meets.tally));
-      stays = stays_of a z c.in-Err.fault (pack_no_line (most_records place.layout) m.taken.records c.in-Err.fault c.in-Err.ensures.fault);
+      due = λ edits has. pack_due edits old has.keys u place c.requires.between.balance has.binds n (Bind c.args.row.now) refl c.requires.goes m.taken.records c.in_err-take_result.field-0.0 c.in_err-take_result.ensures.fault (omega (arith, meets.count, sum_by-take-le (λ x. x) m.ahead.tally.now.counts m.ahead.reader.next, ap (λ (x : TallyView). sum x.counts) meets.tally));
+      stays = stays_of a z c.in_err-take_result.field-0.0 (pack_no_line (most_records place.layout) m.taken.records c.in_err-take_result.field-0.0 c.in_err-take_result.ensures.fault);
       tally = meets.tally;
       goes = tt;
       tries = tries_on place (2 ^ old.ahead.tally.now.height) old.taken.written m.taken.written old.ahead.reader.next m.ahead.reader.next f f1 f2 a b z (taking_inside place m.taken f1 meets.amid.taking) meets.goes
           (packs_tries place (2 ^ old.ahead.tally.now.height) m.ahead.reader.next e _ m.taken t f1 f2 b z (omega (arith, meets.amid.live.ahead.within, meets.amid.live.ahead.end_is, ap (λ (x : TallyView). 2 ^ x.height) meets.tally)) meets.amid.taking packs);
-      damage = packing_damage place old.ahead.reader.next a.travel z.travel old.ahead.tally.now (most_records place.layout) m.taken.records c.in-Err.fault c.in-Err.ensures.fault;
-      failed = λ is. rose_on a b z.disk_faults meets.goes.steps.frame.disk_faults (c.in-Err.ensures.failed is);
-    }
+      damage = packing_damage place old.ahead.reader.next a.travel z.travel old.ahead.tally.now (most_records place.layout) m.taken.records c.in_err-take_result.field-0.0 c.in_err-take_result.ensures.fault;
+      failed = λ is. rose_on a b z.disk_faults meets.goes.steps.frame.disk_faults (c.in_err-take_result.ensures.failed is);
+    })

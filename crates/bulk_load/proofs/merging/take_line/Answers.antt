@@ -4,7 +4,7 @@ use Rattle.map_model.specs.Store.{bind, unbind}
 use Rattle.command_text.specs.declared.merge.MergeLine.{MergeLine}
 use Rattle.command_text.specs.declared.merge.MergeLine.TheVariants.{Bind, Remove}
 use Rattle.bulk_load.specs.Amid.{TakesUpdate}
-use Rattle.bulk_load.specs.Merging.{after_merge_line}
+use Rattle.bulk_load.specs.MergeLines.{after_merge_line}
 use Rattle.bulk_load.proofs.AloneLaws.{edit_wrong}
 use Rattle.bulk_load.proofs.TakenLines.{bad_refused, end_refused, line_ended, line_refused, line_skipped}
 use Rattle.bulk_load.proofs.merging.take_line.Goals as goal

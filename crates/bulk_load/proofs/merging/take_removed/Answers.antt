@@ -5,8 +5,8 @@ use Rattle.std.proofs.lemmas.Result.{err_from_is_err_and}
 use Rattle.std.specs.FinMap.{entries}
 use Rattle.key_slot.specs.Record.{Record}
 use Rattle.map_model.specs.Image.{array_of}
-use Rattle.map_model.specs.Items.{effect_count}
-use Rattle.map_model.specs.Reasons.{begins_above}
+use Rattle.map_model.specs.ItemWords.{effect_count}
+use Rattle.map_model.specs.FileReasons.{begins_above}
 use Rattle.map_model.specs.Store.{effect_by, unbind}
 use Rattle.command_text.specs.declared.merge.MergeLine.TheVariants.{Remove}
 use Rattle.bulk_load.specs.declared.fault.LoadFault.{LoadFault}
@@ -16,7 +16,7 @@ use Rattle.bulk_load.specs.Ahead.{left_in, under}
 use Rattle.bulk_load.specs.Amid.{TakesUpdate, counts_in}
 use Rattle.bulk_load.specs.Loads.{most_records}
 use Rattle.bulk_load.specs.MergeText.{front_rows}
-use Rattle.bulk_load.specs.Merging.{reads}
+use Rattle.bulk_load.specs.MergeLines.{reads}
 use Rattle.bulk_load.specs.Packing.{IsTaken, HasPacked}
 use Rattle.bulk_load.proofs.AloneLaws.{alone_edit, copy_no_line, stays_of, copy_due, removed_binds, removed_balance}
 use Rattle.bulk_load.proofs.AmidLaws.{array_on}

@@ -1,5 +1,5 @@
 use Rattle.std.proofs.Common.{◌≡◌, ℕ, ◌+◌, ◌<◌, length}
-use Rattle.segment_frames.specs.Held.{grouped, HoldsRows}
+use Rattle.segment_frames.specs.HeldRecords.{grouped, HoldsRows}
 use Rattle.segment_frames.specs.Lists.{rows_at}
 use Rattle.bulk_load.specs.Spreading.{packed_count}
 use Rattle.bulk_load.proofs.packed.validate_packed.Given as goal

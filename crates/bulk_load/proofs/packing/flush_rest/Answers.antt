@@ -1,6 +1,6 @@
 use Rattle.std.proofs.Common.{◌≡◌, ℕ, ◌+◌, ◌-◌, ◌*◌, ap, subst, arith}
 use Rattle.header_gate.specs.Places.{segment_size}
-use Rattle.segment_frames.specs.Parts.{GoesInParts}
+use Rattle.segment_frames.specs.SegmentParts.{GoesInParts}
 use Rattle.segment_frames.proofs.PartLaws.{parts_still, parts_more}
 use Rattle.bulk_load.specs.Packing.{room_in}
 use Rattle.bulk_load.specs.Spreading.{used_by}

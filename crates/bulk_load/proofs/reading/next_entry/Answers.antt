@@ -3,7 +3,7 @@ use Rattle.command_text.specs.Load.{load_line}
 use Rattle.line_source.specs.declared.reader.LineStep.TheVariants.{Line, LongLine, End, ReadFailed, Spent}
 use Rattle.line_source.proofs.Progress.{given-more, given-all, rose_on}
 use Rattle.bulk_load.proofs.ReadLaws.{raw_line, raw_long}
-use Rattle.bulk_load.specs.Reading.{FitsLine}
+use Rattle.bulk_load.specs.TextReading.{FitsLine}
 use Rattle.bulk_load.proofs.FitLaws.{line_fits}
 use Rattle.bulk_load.proofs.reading.next_entry.Goals as goal
 

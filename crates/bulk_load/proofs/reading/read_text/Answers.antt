@@ -1,4 +1,4 @@
-use Rattle.std.proofs.Common.{arith, ◌≡◌, inr, refl, ℕ, ◌+◌, ◌/◌, ◌<◌, ◌≤◌, false, List, [], ◌∷◌, ◌++◌, length, Option, None, Ok, sym, ap, subst, ◌∙◌}
+use Rattle.std.proofs.Common.{arith, ◌≡◌, inr, refl, ℕ, ◌+◌, ◌/◌, ◌<◌, ◌≤◌, false, List, [], ◌∷◌, ◌++◌, length, Option, None, Ok, Err, sym, ap, subst, ◌∙◌}
 use Rattle.std.specs.Prelude.{IsSome, IfSome}
 use Rattle.std.proofs.lemmas.List.{length-append}
 use Rattle.std.proofs.lemmas.Result.{err_from_is_err_and}
@@ -6,11 +6,15 @@ use Rattle.station.proofs.Composition.{told_on, told_back}
 use Rattle.line_source.proofs.Progress.{given-none}
 use Rattle.command_text.specs.declared.load.LoadLine.{LoadLine}
 use Rattle.header_gate.specs.Places.{segment_size}
-use Rattle.bulk_load.specs.Loading.{loading, reads}
+use Rattle.bulk_load.specs.LoadLines.{loading, reads}
 use Rattle.bulk_load.specs.Loads.{most_records}
 use Rattle.resize_region.specs.Shares.{places}
-use Rattle.bulk_load.specs.Reading.{GivesEntry, IsNextEntry, FitsLine}
+use Rattle.bulk_load.specs.TextReading.{GivesEntry, IsNextEntry, FitsLine}
 use Rattle.bulk_load.proofs.Calls.{none_spares, spares_on, fill_on}
+use Rattle.bulk_load.proofs.CopyLaws.{disk_as, disk_is, never_disk}
+use Rattle.resize_region.proofs.OldRowLaws.{rose_on}
+use Rattle.bulk_load.specs.declared.fault.LoadFault.{LoadFault}
+use Rattle.bulk_load.specs.declared.packing.Taken.{Taken}
 use Rattle.bulk_load.proofs.PackLaws.{room_some, cost_on, runs_on}
 use Rattle.bulk_load.proofs.MostLaws.{all_calls, all_cost, tried_calls, tried_cost}
 use Rattle.bulk_load.proofs.TakenLaws.{none_taken}
@@ -69,20 +73,21 @@ returns-in_err-line-clause-faulty g c =
     rw (p.1, p.2) (reading_fault c.args.place.now.layout.format (most_records c.args.place.now.layout) c.args.reader.now (g.I.Source.view c.args.source.now) here.given here.rows c.loop-line.taken.ended here.loaded c.next_entry.new.reader (g.I.Source.view c.next_entry.new.source) c.in_err-line.field-0.0
     (c.in_err-line.ensures.next c.args.reader.now (g.I.Source.view c.args.source.now) here.given here.reading))
 
-pub returns-in-Err-clause-faulty : goal.returns-in-Err-clause-faulty
-returns-in-Err-clause-faulty g c =
+pub returns-in_err-take_line-clause-faulty : goal.returns-in_err-take_line-clause-faulty
+returns-in_err-take_line-clause-faulty g c =
+    let p = err_from_is_err_and c.from_residual-in_err-take_line.result c.from_residual-in_err-take_line.ensures.1 in
     let here = c.loop-line.invariant in
-    line_fault c.args.place.now.layout.format (most_records c.args.place.now.layout) c.args.reader.now (g.I.Source.view c.args.source.now) here.given here.rows c.loop-line.taken.ended here.loaded (c.loop-line.lines + 1) c.in-Some.line c.next_entry.new.reader (g.I.Source.view c.next_entry.new.source)
-    (turn g (goal.at.returns-in-Err-clause-faulty g c).After-take_line) (omega (arith, here.counted)) (g.I.Source.view c.next_entry.new.source) c.in-Err.fault (c.in-Err.ensures.faulty here.rows here.are_taken)
+    rw (p.1, p.2) (line_fault c.args.place.now.layout.format (most_records c.args.place.now.layout) c.args.reader.now (g.I.Source.view c.args.source.now) here.given here.rows c.loop-line.taken.ended here.loaded (c.loop-line.lines + 1) c.in-Some.line c.next_entry.new.reader (g.I.Source.view c.next_entry.new.source)
+    (turn g (goal.at.returns-in_err-take_line-clause-faulty g c).After-take_line) (omega (arith, here.counted)) (g.I.Source.view c.next_entry.new.source) c.in_err-take_line.field-0.0 (c.in_err-take_line.ensures.faulty here.rows here.are_taken))
 
-pub returns-in-Err-clause-steps : goal.returns-in-Err-clause-steps
-returns-in-Err-clause-steps g c = spares_on c.args.place.now c.loop-line.invariant.steps c.take_line.ensures.steps
+pub returns-in_err-take_line-clause-steps : goal.returns-in_err-take_line-clause-steps
+returns-in_err-take_line-clause-steps g c = spares_on c.args.place.now c.loop-line.invariant.steps c.take_line.ensures.steps
 
 pub loop-line-preserved : goal.loop-line-preserved
 loop-line-preserved g c =
     let here = c.loop-line.invariant in
     let gives = turn g (goal.at.loop-line-preserved g c).After-take_line in
-    let takes = c.in-Ok.ensures.takes here.rows here.are_taken in
+    let takes = c.in_ok-take_line.ensures.takes here.rows here.are_taken in
     record {
       given = here.given ++ gives.raw ∷ [];
       rows = takes.now;
@@ -90,8 +95,8 @@ loop-line-preserved g c =
       loaded = λ told.
           loaded_more c.args.place.now.layout.format (most_records c.args.place.now.layout) c.args.reader.now (g.I.Source.view c.args.source.now) here.given here.rows c.loop-line.taken.ended here.loaded (c.loop-line.lines + 1) c.in-Some.line c.next_entry.new.reader (g.I.Source.view c.next_entry.new.source) gives (omega (arith, here.counted)) told ∙ takes.after;
       are_taken = takes.taken;
-      has_place = c.in-Ok.ensures.taking.place;
-      few = c.in-Ok.ensures.taking.few;
+      has_place = c.in_ok-take_line.ensures.taking.place;
+      few = c.in_ok-take_line.ensures.taking.few;
       packed = λ told. takes.packed (told_on here.steps.frame told) (here.packed told);
       small = here.small;
       counted = omega (arith, here.counted, length-append here.given (gives.raw ∷ []));
@@ -101,8 +106,8 @@ loop-line-preserved g c =
       journal = c.take_line.ensures.journal ∙ here.journal;
       turn = c.take_line.ensures.turn ∙ here.turn;
       cost = cost_on (segment_size c.args.place.now.layout) c.loop-line.taken.written c.take_line.new.taken.written (g.S.Station.view c.args.station.now).travel.written (g.S.Station.view c.loop-line.station).travel.written (g.S.Station.view c.take_line.new.station).travel.written
-          c.in-Ok.ensures.onward here.cost c.in-Ok.ensures.cost;
-      calls = runs_on _ 0 c.loop-line.taken.written c.take_line.new.taken.written _ _ _ (omega arith) c.in-Ok.ensures.onward here.calls c.in-Ok.ensures.calls;
+          c.in_ok-take_line.ensures.onward here.cost c.in_ok-take_line.ensures.cost;
+      calls = runs_on _ 0 c.loop-line.taken.written c.take_line.new.taken.written _ _ _ (omega arith) c.in_ok-take_line.ensures.onward here.calls c.in_ok-take_line.ensures.calls;
     }
 
 -- The end of the text.
@@ -123,14 +128,6 @@ returns-then-taken-clause-read g c =
       },
     )
 
-pub returns-then-taken-clause-whole : goal.returns-then-taken-clause-whole
-returns-then-taken-clause-whole g c told =
-    let here = c.loop-line.invariant in
-    let next : IsNextEntry c.args.place.now.layout.format (Ok None) c.args.reader.now (g.I.Source.view c.args.source.now) here.given c.next_entry.new.reader (g.I.Source.view c.next_entry.new.source) =
-    subst (λ (o : Option LoadLine). IsNextEntry c.args.place.now.layout.format (Ok o) c.args.reader.now (g.I.Source.view c.args.source.now) here.given c.next_entry.new.reader (g.I.Source.view c.next_entry.new.source)) c.in_default.is
-    (c.in_ok-line.ensures.next c.args.reader.now (g.I.Source.view c.args.source.now) here.given here.reading) in
-    (next told).1 c.requires.unread.going
-
 pub returns-else-taken-clause-faulty : goal.returns-else-taken-clause-faulty
 returns-else-taken-clause-faulty g c told =
     let here = c.loop-line.invariant in
@@ -150,20 +147,6 @@ pub returns-then-taken-clause-calls : goal.returns-then-taken-clause-calls
 returns-then-taken-clause-calls g c = c.loop-line.invariant.calls
 
 -- What was taken.
-
-pub returns-in_err-line-clause-takes : goal.returns-in_err-line-clause-takes
-returns-in_err-line-clause-takes g c = takes_last c.args.reader.now (g.I.Source.view c.args.source.now) c.loop-line.invariant.given c.loop-line.reader (g.I.Source.view c.loop-line.source) c.next_entry.new.reader (g.I.Source.view c.next_entry.new.source) c.loop-line.invariant.reading c.next_entry.ensures.takes
-
-pub returns-then-taken-clause-takes : goal.returns-then-taken-clause-takes
-returns-then-taken-clause-takes g c = takes_last c.args.reader.now (g.I.Source.view c.args.source.now) c.loop-line.invariant.given c.loop-line.reader (g.I.Source.view c.loop-line.source) c.next_entry.new.reader (g.I.Source.view c.next_entry.new.source) c.loop-line.invariant.reading c.next_entry.ensures.takes
-
-pub returns-else-taken-clause-takes : goal.returns-else-taken-clause-takes
-returns-else-taken-clause-takes g c = takes_last c.args.reader.now (g.I.Source.view c.args.source.now) c.loop-line.invariant.given c.loop-line.reader (g.I.Source.view c.loop-line.source) c.next_entry.new.reader (g.I.Source.view c.next_entry.new.source) c.loop-line.invariant.reading c.next_entry.ensures.takes
-
-pub returns-in-Err-clause-takes : goal.returns-in-Err-clause-takes
-returns-in-Err-clause-takes g c =
-    let next = turn g (goal.at.returns-in-Err-clause-takes g c).After-take_line in
-    takes_given c.args.reader.now (g.I.Source.view c.args.source.now) (c.loop-line.invariant.given ++ next.raw ∷ []) c.next_entry.new.reader (g.I.Source.view c.next_entry.new.source) next.more
 
 -- Whatever was answered.
 
@@ -197,12 +180,58 @@ returns-else-taken-clause-most_calls g c =
     let here = c.loop-line.invariant in
     all_calls c.args.place.now.layout c.requires.can.layout c.loop-line.taken here.has_place here.few (g.S.Station.view c.args.station.now).calls (g.S.Station.view c.loop-line.station).calls here.calls
 
-pub returns-in-Err-clause-most_cost : goal.returns-in-Err-clause-most_cost
-returns-in-Err-clause-most_cost g c =
+pub returns-in_err-take_line-clause-most_cost : goal.returns-in_err-take_line-clause-most_cost
+returns-in_err-take_line-clause-most_cost g c =
     let here = c.loop-line.invariant in
     tried_cost c.args.place.now.layout c.requires.can.layout c.loop-line.taken here.has_place here.few (g.S.Station.view c.args.station.now).travel.written (g.S.Station.view c.loop-line.station).travel.written (g.S.Station.view c.take_line.new.station).travel.written here.cost c.take_line.ensures.most_cost
 
-pub returns-in-Err-clause-most_calls : goal.returns-in-Err-clause-most_calls
-returns-in-Err-clause-most_calls g c =
+pub returns-in_err-take_line-clause-most_calls : goal.returns-in_err-take_line-clause-most_calls
+returns-in_err-take_line-clause-most_calls g c =
     let here = c.loop-line.invariant in
     tried_calls c.args.place.now.layout c.requires.can.layout c.loop-line.taken here.has_place here.few (g.S.Station.view c.args.station.now).calls (g.S.Station.view c.loop-line.station).calls (g.S.Station.view c.take_line.new.station).calls here.calls c.take_line.ensures.most_calls
+
+pub returns-in_err-line-clause-reading : goal.returns-in_err-line-clause-reading
+returns-in_err-line-clause-reading g c =
+    let p = err_from_is_err_and c.from_residual.result c.from_residual.ensures.1 in
+    let here = c.loop-line.invariant in
+    rw (p.1, p.2) (record {
+      whole = tt;
+      takes = takes_last c.args.reader.now (g.I.Source.view c.args.source.now) here.given c.loop-line.reader (g.I.Source.view c.loop-line.source) c.next_entry.new.reader (g.I.Source.view c.next_entry.new.source) here.reading c.next_entry.ensures.takes;
+      failed = λ is. absurd (subst (λ (f : LoadFault). IsNextEntry c.args.place.now.layout.format (Err f) c.args.reader.now (g.I.Source.view c.args.source.now) here.given c.next_entry.new.reader (g.I.Source.view c.next_entry.new.source)) (disk_is {T = Taken} c.in_err-line.field-0.0 is) (c.in_err-line.ensures.next c.args.reader.now (g.I.Source.view c.args.source.now) here.given here.reading));
+      went = record { tells = c.next_entry.ensures.went.tells ∙ here.reading.went.tells; faults = omega (arith, here.reading.went.faults, c.next_entry.ensures.went.faults) };
+    })
+
+pub returns-in_err-take_line-clause-reading : goal.returns-in_err-take_line-clause-reading
+returns-in_err-take_line-clause-reading g c =
+    let p = err_from_is_err_and c.from_residual-in_err-take_line.result c.from_residual-in_err-take_line.ensures.1 in
+    let here = c.loop-line.invariant in
+    let next = turn g (goal.at.returns-in_err-take_line-clause-reading g c).After-take_line in
+    rw (p.1, p.2) (record {
+      whole = tt;
+      takes = takes_given c.args.reader.now (g.I.Source.view c.args.source.now) (here.given ++ next.raw ∷ []) c.next_entry.new.reader (g.I.Source.view c.next_entry.new.source) next.more;
+      failed = λ is. rose_on (g.S.Station.view c.args.station.now) (g.S.Station.view c.loop-line.station) (g.S.Station.view c.take_line.new.station).disk_faults here.steps.frame.disk_faults (c.in_err-take_line.ensures.failed (disk_as {T = Unit {0}} c.in_err-take_line.field-0.0 (disk_is {T = Taken} c.in_err-take_line.field-0.0 is)));
+      went = next.more.went;
+    })
+
+pub returns-then-taken-clause-reading : goal.returns-then-taken-clause-reading
+returns-then-taken-clause-reading g c =
+    let here = c.loop-line.invariant in
+    let next : IsNextEntry c.args.place.now.layout.format (Ok None) c.args.reader.now (g.I.Source.view c.args.source.now) here.given c.next_entry.new.reader (g.I.Source.view c.next_entry.new.source) =
+    subst (λ (o : Option LoadLine). IsNextEntry c.args.place.now.layout.format (Ok o) c.args.reader.now (g.I.Source.view c.args.source.now) here.given c.next_entry.new.reader (g.I.Source.view c.next_entry.new.source)) c.in_default.is
+    (c.in_ok-line.ensures.next c.args.reader.now (g.I.Source.view c.args.source.now) here.given here.reading) in
+    record {
+      whole = λ told. (next told).1 c.requires.unread.going;
+      takes = takes_last c.args.reader.now (g.I.Source.view c.args.source.now) here.given c.loop-line.reader (g.I.Source.view c.loop-line.source) c.next_entry.new.reader (g.I.Source.view c.next_entry.new.source) here.reading c.next_entry.ensures.takes;
+      failed = λ is. absurd (never_disk c.loop-line.taken is);
+      went = record { tells = c.next_entry.ensures.went.tells ∙ here.reading.went.tells; faults = omega (arith, here.reading.went.faults, c.next_entry.ensures.went.faults) };
+    }
+
+pub returns-else-taken-clause-reading : goal.returns-else-taken-clause-reading
+returns-else-taken-clause-reading g c =
+    let here = c.loop-line.invariant in
+    record {
+      whole = tt;
+      takes = takes_last c.args.reader.now (g.I.Source.view c.args.source.now) here.given c.loop-line.reader (g.I.Source.view c.loop-line.source) c.next_entry.new.reader (g.I.Source.view c.next_entry.new.source) here.reading c.next_entry.ensures.takes;
+      failed = λ is. absurd cc;
+      went = record { tells = c.next_entry.ensures.went.tells ∙ here.reading.went.tells; faults = omega (arith, here.reading.went.faults, c.next_entry.ensures.went.faults) };
+    }

@@ -6,7 +6,7 @@ use Rattle.key_slot.specs.Record.{Record}
 use Rattle.line_source.specs.SourceView.{SourceTold}
 use Rattle.line_source.specs.Progress.{HasGiven}
 use Rattle.map_model.specs.Regions.{Spares}
-use Rattle.bulk_load.specs.Loading.{loading, reads}
+use Rattle.bulk_load.specs.LoadLines.{loading, reads}
 use Rattle.bulk_load.specs.Loads.{most_records}
 use Rattle.bulk_load.specs.Packing.{CanFill, IsTaken, HasPlace, HasPacked, WritesRuns, room_in}
 use Rattle.bulk_load.proofs.reading.read_text.Given as goal

@@ -1,8 +1,8 @@
 use Rattle.std.proofs.Common.{inl, refl, sym, ap, subst, ◌∙◌, arith}
 use Rattle.command_text.specs.declared.load.LoadLine.{LoadLine}
-use Rattle.bulk_load.specs.Loading.{after_line}
+use Rattle.bulk_load.specs.LoadLines.{after_line}
 use Rattle.bulk_load.specs.Loads.{most_records}
-use Rattle.bulk_load.specs.Reading.{TakesOn}
+use Rattle.bulk_load.specs.TextReading.{TakesOn}
 use Rattle.bulk_load.proofs.Calls.{none_spares}
 use Rattle.bulk_load.proofs.CauseLaws.{no_disk}
 use Rattle.bulk_load.proofs.LineLaws.{end_goes, ended_taken}

@@ -1,7 +1,8 @@
 use Rattle.std.proofs.Common.{arith, [], ◌∷◌, ◌++◌, sym, ap, ◌∙◌}
+use Rattle.std.proofs.lemmas.Result.{err_from_is_err_and}
 use Rattle.key_slot.specs.Row.{record_of}
-use Rattle.map_model.specs.Reasons.{begins_above}
-use Rattle.bulk_load.specs.Loading.{reads}
+use Rattle.map_model.specs.FileReasons.{begins_above}
+use Rattle.bulk_load.specs.LoadLines.{reads}
 use Rattle.bulk_load.specs.Loads.{most_records}
 use Rattle.bulk_load.proofs.CauseLaws.{no_disk}
 use Rattle.bulk_load.proofs.LineLaws.{both_true, pack_line_fault, row_goes}
@@ -10,11 +11,11 @@ use Rattle.bulk_load.proofs.reading.take_row.Goals as goal
 pub take_result-requires-clause-above : goal.take_result-requires-clause-above
 take_result-requires-clause-above g c = (both_true c.args.taken.now.ended (begins_above c.args.taken.now.last (record_of c.args.row.now ∷ [])) c.requires.goes_on).1
 
-pub returns-in-Ok : goal.returns-in-Ok
-returns-in-Ok g c k =
+pub returns : goal.returns
+returns g c k =
     let r = record_of c.args.row.now in
     let l = c.args.place.now.layout in
-    let packs = c.in-Ok.ensures in
+    let packs = c.in_ok-take_result.ensures in
     let not_ended = (both_true c.args.taken.now.ended (begins_above c.args.taken.now.last (r ∷ [])) c.requires.goes_on).0 in
     record {
       takes = λ rows is. record {
@@ -36,14 +37,13 @@ returns-in-Ok g c k =
       failed = λ e. absurd (no_disk tt e);
     }
 
-pub returns-in-Err : goal.returns-in-Err
-returns-in-Err g c k =
-    let l = c.args.place.now.layout in
-    let packs = c.take_result.ensures in
-    record {
+pub returns-in_err-take_result : goal.returns-in_err-take_result
+returns-in_err-take_result g c =
+    let p = err_from_is_err_and c.from_residual.result c.from_residual.ensures.1 in
+    rw (p.1, p.2) (λ k. let l = c.args.place.now.layout in let packs = c.take_result.ensures in record {
       takes = tt;
       taking = tt;
-      faulty = λ rows is. pack_line_fault (most_records l) k rows l c.args.taken.now c.args.frames.now is c.args.row.now c.requires.goes_on c.in-Err.fault c.in-Err.ensures.fault;
+      faulty = λ rows is. pack_line_fault (most_records l) k rows l c.args.taken.now c.args.frames.now is c.args.row.now c.requires.goes_on c.in_err-take_result.field-0.0 c.in_err-take_result.ensures.fault;
       onward = tt;
       journal = packs.journal;
       turn = packs.turn;
@@ -52,5 +52,5 @@ returns-in-Err g c k =
       calls = tt;
       most_cost = packs.most_cost;
       most_calls = packs.tried;
-      failed = c.in-Err.ensures.failed;
-    }
+      failed = c.in_err-take_result.ensures.failed;
+    })

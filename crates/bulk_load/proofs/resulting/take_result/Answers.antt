@@ -1,8 +1,9 @@
 use Rattle.std.proofs.Common.{arith, inl, inr, ◌≡◌, ◌+◌, refl, [], ◌∷◌, ◌++◌, sym, ap, subst, ◌∙◌}
+use Rattle.std.proofs.lemmas.Result.{err_from_is_err_and}
 use Rattle.density_rule.specs.Bounds.{upper_of}
 use Rattle.header_gate.specs.Places.{height_limit}
 use Rattle.key_slot.specs.Row.{record_of}
-use Rattle.bulk_load.specs.Faults.{load_fault_of}
+use Rattle.bulk_load.specs.LoadFaults.{load_fault_of}
 use Rattle.bulk_load.specs.Loads.{most_records}
 use Rattle.bulk_load.specs.Resulting.{IsPackingFault}
 use Rattle.resize_region.proofs.OldRowLaws.{failed_as}
@@ -46,43 +47,44 @@ pack-requires-clause-room g c =
 pub pack-requires-clause-taken : goal.pack-requires-clause-taken
 pack-requires-clause-taken g c = (c.requires.taking.rows, c.requires.taking.taken)
 
-pub returns-in-Ok : goal.returns-in-Ok
-returns-in-Ok g c =
+pub returns : goal.returns
+returns g c =
     let l = c.args.place.now.layout in
     let same : c.upper-most.result ≡ most_records l = c.upper-most.ensures ∙ ap upper_of c.height_limit.ensures.limit in
     let less = room_for l c.args.taken.now.records c.upper-most.result same c.if-taken-most.false c.requires.taking.few in
     record {
-      taken = c.in-Ok.ensures.taken;
-      packed = c.in-Ok.ensures.packed;
+      taken = c.in_ok-pack.ensures.taken;
+      packed = c.in_ok-pack.ensures.packed;
       taking = record {
         rows = c.requires.taking.rows ++ record_of c.args.row.now ∷ [];
-        taken = c.in-Ok.ensures.taken c.requires.taking.rows c.requires.taking.taken;
-        place = c.in-Ok.ensures.place;
-        few = omega (arith, c.in-Ok.ensures.count, less);
+        taken = c.in_ok-pack.ensures.taken c.requires.taking.rows c.requires.taking.taken;
+        place = c.in_ok-pack.ensures.place;
+        few = omega (arith, c.in_ok-pack.ensures.count, less);
       };
-      few = omega (arith, c.in-Ok.ensures.count, less);
+      few = omega (arith, c.in_ok-pack.ensures.count, less);
       ended = c.pack.ensures.ended;
       fault = tt;
-      onward = c.in-Ok.ensures.onward;
+      onward = c.in_ok-pack.ensures.onward;
       journal = c.pack.ensures.journal;
       turn = c.pack.ensures.turn;
       steps = c.pack.ensures.steps;
-      cost = c.in-Ok.ensures.cost;
-      calls = c.in-Ok.ensures.calls;
+      cost = c.in_ok-pack.ensures.cost;
+      calls = c.in_ok-pack.ensures.calls;
       most_cost = c.pack.ensures.most_cost;
       tried = elim c.pack.ensures.tried [ inl none ↦ inl none | inr one ↦ inr (one.0, omega (arith, one.1, less)) ];
       no_reads = c.pack.ensures.no_reads;
-      last = (c.in-Ok.ensures.taken c.requires.taking.rows c.requires.taking.taken).last ∙ last_key-more c.requires.taking.rows (record_of c.args.row.now);
-      count = c.in-Ok.ensures.count;
+      last = (c.in_ok-pack.ensures.taken c.requires.taking.rows c.requires.taking.taken).last ∙ last_key-more c.requires.taking.rows (record_of c.args.row.now);
+      count = c.in_ok-pack.ensures.count;
       failed = λ e. absurd (no_disk tt e);
     }
 
-pub returns-in-Err : goal.returns-in-Err
-returns-in-Err g c =
+pub returns-in_err-pack : goal.returns-in_err-pack
+returns-in_err-pack g c =
+    let p = err_from_is_err_and c.from_residual.result c.from_residual.ensures.1 in
     let l = c.args.place.now.layout in
-    let disk = c.of_file.ensures ∙ ap load_fault_of c.in-Err.ensures.fault in
+    let disk = ap load_fault_of c.in_err-pack.ensures.fault in
     let less = room_for l c.args.taken.now.records c.upper-most.result (c.upper-most.ensures ∙ ap upper_of c.height_limit.ensures.limit) c.if-taken-most.false c.requires.taking.few in
-    record {
+    rw (p.1, p.2) (record {
       taken = tt;
       packed = tt;
       taking = tt;
@@ -100,5 +102,5 @@ returns-in-Err g c =
       no_reads = c.pack.ensures.no_reads;
       last = tt;
       count = tt;
-      failed = λ e. c.in-Err.ensures.failed (failed_as {T = Unit {0}} c.in-Err.fault c.in-Err.ensures.fault);
-    }
+      failed = λ e. c.in_err-pack.ensures.failed (failed_as {T = Unit {0}} c.in_err-pack.field-0.0 c.in_err-pack.ensures.fault);
+    })

@@ -5,7 +5,7 @@ use Rattle.key_slot.specs.Slot.{empty_slot}
 use Rattle.raw_slots.specs.Slots.{empty_slot as raw_empty}
 use Rattle.header_gate.specs.Paged.{pages_of_all}
 use Rattle.redo_journal.specs.Frames.{Batch, IsFrames}
-use Rattle.segment_frames.specs.Held.{grouped, HoldsRows}
+use Rattle.segment_frames.specs.HeldRecords.{grouped, HoldsRows}
 use Rattle.segment_frames.specs.Lists.{segments_in}
 use Rattle.segment_frames.specs.Shifts.{Cleared}
 use Rattle.segment_frames.proofs.Grouped.{grouped_cleared}

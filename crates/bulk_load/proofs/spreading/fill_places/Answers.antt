@@ -10,7 +10,7 @@ use Rattle.resize_region.proofs.OldRowLaws.{never_failed}
 use Rattle.bulk_load.proofs.Calls.{fill_same}
 use Rattle.bulk_load.proofs.PackedLaws as laws
 use Rattle.bulk_load.proofs.SpreadLaws.{share_ends, share_run}
-use Rattle.segment_frames.specs.Parts.{GoesInParts}
+use Rattle.segment_frames.specs.SegmentParts.{GoesInParts}
 use Rattle.segment_frames.proofs.PartLaws.{parts_still, parts_on}
 use Rattle.bulk_load.specs.Spreading.{used_by}
 use Rattle.bulk_load.proofs.spreading.fill_places.Goals as goal

@@ -8,7 +8,7 @@ use Rattle.map_model.specs.Array.{segment_at, spread_over}
 use Rattle.resize_region.specs.Shares.{share_in}
 use Rattle.bulk_load.specs.Packing.{CanFill}
 use Rattle.bulk_load.specs.Spreading.{IsPacked, ArePacked, used_by}
-use Rattle.segment_frames.specs.Parts.{GoesInParts}
+use Rattle.segment_frames.specs.SegmentParts.{GoesInParts}
 use Rattle.bulk_load.proofs.spreading.fill_places.Given as goal
 
 abbrev pub invariant-loop-f : goal.invariant-loop-f

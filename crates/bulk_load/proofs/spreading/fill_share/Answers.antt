@@ -10,7 +10,7 @@ use Rattle.bulk_load.specs.declared.packed.Packed.{Packed}
 use Rattle.bulk_load.proofs.Calls.{fill_same}
 use Rattle.bulk_load.proofs.PackedLaws as laws
 use Rattle.bulk_load.proofs.Slices.{slices_join, slice_none}
-use Rattle.segment_frames.specs.Parts.{GoesInParts}
+use Rattle.segment_frames.specs.SegmentParts.{GoesInParts}
 use Rattle.segment_frames.proofs.PartLaws.{parts_still, parts_on}
 use Rattle.bulk_load.specs.Spreading.{used_by}
 use Rattle.bulk_load.proofs.spreading.fill_share.Goals as goal

@@ -7,7 +7,7 @@ use Rattle.key_slot.specs.Record.{Record}
 use Rattle.resize_region.specs.Shares.{places, share_in}
 use Rattle.bulk_load.specs.Packing.{CanFill}
 use Rattle.bulk_load.specs.Spreading.{IsPacked, ArePacked, used_by}
-use Rattle.segment_frames.specs.Parts.{GoesInParts}
+use Rattle.segment_frames.specs.SegmentParts.{GoesInParts}
 use Rattle.bulk_load.proofs.spreading.fill_share.Given as goal
 
 abbrev pub invariant-loop-have : goal.invariant-loop-have

@@ -15,7 +15,7 @@ use Rattle.resize_region.specs.Shares.{places, share_in}
 use Rattle.bulk_load.proofs.Calls.{same_spares, none_spares, spares_on, fill_on, fill_same}
 use Rattle.bulk_load.proofs.PackLaws.{few_segments}
 use Rattle.bulk_load.proofs.SpreadLaws.{begins_early, spread_fits, spent, packed_beside, are_beside, packed_first, are_first}
-use Rattle.segment_frames.specs.Parts.{parts, GoesInParts}
+use Rattle.segment_frames.specs.SegmentParts.{parts, GoesInParts}
 use Rattle.resize_region.proofs.CopyCalls.{copy_none, copy_read, copy_written, copy_few, halves}
 use Rattle.resize_region.specs.Source.{copy_calls}
 use Rattle.bulk_load.specs.Packing.{room_in}

@@ -1,8 +1,10 @@
 -- No command of words is the refusal of a long line, and each fits the format.
 use Rattle.std.proofs.Common.{◌≡◌, ℕ, List, subst, sym, ap, ◌∙◌}
-use Rattle.command_text.specs.Command.{IsCommandOf, IsNotLong, FitsFormat, command_of, command_of_words}
+use Rattle.command_text.specs.Command.{IsCommandOf, IsNotLong, FitsFormat, command_of}
+use Rattle.command_text.specs.ByName.{command_by_name}
 use Rattle.command_text.specs.declared.command.Command.{Command}
 use Rattle.command_text.specs.declared.command.Command.TheVariants.{Nothing}
+use Rattle.command_text.proofs.ByNameLaws.{by_name}
 use Rattle.command_text.proofs.LineLaws.{line_holds}
 use Rattle.command_text.proofs.parse.read_line.Goals as goal
 
@@ -56,7 +58,7 @@ of_line : (f : ℕ) (line : List ℕ) (c : Command) → c ≡ command_of f line 
 of_line f line c is = record { command = is; fits = subst (FitsFormat f) (sym is) (line_fits f line); never_line = subst IsNotLong (sym is) (line_not_long f line) }
 
 pub returns-in-Some : goal.returns-in-Some
-returns-in-Some c = of_line c.args.format c.args.line.now c.read_named.new.command (c.read_named.ensures ∙ ap (command_of_words c.args.format) (sym c.in-Some.ensures.0))
+returns-in-Some c = of_line c.args.format c.args.line.now c.read_named.new.command (c.read_named.ensures ∙ ap (command_by_name c.args.format) (sym c.in-Some.ensures.0) ∙ by_name c.args.format c.args.line.now)
 
 pub returns-in-None : goal.returns-in-None
-returns-in-None c = of_line c.args.format c.args.line.now Nothing (ap (command_of_words c.args.format) (sym c.in-None.ensures))
+returns-in-None c = of_line c.args.format c.args.line.now Nothing (ap (command_by_name c.args.format) (sym c.in-None.ensures) ∙ by_name c.args.format c.args.line.now)

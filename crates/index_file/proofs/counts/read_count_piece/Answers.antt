@@ -1,7 +1,7 @@
 use Rattle.std.proofs.Common.{◌≡◌, ℕ, ◌+◌, refl, sym, ap, subst, ◌∙◌, arith}
 use Rattle.station.specs.Bytes.{byte}
 use Rattle.index_file.specs.Area.{count_place}
-use Rattle.index_file.specs.Counting.{CountFailsAt}
+use Rattle.index_file.specs.IndexCounts.{CountFailsAt}
 use Rattle.index_file.specs.declared.fault.AreaFault.TheVariants.{Wrong}
 use Rattle.index_file.proofs.AreaLaws.{counts_within}
 use Rattle.index_file.proofs.CountingLaws.{counted_read, count_fails_read, IsCountFront}

@@ -3,15 +3,15 @@ use Rattle.std.proofs.lemmas.Result.{err_from_is_err_and}
 use Rattle.density_rule.specs.Marks.{no_marks}
 use Rattle.station.proofs.Composition.{no_steps, same_on, told_on}
 use Rattle.header_gate.specs.declared.layout.Layout.{Layout}
-use Rattle.window_tally.specs.View.{TallyView}
+use Rattle.window_tally.specs.TallyView.{TallyView}
 use Rattle.index_file.specs.Area.{count_place}
-use Rattle.index_file.specs.Reading.{after_part}
+use Rattle.index_file.specs.IndexReading.{after_part}
 use Rattle.index_file.proofs.Travelling.{counts_on}
-use Rattle.index_file.specs.Counting.{AreCounted, CountFailsAt}
+use Rattle.index_file.specs.IndexCounts.{AreCounted, CountFailsAt}
 use Rattle.index_file.proofs.CountingLaws.{count_fails_more}
 use Rattle.index_file.proofs.Indexes.{index_on}
 use Rattle.index_file.proofs.Answering.{never_failed}
-use Rattle.segment_frames.specs.Parts.{InParts}
+use Rattle.segment_frames.specs.SegmentParts.{InParts}
 use Rattle.segment_frames.proofs.PartLaws.{parts_none, parts_more}
 use Rattle.index_file.proofs.counts.read_counts.Goals as goal
 use Rattle.index_file.proofs.counts.read_counts.Goals.{After-read_count_piece}

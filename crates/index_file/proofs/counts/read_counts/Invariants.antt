@@ -2,11 +2,11 @@ use Rattle.std.proofs.Common.{◌≡◌, ◌-◌, ◌*◌, ◌^◌, ◌≤◌, �
 use Rattle.station.specs.Bytes.{Same}
 use Rattle.station.specs.View.{Told}
 use Rattle.station.specs.Steps.{Steps}
-use Rattle.window_tally.specs.View.{IsTally}
+use Rattle.window_tally.specs.TallyView.{IsTally}
 use Rattle.index_file.specs.Area.{count_place}
-use Rattle.index_file.specs.Reading.{HasIndex, after_part}
-use Rattle.index_file.specs.Counting.{AreCounted}
-use Rattle.segment_frames.specs.Parts.{InParts}
+use Rattle.index_file.specs.IndexReading.{HasIndex, after_part}
+use Rattle.index_file.specs.IndexCounts.{AreCounted}
+use Rattle.segment_frames.specs.SegmentParts.{InParts}
 use Rattle.index_file.proofs.counts.read_counts.Given as goal
 
 abbrev pub invariant-loop-first : goal.invariant-loop-first

@@ -2,10 +2,10 @@ use Rattle.std.proofs.Common.{◌≡◌, inr, ℕ, ◌+◌, ◌*◌, ◌^◌, �
 use Rattle.std.proofs.lemmas.Result.{err_from_is_err_and}
 use Rattle.std.proofs.Math.Pow.{pow_mono}
 use Rattle.header_gate.specs.declared.reason.Reason.TheVariants.{Index}
-use Rattle.map_model.specs.Reasons.{first_reason}
-use Rattle.window_tally.specs.View.{TallyView}
+use Rattle.map_model.specs.FileReasons.{first_reason}
+use Rattle.window_tally.specs.TallyView.{TallyView}
 use Rattle.index_file.specs.Area.{count_place}
-use Rattle.index_file.specs.Validating.{windows_reason, counts_read, row_reason}
+use Rattle.index_file.specs.IndexReasons.{windows_reason, counts_read, row_reason}
 use Rattle.index_file.specs.declared.fault.AreaFault.TheVariants.{Wrong}
 use Rattle.index_file.proofs.Answering.{never_wrong}
 use Rattle.index_file.proofs.ValidatingLaws.{counts_are_read, count_fails_reason}

@@ -3,7 +3,7 @@ use Rattle.std.proofs.lemmas.Result.{err_from_is_err_and}
 use Rattle.header_gate.specs.declared.reason.Reason.TheVariants.{Index}
 use Rattle.veb_index.specs.Nodes.{fence_place}
 use Rattle.index_file.specs.Area.{node_place}
-use Rattle.index_file.specs.Validating.{fences_reason}
+use Rattle.index_file.specs.IndexReasons.{fences_reason}
 use Rattle.index_file.specs.declared.fault.AreaFault.TheVariants.{Wrong}
 use Rattle.index_file.proofs.Answering.{never_wrong}
 use Rattle.index_file.proofs.LoadingLaws.{fences_none, fences_some, fences_fail}

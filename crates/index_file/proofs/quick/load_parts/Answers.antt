@@ -10,15 +10,15 @@ use Rattle.header_gate.specs.declared.reason.Reason.{Reason}
 use Rattle.header_gate.specs.declared.reason.Reason.TheVariants.{Index}
 use Rattle.header_gate.specs.Header.{layout_in}
 use Rattle.header_gate.specs.Places.{file_length, height_limit}
-use Rattle.recovery.specs.Parts.{AreParts, AgreesWith, turn_of}
-use Rattle.recovery.specs.declared.fault.OpenFault.TheVariants.{NotStore}
+use Rattle.recovery.specs.StoreParts.{AreParts, AgreesWith, turn_of}
+use Rattle.recovery.specs.declared.fault.OpenFault.TheVariants.{Failed, Memory, NotStore}
 use Rattle.redo_journal.specs.Frames.{Batch}
 use Rattle.redo_journal.specs.Replaying.{gate_after}
 use Rattle.redo_journal.specs.Rest.{RestsAt}
 use Rattle.redo_journal.specs.declared.place.Place.{Place}
-use Rattle.window_tally.specs.View.{TallyView}
-use Rattle.index_file.specs.Validating.{counts_read, area_reason}
-use Rattle.index_file.specs.Reading.{NamesPlace, after_area, area_calls}
+use Rattle.window_tally.specs.TallyView.{TallyView}
+use Rattle.index_file.specs.IndexReasons.{counts_read, area_reason}
+use Rattle.index_file.specs.IndexReading.{NamesPlace, after_area, area_calls}
 use Rattle.index_file.specs.Writing.{AreNodesOf}
 use Rattle.index_file.proofs.QuickLaws.{quick_agrees, quick_rests, loaded_parts, loaded_marks}
 use Rattle.index_file.proofs.SoundLaws.{left_sound}
@@ -65,17 +65,51 @@ returns-in-Ok-load_area-clause-opened g c =
 none_some : (r : Reason) (o : Option Reason) → o ≡ Some r → o ≡ None → ⊥
 none_some r o is none = absurd cc
 
-pub returns-clause-told : goal.returns-clause-told
-returns-clause-told g c r e told =
-    let header = c.requires.known.header_is told in
-    let found = c.in-Err-Wrong.ensures.refused told c.in-Err-Wrong.place c.in-Err-Wrong.field-0-is in
-    let sound = left_sound (g.S.Station.view c.args.station.now).held (c.requires.left told) in
-    let layout = sym header.layout_is ∙ sym (ap (λ (p : Place). p.layout) c.in-Ok.ensures.place) in
-    let tall = sym header.height_is ∙ sym (ap (λ (t : TallyView). t.height) c.in-Ok.ensures.tally) in
-    let here : area_reason c.in-Ok.parts.place.layout c.in-Ok.parts.tally.height (g.S.Station.view c.args.station.now).held ≡ None =
-    ap (λ (l : Layout). area_reason l c.in-Ok.parts.tally.height (g.S.Station.view c.args.station.now).held) (sym layout)
-    ∙ ap (λ (h : ℕ). area_reason (layout_in (g.S.Station.view c.args.station.now).held) h (g.S.Station.view c.args.station.now).held) (sym tall) ∙ sound in
-    none_some (Index c.in-Err-Wrong.place) (area_reason c.in-Ok.parts.place.layout c.in-Ok.parts.tally.height (g.S.Station.view c.args.station.now).held) found here
+-- the three faults differ
+not_failed : (r : Reason) → NotStore r ≡ Failed → ⊥
+not_failed r is = absurd cc
+
+failed_not : (r : Reason) → Failed ≡ NotStore r → ⊥
+failed_not r is = absurd cc
+
+memory_not : (r : Reason) → Memory ≡ NotStore r → ⊥
+memory_not r is = absurd cc
+
+not_memory : Memory ≡ Failed → ⊥
+not_memory is = absurd cc
+
+pub returns-in_default-clause-stops : goal.returns-in_default-clause-stops
+returns-in_default-clause-stops g c = record {
+  causes = tt;
+  told = λ r is told. memory_not r is;
+  failed = λ is. absurd (not_memory is);
+}
+
+pub returns-in-Err-Failed-clause-stops : goal.returns-in-Err-Failed-clause-stops
+returns-in-Err-Failed-clause-stops g c = record {
+  causes = tt;
+  told = λ r is told. failed_not r is;
+  failed = λ is. c.load_area.ensures.failed cc;
+}
+
+pub returns-clause-stops : goal.returns-clause-stops
+returns-clause-stops g c = record {
+  causes = tt;
+  told = λ r e told. refused told;
+  failed = λ is. absurd (not_failed (Index c.in-Err-Wrong.place) is);
+}
+  where
+    refused : Told (g.S.Station.view c.args.station.now) → ⊥
+    refused told =
+        let header = c.requires.known.header_is told in
+        let found = c.in-Err-Wrong.ensures.refused told c.in-Err-Wrong.place c.in-Err-Wrong.field-0-is in
+        let sound = left_sound (g.S.Station.view c.args.station.now).held (c.requires.left told) in
+        let layout = sym header.layout_is ∙ sym (ap (λ (p : Place). p.layout) c.in-Ok.ensures.place) in
+        let tall = sym header.height_is ∙ sym (ap (λ (t : TallyView). t.height) c.in-Ok.ensures.tally) in
+        let here : area_reason c.in-Ok.parts.place.layout c.in-Ok.parts.tally.height (g.S.Station.view c.args.station.now).held ≡ None =
+        ap (λ (l : Layout). area_reason l c.in-Ok.parts.tally.height (g.S.Station.view c.args.station.now).held) (sym layout)
+        ∙ ap (λ (h : ℕ). area_reason (layout_in (g.S.Station.view c.args.station.now).held) h (g.S.Station.view c.args.station.now).held) (sym tall) ∙ sound in
+        none_some (Index c.in-Err-Wrong.place) (area_reason c.in-Ok.parts.place.layout c.in-Ok.parts.tally.height (g.S.Station.view c.args.station.now).held) found here
 
 same_place : (p q : ℕ) → NotStore (Index p) ≡ NotStore (Index q) → p ≡ q
 same_place p q e = cc

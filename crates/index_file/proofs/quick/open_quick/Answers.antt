@@ -6,9 +6,9 @@ use Rattle.header_gate.specs.Header.{layout_in}
 use Rattle.header_gate.specs.Places.{page_size}
 use Rattle.header_gate.specs.Reasons.{IsSoundHeader, IsHeader, header_reason}
 use Rattle.map_model.specs.Image.{height_of}
-use Rattle.index_file.specs.Reading.{IsAreaFront, NamesPlace, area_calls}
+use Rattle.index_file.specs.IndexReading.{IsAreaFront, NamesPlace, area_calls}
 use Rattle.header_gate.proofs.Soundness.{sound_of_none}
-use Rattle.index_file.specs.Opening.{IsQuick}
+use Rattle.index_file.specs.IndexOpening.{IsQuick}
 use Rattle.index_file.proofs.Answering.{err_weaker, given_weaker, ok_weaker, on_ok_any}
 use Rattle.index_file.proofs.QuickLaws.{quick_file, not_quick_file}
 use Rattle.index_file.proofs.Travelling.{unwritten_by}
@@ -142,3 +142,13 @@ pub returns-in-Ok-read_header-clause-calls_told : goal.returns-in-Ok-read_header
 returns-in-Ok-read_header-clause-calls_told g c told =
     let is = c.in-Ok-read_header.ensures.header (told_on c.sync.ensures.steps.frame told) in
     omega (arith, c.open_left.ensures.calls, c.read_header.ensures.calls, c.sync.ensures.counted, ap area_calls (is.height_is ∙ ap height_of (c.sync.ensures.steps.held told)))
+
+-- Why it stopped.
+
+pub returns-in-Ok-read_header-clause-causes : goal.returns-in-Ok-read_header-clause-causes
+returns-in-Ok-read_header-clause-causes g c = err_weaker c.open_left.result _ _ (λ e stops. stops.causes) c.open_left.ensures.stops
+
+pub returns-in-Ok-read_header-clause-told : goal.returns-in-Ok-read_header-clause-told
+returns-in-Ok-read_header-clause-told g c =
+    err_weaker c.open_left.result _ _ (λ e stops r is told.
+    stops.told r is (told_on c.read_header.ensures.steps.frame (told_on c.sync.ensures.steps.frame told))) c.open_left.ensures.stops

@@ -1,7 +1,7 @@
 use Rattle.std.proofs.Common.{◌≡◌, ℕ, ◌+◌, refl, sym, ap, subst, ◌∙◌, arith}
 use Rattle.station.specs.Bytes.{byte}
 use Rattle.index_file.specs.Area.{node_place}
-use Rattle.index_file.specs.Reading.{FailsAt}
+use Rattle.index_file.specs.IndexReading.{FailsAt}
 use Rattle.index_file.specs.declared.fault.AreaFault.TheVariants.{Wrong}
 use Rattle.index_file.proofs.AreaLaws.{nodes_within}
 use Rattle.index_file.proofs.ReadingLaws.{nodes_read, fails_read, IsFront}

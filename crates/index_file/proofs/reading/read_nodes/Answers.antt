@@ -2,13 +2,13 @@ use Rattle.std.proofs.Common.{◌≡◌, inl, ◌≤◌, ℕ, ◌+◌, ◌-◌, 
 use Rattle.std.proofs.lemmas.Result.{err_from_is_err_and}
 use Rattle.station.proofs.Composition.{no_steps, same_on, told_on}
 use Rattle.index_file.specs.Area.{node_place}
-use Rattle.index_file.specs.Reading.{FailsAt, after_part}
+use Rattle.index_file.specs.IndexReading.{FailsAt, after_part}
 use Rattle.index_file.proofs.Travelling.{nodes_on}
 use Rattle.index_file.specs.Writing.{AreNodesOf}
 use Rattle.index_file.proofs.ReadingLaws.{fails_more}
 use Rattle.index_file.proofs.Indexes.{index_on}
 use Rattle.index_file.proofs.Answering.{never_failed}
-use Rattle.segment_frames.specs.Parts.{InParts}
+use Rattle.segment_frames.specs.SegmentParts.{InParts}
 use Rattle.segment_frames.proofs.PartLaws.{parts_none, parts_more}
 use Rattle.index_file.proofs.reading.read_nodes.Goals as goal
 use Rattle.index_file.proofs.reading.read_nodes.Goals.{After-read_node_piece}

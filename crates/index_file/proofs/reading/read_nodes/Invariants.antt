@@ -3,9 +3,9 @@ use Rattle.station.specs.Bytes.{Same}
 use Rattle.station.specs.View.{Told}
 use Rattle.station.specs.Steps.{Steps}
 use Rattle.index_file.specs.Area.{node_place}
-use Rattle.index_file.specs.Reading.{HasIndex, after_part}
+use Rattle.index_file.specs.IndexReading.{HasIndex, after_part}
 use Rattle.index_file.specs.Writing.{AreNodesOf}
-use Rattle.segment_frames.specs.Parts.{InParts}
+use Rattle.segment_frames.specs.SegmentParts.{InParts}
 use Rattle.index_file.proofs.reading.read_nodes.Given as goal
 
 abbrev pub invariant-loop-first : goal.invariant-loop-first

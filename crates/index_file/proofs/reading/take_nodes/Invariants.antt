@@ -1,5 +1,5 @@
 use Rattle.std.proofs.Common.{◌≡◌, ℕ, ◌+◌, ◌*◌, ◌<◌}
-use Rattle.veb_index.specs.View.{fence_at}
+use Rattle.veb_index.specs.IndexView.{fence_at}
 use Rattle.index_file.specs.Writing.{IsNodeOf}
 use Rattle.index_file.proofs.reading.take_nodes.Given as goal
 

@@ -2,10 +2,10 @@ use Rattle.std.proofs.Common.{◌≡◌, ℕ, ◌-◌, ◌*◌, ◌^◌, ◌<◌
 use Rattle.density_rule.specs.Bounds.{is_in_bounds}
 use Rattle.density_rule.specs.Windows.{count_in}
 use Rattle.header_gate.specs.declared.reason.Reason.TheVariants.{Index}
-use Rattle.map_model.specs.Reasons.{first_reason}
+use Rattle.map_model.specs.FileReasons.{first_reason}
 use Rattle.map_model.proofs.ArrayReasons.{none_of_each, none_more}
 use Rattle.index_file.specs.Area.{count_place}
-use Rattle.index_file.specs.Validating.{window_reason}
+use Rattle.index_file.specs.IndexReasons.{window_reason}
 use Rattle.index_file.proofs.ValidatingLaws.{reason_here, window_fine, window_bad}
 use Rattle.index_file.proofs.validating.broken_in_row.Goals as goal
 

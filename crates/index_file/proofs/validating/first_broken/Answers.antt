@@ -1,10 +1,10 @@
 use Rattle.std.proofs.Common.{◌≡◌, ℕ, ◌+◌, ◌-◌, ◌*◌, ◌^◌, ◌<◌, ◌≤◌, Some, None, refl, sym, ap, subst, ◌∙◌, arith}
 use Rattle.std.proofs.lemmas.Nat.{pow_pos, pow-add, mul-add-lt}
 use Rattle.header_gate.specs.declared.reason.Reason.TheVariants.{Index}
-use Rattle.map_model.specs.Reasons.{first_reason}
+use Rattle.map_model.specs.FileReasons.{first_reason}
 use Rattle.map_model.proofs.ArrayReasons.{none_of_each, none_more}
 use Rattle.index_file.specs.Area.{count_place}
-use Rattle.index_file.specs.Validating.{row_reason}
+use Rattle.index_file.specs.IndexReasons.{row_reason}
 use Rattle.index_file.proofs.ValidatingLaws.{reason_here, balanced_by}
 use Rattle.index_file.proofs.validating.first_broken.Goals as goal
 

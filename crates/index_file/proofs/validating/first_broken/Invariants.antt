@@ -1,7 +1,7 @@
 use Rattle.std.proofs.Common.{◌≡◌, None}
 use Rattle.header_gate.specs.declared.layout.Layout.{Layout}
-use Rattle.map_model.specs.Reasons.{first_reason}
-use Rattle.index_file.specs.Validating.{row_reason}
+use Rattle.map_model.specs.FileReasons.{first_reason}
+use Rattle.index_file.specs.IndexReasons.{row_reason}
 use Rattle.index_file.proofs.validating.first_broken.Given as goal
 
 abbrev pub invariant-loop-h : goal.invariant-loop-h

@@ -1,12 +1,12 @@
 use Rattle.std.proofs.Common.{◌≡◌, ℕ, ◌^◌, ◌<◌, ◌≤◌, None, sym, subst, ◌∙◌, arith, inl, inr}
 use Rattle.std.proofs.lemmas.Bool.{cases_lt}
 use Rattle.header_gate.specs.declared.reason.Reason.TheVariants.{Index}
-use Rattle.map_model.specs.Reasons.{first_reason}
+use Rattle.map_model.specs.FileReasons.{first_reason}
 use Rattle.map_model.proofs.ArrayReasons.{none_of_each, none_more}
 use Rattle.veb_index.specs.Nodes.{fence_place, fence_by}
-use Rattle.veb_index.specs.View.{fence_at}
+use Rattle.veb_index.specs.IndexView.{fence_at}
 use Rattle.index_file.specs.Area.{node_place}
-use Rattle.index_file.specs.Validating.{order_reason}
+use Rattle.index_file.specs.IndexReasons.{order_reason}
 use Rattle.index_file.proofs.ValidatingLaws.{reason_here, order_fine, order_few, order_bad}
 use Rattle.index_file.proofs.validating.first_misplaced.Goals as goal
 

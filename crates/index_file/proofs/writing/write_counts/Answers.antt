@@ -5,7 +5,7 @@ use Rattle.header_gate.specs.Places.{file_length}
 use Rattle.index_file.specs.Area.{count_place}
 use Rattle.index_file.specs.Writing.{AreCountsOf}
 use Rattle.index_file.proofs.Indexes.{index_on}
-use Rattle.segment_frames.specs.Parts.{InParts}
+use Rattle.segment_frames.specs.SegmentParts.{InParts}
 use Rattle.segment_frames.proofs.PartLaws.{parts_none, parts_more}
 use Rattle.index_file.proofs.writing.write_counts.Goals as goal
 use Rattle.index_file.proofs.writing.write_counts.Goals.{After-write_count_piece}

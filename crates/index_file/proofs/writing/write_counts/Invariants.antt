@@ -4,9 +4,9 @@ use Rattle.station.specs.View.{Told, EachHeld}
 use Rattle.station.specs.Steps.{Steps}
 use Rattle.header_gate.specs.Places.{file_length}
 use Rattle.index_file.specs.Area.{count_place}
-use Rattle.index_file.specs.Reading.{HasIndex}
+use Rattle.index_file.specs.IndexReading.{HasIndex}
 use Rattle.index_file.specs.Writing.{AreCountsOf}
-use Rattle.segment_frames.specs.Parts.{InParts}
+use Rattle.segment_frames.specs.SegmentParts.{InParts}
 use Rattle.index_file.proofs.writing.write_counts.Given as goal
 
 abbrev pub invariant-loop-first : goal.invariant-loop-first

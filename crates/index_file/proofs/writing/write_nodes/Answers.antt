@@ -6,7 +6,7 @@ use Rattle.index_file.specs.Clean.{IsAreaPlace}
 use Rattle.key_slot.specs.Format.{wide}
 use Rattle.index_file.specs.Writing.{AreNodesOf}
 use Rattle.index_file.proofs.Indexes.{index_on}
-use Rattle.segment_frames.specs.Parts.{InParts}
+use Rattle.segment_frames.specs.SegmentParts.{InParts}
 use Rattle.segment_frames.proofs.PartLaws.{parts_none, parts_more}
 use Rattle.index_file.proofs.writing.write_nodes.Goals as goal
 use Rattle.index_file.proofs.writing.write_nodes.Goals.{After-write_node_piece}

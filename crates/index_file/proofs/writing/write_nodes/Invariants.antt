@@ -5,9 +5,9 @@ use Rattle.station.specs.Steps.{Steps}
 use Rattle.header_gate.specs.Places.{file_length}
 use Rattle.index_file.specs.Clean.{IsAreaPlace}
 use Rattle.key_slot.specs.Format.{wide}
-use Rattle.index_file.specs.Reading.{HasIndex}
+use Rattle.index_file.specs.IndexReading.{HasIndex}
 use Rattle.index_file.specs.Writing.{AreNodesOf}
-use Rattle.segment_frames.specs.Parts.{InParts}
+use Rattle.segment_frames.specs.SegmentParts.{InParts}
 use Rattle.index_file.proofs.writing.write_nodes.Given as goal
 
 abbrev pub invariant-loop-first : goal.invariant-loop-first

@@ -1,6 +1,6 @@
 use Rattle.std.proofs.Common.{Some, sym, ap, ◌∙◌, map, rules}
 use Rattle.std.specs.Prelude.{string_bytes}
-use Rattle.pma_engine.specs.Words.{job_of}
+use Rattle.pma_engine.specs.CommandLines.{job_of}
 use Rattle.mem_sessions.proofs.Layouts.{short_made}
 use Rattle.mem_sessions.proofs.sessions.is_small.Goals as goal
 

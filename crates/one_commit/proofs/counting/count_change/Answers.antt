@@ -1,11 +1,11 @@
 use Rattle.std.proofs.Common.{◌+◌, ◌≤◌, ap, subst, sym, ◌∙◌, arith}
 use Rattle.cost_ledger.specs.Potential.{potential_of}
 use Rattle.density_rule.specs.Marks.{updated_marks}
-use Rattle.density_rule.specs.Updates.{counts_after}
+use Rattle.density_rule.specs.CountUpdates.{counts_after}
 use Rattle.density_rule.specs.Windows.{IsBalanced}
 use Rattle.window_tally.specs.declared.Change.{Change}
 use Rattle.window_tally.specs.Choice.{adds}
-use Rattle.window_tally.specs.View.{TallyView}
+use Rattle.window_tally.specs.TallyView.{TallyView}
 use Rattle.one_commit.specs.declared.changes.ItemChange.{ItemChange}
 use Rattle.one_commit.proofs.Prefixes.{room_for}
 use Rattle.one_commit.proofs.Paying.{change_balances, change_pays}

@@ -1,9 +1,9 @@
 use Rattle.std.proofs.Common.{ℕ, ◌+◌, ◌<◌, false, List, length, take, get_or, sym, ap, ◌∙◌, arith}
-use Rattle.density_rule.specs.Updates.{counts_after}
+use Rattle.density_rule.specs.CountUpdates.{counts_after}
 use Rattle.density_rule.specs.Marks.{Marks, updated_marks}
 use Rattle.window_tally.specs.declared.Change.TheVariants.{Add}
 use Rattle.window_tally.specs.Choice.{adds}
-use Rattle.window_tally.specs.View.{TallyView}
+use Rattle.window_tally.specs.TallyView.{TallyView}
 use Rattle.one_commit.specs.declared.changes.ItemChange.{ItemChange}
 use Rattle.one_commit.specs.Fitting.{follows}
 use Rattle.one_commit.specs.Editing.{counts_by, marks_by_changes}

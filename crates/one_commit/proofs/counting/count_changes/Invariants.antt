@@ -1,7 +1,7 @@
 use Rattle.std.proofs.Common.{◌≡◌, ◌+◌, ◌*◌, ◌≤◌, take}
 use Rattle.cost_ledger.specs.Potential.{potential_of}
 use Rattle.density_rule.specs.Windows.{IsBalanced}
-use Rattle.window_tally.specs.View.{IsTally}
+use Rattle.window_tally.specs.TallyView.{IsTally}
 use Rattle.one_commit.specs.Editing.{counts_by, marks_by_changes}
 use Rattle.one_commit.proofs.counting.count_changes.Given as goal
 

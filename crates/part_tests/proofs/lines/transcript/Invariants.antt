@@ -3,7 +3,7 @@ use Rattle.std.proofs.Common.{◌≡◌, ◌+◌, false, length}
 use Rattle.part_tests.proofs.lines.transcript.Given as goal
 
 abbrev pub invariant-lines : goal.invariant-lines
-invariant-lines l = l.reader.done ≡ false
+invariant-lines g l = l.reader.done ≡ false
 
 abbrev pub decreases-lines : goal.decreases-lines
-decreases-lines l = l.reader.room + length l.reader.held
+decreases-lines g l = l.reader.room + length l.reader.held

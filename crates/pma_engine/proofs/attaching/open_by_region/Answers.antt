@@ -4,8 +4,8 @@ use Rattle.station.proofs.Composition.{told_on}
 use Rattle.station.specs.View.{Told}
 use Rattle.header_gate.specs.Header.{layout_in}
 use Rattle.map_model.specs.Image.{height_of}
-use Rattle.recovery.specs.Costs.{asked_opening, opening_calls}
-use Rattle.pma_engine.specs.Opening.{sync_calls}
+use Rattle.recovery.specs.OpeningCosts.{asked_opening, opening_calls}
+use Rattle.pma_engine.specs.RunOpening.{sync_calls}
 use Rattle.pma_engine.proofs.Alike.{layout_same}
 use Rattle.station.specs.declared.travel.Travel.{Travel}
 use Rattle.pma_engine.proofs.Calling.{asked_same, most_same, opening_behind, opening_more, region_bytes, region_calls}

@@ -1,6 +1,6 @@
 use Rattle.std.proofs.Common.{refl, inl, sym, subst, arith}
 use Rattle.header_gate.proofs.RecoveredPages.{page_before}
-use Rattle.pma_store.specs.Store.{StoreView, IsOpenOn}
+use Rattle.pma_store.specs.StoreView.{StoreView, IsOpenOn}
 use Rattle.pma_engine.proofs.Opening.{opens_parts}
 use Rattle.pma_engine.proofs.attaching.open_parts.Goals as goal
 

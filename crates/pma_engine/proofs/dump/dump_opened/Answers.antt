@@ -7,7 +7,7 @@ use Rattle.map_model.specs.Standing.{StandsBalanced}
 use Rattle.redo_journal.specs.declared.place.Place.{Place}
 use Rattle.pma_store.proofs.Resting.{readable_held}
 use Rattle.pma_engine.specs.Dumping.{DumpsOpened}
-use Rattle.window_tally.specs.View.{TallyView}
+use Rattle.window_tally.specs.TallyView.{TallyView}
 use Rattle.pma_engine.proofs.Dumping.{SweepsStore, dumped_of}
 use Rattle.pma_engine.proofs.dump.dump_opened.Goals as goal
 use Rattle.pma_engine.proofs.dump.dump_opened.Goals.{After-sweep_all-sweep}

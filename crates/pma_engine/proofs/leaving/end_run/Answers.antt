@@ -2,7 +2,7 @@
 use Rattle.std.proofs.Common.{◌≡◌, sym, subst, arith}
 use Rattle.std.proofs.lemmas.Bool.Decides.{nat_tests}
 use Rattle.header_gate.specs.InPlace.{IsBare}
-use Rattle.pma_store.specs.Store.{StoreView}
+use Rattle.pma_store.specs.StoreView.{StoreView}
 use Rattle.pma_engine.specs.Ending.{EndsRun}
 use Rattle.pma_engine.specs.declared.status.TheConstants.{DONE}
 use Rattle.pma_engine.proofs.Closing.{clear_gate, stays_steps}

@@ -6,7 +6,7 @@ use Rattle.station.proofs.Composition.{each_held}
 use Rattle.header_gate.specs.InPlace.{IsBare}
 use Rattle.header_gate.specs.declared.layout.TheConstants.{INDEXED}
 use Rattle.redo_journal.specs.declared.place.Place.{Place}
-use Rattle.pma_store.specs.Store.{StoreView, IsOpenOn}
+use Rattle.pma_store.specs.StoreView.{StoreView, IsOpenOn}
 use Rattle.pma_engine.specs.Closing.{LeavesIndex}
 use Rattle.pma_engine.proofs.LeftIndexes.{leaves_by, leaves_none, ready_of}
 use Rattle.pma_engine.proofs.leaving.leave_file.Goals as goal

@@ -22,9 +22,7 @@ returns-in-Err g c =
       closes = first_unopened a (g.S.Station.view c.open_file.new.station) d (g.met.S.Station.lawful c.args.station.now) (g.met.S.Station.lawful c.open_file.new.station) c.open_file.ensures.opens.steps c.open_file.ensures.opens.closes c.end_unopened.ensures.says;
       loaded = comes.loaded;
       untaken = λ none. refl;
-      disk = comes.disk;
-      script = comes.script;
-      went = record { tells = refl; faults = omega arith };
+      causes = record { disk = comes.disk; script = comes.script; went = record { tells = refl; faults = omega arith } };
     }
 
 pub returns-in-Ok : goal.returns-in-Ok
@@ -46,9 +44,7 @@ returns-in-Ok g c =
       closes = first_opened a b d (g.met.S.Station.lawful c.args.station.now) law_b c.open_file.ensures.opens.steps c.open_file.ensures.opens.closes c.in-Ok.ensures.opens.settled c.in-Ok.ensures.opens.opened.shut (keeps_staying on c.in-Ok.ensures.opens.opened.shut (c.load_opened.ensures.shut));
       loaded = comes.loaded;
       untaken = λ none. c.load_opened.ensures.untaken (untaken_of c.args.most s0 s1 a b law c.open_file.ensures.opens.steps c.in-Ok.store c.in-Ok.ensures.opens.opened c.load_opened.result d c.load_opened.ensures.loads none);
-      disk = comes.disk;
-      script = comes.script;
-      went = c.load_opened.ensures.went;
+      causes = record { disk = comes.disk; script = comes.script; went = c.load_opened.ensures.went };
     }
 
 pub load_opened-requires-clause-nothing : goal.load_opened-requires-clause-nothing

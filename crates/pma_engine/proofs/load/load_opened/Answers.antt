@@ -2,9 +2,9 @@
 use Rattle.std.proofs.Common.{◌≡◌, ◌<◌, Err, refl, ap, subst, sym, ◌∙◌, arith, sum}
 use Rattle.std.proofs.lemmas.Bool.Decides.{nat_tests}
 use Rattle.header_gate.specs.InPlace.{IsBare}
-use Rattle.pma_store.specs.Store.{StoreView}
+use Rattle.pma_store.specs.StoreView.{StoreView}
 use Rattle.pma_store.specs.Readying.{clear_cost}
-use Rattle.pma_engine.specs.Loading.{LoadsOpened}
+use Rattle.pma_engine.specs.LoadOutcome.{LoadsOpened}
 use Rattle.pma_engine.proofs.Closing.{clear_gate, shut_says, stays_on, stays_steps}
 use Rattle.pma_engine.proofs.SettledLoads.{loads_behind, loads_failed, loads_refused}
 use Rattle.pma_engine.proofs.load.load_opened.Goals as goal

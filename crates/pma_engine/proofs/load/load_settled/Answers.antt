@@ -4,9 +4,9 @@ use Rattle.station.specs.Bytes.{Same}
 use Rattle.station.specs.Steps.{Steps}
 use Rattle.station.proofs.Composition.{no_steps}
 use Rattle.header_gate.specs.Places.{IsLayout}
-use Rattle.pma_store.specs.Store.{StoreView, IsOpenOn}
-use Rattle.window_tally.specs.View.{TallyView}
-use Rattle.pma_engine.specs.Loading.{LoadsOpened}
+use Rattle.pma_store.specs.StoreView.{StoreView, IsOpenOn}
+use Rattle.window_tally.specs.TallyView.{TallyView}
+use Rattle.pma_engine.specs.LoadOutcome.{LoadsOpened}
 use Rattle.pma_engine.proofs.Closing.{spare_gate, stays_said}
 use Rattle.pma_engine.proofs.Loading.{Facts, Laws, facts_from, loaded_of}
 use Rattle.pma_engine.proofs.Parting.{parts_bare, parts_rest, parts_stand}

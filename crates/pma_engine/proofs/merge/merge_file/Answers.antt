@@ -27,10 +27,8 @@ returns-in-Err g c =
       closes = first_unopened a b d law law_b opens.steps opens.closes ends.says;
       merged = comes.merged;
       untaken = λ none. refl;
-      disk = comes.disk;
-      script = comes.script;
+      causes = record { disk = comes.disk; script = comes.script; went = record { tells = refl; faults = omega arith } };
       reply = comes.reply;
-      went = record { tells = refl; faults = omega arith };
     }
 
 pub returns-in-Ok : goal.returns-in-Ok
@@ -57,10 +55,8 @@ returns-in-Ok g c =
       closes = first_opened a b d law law_b opens.steps opens.closes c.in-Ok.ensures.opens.settled opened.shut (keeps_staying on opened.shut merges.shut);
       merged = comes.merged;
       untaken = λ none. absurd (takes_some c.args.most s0 s1 a b law opens.steps called looked c.in-Ok.store opened c.merge_opened.result d merges.merges none);
-      disk = comes.disk;
-      script = comes.script;
+      causes = record { disk = comes.disk; script = comes.script; went = merges.went };
       reply = comes.reply;
-      went = merges.went;
     }
 
 pub merge_opened-requires-clause-nothing : goal.merge_opened-requires-clause-nothing

@@ -1,8 +1,8 @@
 -- The text is merged once nothing is pending.
 use Rattle.std.proofs.Common.{Err, refl, ap, subst, sym, ◌∙◌, arith}
 use Rattle.header_gate.specs.InPlace.{IsBare}
-use Rattle.pma_store.specs.Store.{StoreView}
-use Rattle.pma_engine.specs.Merging.{MergesOpened}
+use Rattle.pma_store.specs.StoreView.{StoreView}
+use Rattle.pma_engine.specs.MergeOutcome.{MergesOpened}
 use Rattle.pma_engine.proofs.Closing.{clear_gate, stays_on, stays_steps}
 use Rattle.pma_engine.proofs.SettledMerges.{merges_behind, merges_failed}
 use Rattle.pma_engine.proofs.merge.merge_opened.Goals as goal

@@ -1,8 +1,8 @@
 -- What `merge_rows` came to, by the parts of the store and a fresh reader, and how it was ended.
 use Rattle.std.proofs.Common.{◌≡◌, ◌-◌, ap, subst, sym, arith}
 use Rattle.header_gate.specs.InPlace.{IsBare}
-use Rattle.pma_store.specs.Store.{StoreView, IsOpenOn}
-use Rattle.pma_engine.specs.Merging.{MergesOpened}
+use Rattle.pma_store.specs.StoreView.{StoreView, IsOpenOn}
+use Rattle.pma_engine.specs.MergeOutcome.{MergesOpened}
 use Rattle.station.specs.View.{Told}
 use Rattle.pma_engine.proofs.Closing.{spare_gate, stays_said}
 use Rattle.pma_engine.proofs.Merging.{Facts, facts_from, merged_of}

@@ -1,7 +1,7 @@
 -- The end of a run, by whether all was done.
 use Rattle.std.proofs.Common.{◌≡◌, ◌⊎◌, inl, inr, sym, ap, subst, ◌∙◌, arith}
 use Rattle.std.proofs.lemmas.Bool.Decides.{nat_tests}
-use Rattle.pma_store.specs.Store.{StoreView, IsOpenOn}
+use Rattle.pma_store.specs.StoreView.{StoreView, IsOpenOn}
 use Rattle.pma_engine.specs.Carrying.{SessionView, layout_on, session_in, with_cursors}
 use Rattle.pma_engine.specs.Ending.{EndsRun, IsSettledStatus}
 use Rattle.pma_engine.specs.Outcome.{ServesScript, fresh_session}

@@ -4,7 +4,7 @@ use Rattle.header_gate.specs.InPlace.{IsBare}
 use Rattle.header_gate.specs.Places.{IsLayout}
 use Rattle.header_gate.specs.declared.layout.Layout.{Layout}
 use Rattle.redo_journal.specs.declared.place.Place.{Place}
-use Rattle.pma_store.specs.Store.{StoreView}
+use Rattle.pma_store.specs.StoreView.{StoreView}
 use Rattle.std.specs.Prelude.{◌↔◌}
 use Rattle.density_rule.specs.Bounds.{upper_of}
 use Rattle.key_slot.specs.Format.{narrow, wide}

@@ -5,7 +5,7 @@ use Rattle.pma_engine.proofs.Closing.{spare_gate, stays_said}
 use Rattle.pma_engine.proofs.Parting.{parts_bare, parts_rest, parts_stand}
 use Rattle.pma_engine.proofs.Upgrading.{seen, upgraded_from}
 use Rattle.pma_engine.proofs.upgrade.upgrade_settled.Goals as goal
-use Rattle.pma_store.specs.Store.{StoreView, IsOpenOn}
+use Rattle.pma_store.specs.StoreView.{StoreView, IsOpenOn}
 
 pub upgrade-upgraded-requires-clause-stands : goal.upgrade-upgraded-requires-clause-stands
 upgrade-upgraded-requires-clause-stands g c =

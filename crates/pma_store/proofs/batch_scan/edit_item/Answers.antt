@@ -1,6 +1,6 @@
 use Rattle.std.proofs.Common.{◌≡◌, ◌+◌, length, sym, ap, ◌∙◌, arith}
 use Rattle.std.proofs.lemmas.List.Edits.{length-insert}
-use Rattle.batch_intent.specs.Items.{update_of}
+use Rattle.batch_intent.specs.ItemView.{update_of}
 use Rattle.batch_intent.specs.declared.item.Item.{Item}
 use Rattle.key_slot.specs.Record.{Record}
 use Rattle.map_model.specs.ArrayUpdates.{edited}

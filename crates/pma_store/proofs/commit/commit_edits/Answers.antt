@@ -35,14 +35,14 @@ commit_frames-requires-clause-below g c k d lt =
 pub renew_fences-requires : goal.renew_fences-requires
 renew_fences-requires g c =
     subst (λ (b : Batch). AreLoaded c.args.place.now.layout.format b c.args.edits.now.look.now (2 ^ c.args.index.now.height)) (sym c.commit_frames.ensures.frames)
-    (loaded_turned c.args.place.now.layout.format c.args.frames.now c.args.edits.now.look.now (2 ^ c.args.index.now.height) c.commit_frames.new.frames.turn (c.in-Ok.ensures.turn c.requires.loaded.held.frames.turn) c.requires.loaded)
+    (loaded_turned c.args.place.now.layout.format c.args.frames.now c.args.edits.now.look.now (2 ^ c.args.index.now.height) c.commit_frames.new.frames.turn (c.in_ok-commit_frames.ensures.turn c.requires.loaded.held.frames.turn) c.requires.loaded)
 
-pub returns-in-Ok-clause-committed : goal.returns-in-Ok-clause-committed
-returns-in-Ok-clause-committed g c =
+pub returns-clause-committed : goal.returns-clause-committed
+returns-clause-committed g c =
     let format = c.args.place.now.layout.format in
     let b = c.args.frames.now in
     record {
-      frames = c.in-Ok.ensures.committed;
+      frames = c.in_ok-commit_frames.ensures.committed;
       fences = renews_turned format b c.commit_frames.new.frames.turn c.args.edits.now.look.now.count c.args.index.now c.renew_fences.new.index
           (subst (λ (b : Batch). RenewsFences format b c.args.edits.now.look.now.count c.args.index.now c.renew_fences.new.index) c.commit_frames.ensures.frames c.renew_fences.ensures);
       counted = search rules;

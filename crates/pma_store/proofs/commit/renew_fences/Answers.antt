@@ -2,7 +2,7 @@ use Rattle.std.proofs.Common.{◌<◌, length, sym, ap, subst, ◌∙◌, arith}
 use Rattle.header_gate.specs.Recovered.{Ascends}
 use Rattle.segment_frames.specs.Lists.{segments_in}
 use Rattle.segment_frames.proofs.PageNumbers.{segments_ascend}
-use Rattle.veb_index.specs.View.{IndexView, fence_of}
+use Rattle.veb_index.specs.IndexView.{IndexView, fence_of}
 use Rattle.pma_store.proofs.Balancing.{one_power}
 use Rattle.pma_store.proofs.FittingLaws.{renews_more, renews_none}
 use Rattle.pma_store.proofs.commit.renew_fences.Goals as goal

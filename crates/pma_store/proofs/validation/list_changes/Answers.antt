@@ -1,6 +1,6 @@
 use Rattle.std.proofs.Common.{◌≡◌, ℕ, ◌+◌, ◌<◌, Bool, List, [], ◌∷◌, ◌++◌, All, length, take, get_or, Result, Ok, Err, Some, refl, sym, ap, subst, ◌∙◌, arith}
 use Rattle.std.specs.Prelude.{is_ok, IfOk}
-use Rattle.batch_intent.specs.Items.{is_put as is_put_of}
+use Rattle.batch_intent.specs.ItemView.{is_put as is_put_of}
 use Rattle.std.proofs.lemmas.Grind.{take-set_at}
 use Rattle.std.proofs.lemmas.List.{append-nil, length-set, take_all}
 use Rattle.key_slot.specs.Record.{IsAscending}
@@ -9,7 +9,7 @@ use Rattle.map_model.specs.Store.{Update, bind, unbind, key_of}
 use Rattle.one_commit.specs.declared.changes.ItemChange.{ItemChange}
 use Rattle.one_commit.specs.Fitting.{change_before, changes_in, is_put, kind_in, kind_of, with_change}
 use Rattle.segment.specs.Rows.{key_at}
-use Rattle.pma_store.specs.Validating.{kinds_in}
+use Rattle.pma_store.specs.ItemEffects.{kinds_in}
 use Rattle.pma_store.specs.Looked.{BelongThere, HasFound}
 use Rattle.pma_store.proofs.FoundItems.{kinds_all, kinds_next}
 use Rattle.pma_store.proofs.Listed.{changes_next, all_more, change_is}

@@ -3,7 +3,7 @@ use Rattle.std.specs.Prelude.{is_ok}
 use Rattle.key_slot.specs.Record.{IsAscending}
 use Rattle.map_model.specs.Array.{Array, rows}
 use Rattle.one_commit.specs.Fitting.{changes_in}
-use Rattle.pma_store.specs.Validating.{flags, kinds_in, kinds_of}
+use Rattle.pma_store.specs.ItemEffects.{flags, kinds_in, kinds_of}
 use Rattle.pma_store.specs.Looked.{BelongThere, HasFound}
 use Rattle.pma_store.proofs.validation.list_changes.Given as goal
 

@@ -7,7 +7,7 @@ use Rattle.std.proofs.lemmas.List.{get_or-set_other}
 use Rattle.density_rule.specs.Bounds.{upper_of}
 use Rattle.map_model.specs.Store.{Update, unbind, key_of}
 use Rattle.recovery.specs.Intents.{meets_by, records_by}
-use Rattle.pma_store.specs.Validating.{counts_of, counted_by, counted_first}
+use Rattle.pma_store.specs.ItemEffects.{counts_of, counted_by, counted_first}
 use Rattle.pma_store.specs.Updating.{update_of}
 use Rattle.pma_store.proofs.Validations.{IsValidated, none_validated, all_validated, full_validated, next_validated, full_of, room_of}
 use Rattle.std.proofs.lemmas.List.{get_or_default}

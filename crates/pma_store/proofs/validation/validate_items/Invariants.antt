@@ -3,7 +3,7 @@ use Rattle.std.specs.Prelude.{is_ok}
 use Rattle.std.specs.FinMap.{len}
 use Rattle.density_rule.specs.Bounds.{upper_of}
 use Rattle.map_model.specs.Store.{Map}
-use Rattle.pma_store.specs.Validating.{AreFoundAt, counts_of, total}
+use Rattle.pma_store.specs.ItemEffects.{AreFoundAt, counts_of, total}
 use Rattle.pma_store.proofs.Validations.{IsValidated}
 use Rattle.pma_store.proofs.Sums.{IsFirst}
 use Rattle.pma_store.proofs.validation.validate_items.Given as goal

@@ -9,15 +9,15 @@ use Rattle.map_model.specs.Image.{map_of}
 use Rattle.map_model.specs.Array.{cut, rows}
 use Rattle.header_gate.specs.Places.{height_limit}
 use Rattle.header_gate.specs.declared.layout.Layout.{Layout}
-use Rattle.range_scan.specs.ReaderView.{ReaderView}
-use Rattle.range_scan.specs.Reading.{page_in, page_fault, next_page, behind}
+use Rattle.range_scan.specs.RegionReaderView.{ReaderView}
+use Rattle.range_scan.specs.RegionReading.{page_in, page_fault, next_page, behind}
 use Rattle.range_scan.specs.Checking.{LieAbove}
 use Rattle.range_scan.specs.Walk.{after_walk}
 use Rattle.range_scan.proofs.Walks.{walk_none}
 use Rattle.range_scan.proofs.Standing.{cut_size, read_is, page_fine, count_kept}
 use Rattle.range_scan.proofs.Checks.{above_next, above_more, walk_from}
 use Rattle.range_scan.proofs.Lookings.{lies_from, none_before, none_more, none_in_all, all, ahead_of, second_found, second_from, second_four, found_in}
-use Rattle.range_scan.specs.Seeking.{IsIndexPast, NoneAhead}
+use Rattle.range_scan.specs.SeekReads.{IsIndexPast, NoneAhead}
 use Rattle.key_slot.specs.Record.{Bytes, Record}
 use Rattle.std.specs.Prelude.{slice_get, Option}
 use Rattle.std.proofs.lemmas.Bool.{cases_lt}

@@ -6,7 +6,7 @@ use Rattle.station.specs.Steps.{Steps}
 use Rattle.map_model.specs.Image.{map_of}
 use Rattle.map_model.specs.Array.{cut, rows}
 use Rattle.range_scan.specs.Checking.{LieAbove}
-use Rattle.range_scan.specs.Seeking.{IsNear, NoneAhead}
+use Rattle.range_scan.specs.SeekReads.{IsNear, NoneAhead}
 use Rattle.range_scan.specs.Walk.{after_walk}
 use Rattle.range_scan.proofs.ahead.first_ahead_in.Given as goal
 

@@ -1,7 +1,7 @@
 use Rattle.std.proofs.Common.{◌+◌, Bool, cond, Option, sym, ap, ◌∙◌}
 use Rattle.std.specs.Cmp.Lexicographic.{texts_ties}
 use Rattle.key_slot.specs.Record.{Bytes}
-use Rattle.range_scan.specs.Seeking.{is_at}
+use Rattle.range_scan.specs.SeekReads.{is_at}
 use Rattle.range_scan.proofs.Lookings.{at_index}
 use Rattle.range_scan.proofs.ahead.index_past.Goals as goal
 

@@ -2,7 +2,7 @@ use Rattle.std.proofs.Common.{Option, sym, ap, ◌∙◌}
 use Rattle.key_slot.specs.Record.{Bytes, key_cmp}
 use Rattle.key_slot.specs.Row.{record_of}
 use Rattle.std.specs.Ordering.{is_lt}
-use Rattle.map_model.specs.Scan.{is_below}
+use Rattle.range_scan.specs.ScanBounds.{is_below}
 use Rattle.range_scan.proofs.Lookings.{none_below, one_below, key_of_row}
 use Rattle.range_scan.proofs.ahead.row_below.Goals as goal
 use Rattle.range_scan.proofs.ahead.row_below.Goals.{in-Some+else-not-lt, in_default}

@@ -1,6 +1,6 @@
 use Rattle.std.proofs.Common.{Option, T, sym, subst, take}
 use Rattle.key_slot.specs.Record.{Bytes}
-use Rattle.range_scan.specs.Bounds.{are_below}
+use Rattle.range_scan.specs.ScanBounds.{are_below}
 use Rattle.range_scan.proofs.LooksBack.{below_none, below_by}
 use Rattle.range_scan.proofs.behind.end_in.Goals as goal
 

@@ -11,8 +11,8 @@ use Rattle.map_model.specs.Array.{Array, rows, segment_at}
 use Rattle.map_model.specs.Cursors.{back, record_ahead}
 use Rattle.map_model.specs.Image.{array_of, map_of}
 use Rattle.map_model.specs.Standing.{StandsWith}
-use Rattle.range_scan.specs.Bounds.{are_below, are_behind}
-use Rattle.range_scan.specs.Seeking.{earlier, last_from}
+use Rattle.range_scan.specs.ScanBounds.{are_below, are_behind}
+use Rattle.range_scan.specs.SeekReads.{earlier, last_from}
 use Rattle.range_scan.specs.Sweeping.{EndsBy}
 use Rattle.range_scan.specs.Walk.{after_walk}
 use Rattle.range_scan.proofs.Amid.{rows_from}
@@ -29,25 +29,25 @@ returns-in_err-index-clause-reads g c =
     record {
       last = c.args.last;
       count = 1;
-      travel = c.read_below.ensures.reads;
+      travel = c.read_below.ensures.reads.travel;
       some = omega arith;
       two = omega arith;
-      calls = c.read_below.ensures.calls;
+      calls = c.read_below.ensures.reads.calls;
       within = c.requires.last;
       inside = omega arith;
       own = c.requires.ends;
       needed = λ more. absurd (omega (arith, more));
-      causes = let same : c.args.last + 1 - 1 ≡ c.args.last = omega arith in rw (p.1, p.2, same) c.in_err-index.ensures.causes;
+      causes = let same : c.args.last + 1 - 1 ≡ c.args.last = omega arith in rw (p.1, p.2, same) c.in_err-index.ensures.reads.causes;
     }
 
 pub returns-then-index-gt0-clause-reads : goal.returns-then-index-gt0-clause-reads
 returns-then-index-gt0-clause-reads g c = record {
   last = c.args.last;
   count = 1;
-  travel = c.read_below.ensures.reads;
+  travel = c.read_below.ensures.reads.travel;
   some = omega arith;
   two = omega arith;
-  calls = c.read_below.ensures.calls;
+  calls = c.read_below.ensures.reads.calls;
   within = c.requires.last;
   inside = omega arith;
   own = c.requires.ends;
@@ -118,10 +118,10 @@ returns-in_err-index-2-clause-reads g c =
     record {
       last = a.last;
       count = 2;
-      travel = c.read_below-2.ensures.reads ∙ ap (after_walk a.region.now.layout.now a.region.now.number (a.last - 1) (a.last - 1 + 1)) c.read_below.ensures.reads;
+      travel = c.read_below-2.ensures.reads.travel ∙ ap (after_walk a.region.now.layout.now a.region.now.number (a.last - 1) (a.last - 1 + 1)) c.read_below.ensures.reads.travel;
       some = omega arith;
       two = omega arith;
-      calls = omega (arith, c.read_below.ensures.calls, c.read_below-2.ensures.calls);
+      calls = omega (arith, c.read_below.ensures.reads.calls, c.read_below-2.ensures.reads.calls);
       within = c.requires.last;
       inside = omega (arith, c.if-last-eq0.false);
       own = c.requires.ends;
@@ -129,7 +129,7 @@ returns-in_err-index-2-clause-reads g c =
           let zeroth : c.in_ok-index.index ≡ 0 = omega (arith, c.if-index-gt0.false) in
           subst (λ (es : List Record). T (are_behind a.end.now es)) (c.in_ok-index.ensures.rows told)
           (subst (λ (n : ℕ). T (are_behind a.end.now (drop n c.read_below.new.page.rows))) zeroth c.in_ok-index.ensures.behind);
-      causes = let same : a.last + 1 - 2 ≡ a.last - 1 = omega (arith, c.if-last-eq0.false) in rw (p.1, p.2, same) c.in_err-index-2.ensures.causes;
+      causes = let same : a.last + 1 - 2 ≡ a.last - 1 = omega (arith, c.if-last-eq0.false) in rw (p.1, p.2, same) c.in_err-index-2.ensures.reads.causes;
     }
 
 pub returns-clause-row : goal.returns-clause-row
@@ -141,8 +141,8 @@ returns-clause-row g c told past high is =
     let one : a.last - 1 + 1 ≡ a.last = omega (arith, c.if-last-eq0.false) in
     let none = subst (λ (n : ℕ). T (are_behind a.end.now (drop n c.read_below.new.page.rows))) zeroth c.in_ok-index.ensures.behind in
     let ends_here = subst (λ (n : ℕ). EndsBy a.end.now n segments) (sym one) (ends_before g here told c.read_below.new.page.rows (c.in_ok-index.ensures.rows told) none) in
-    let held = c.read_below.ensures.steps.held told in
-    let told_there = told_on c.read_below.ensures.steps.frame told in
+    let held = c.read_below.ensures.reads.steps.held told in
+    let told_there = told_on c.read_below.ensures.reads.steps.frame told in
     let same : c.rows-2.result ≡ segment_at segments (a.last - 1) = c.rows-2.ensures ∙ c.in_ok-index-2.ensures.rows told_there ∙ ap (λ (file : List ℕ). segment_at (array_of file) (a.last - 1)) held in
     let behind = subst (λ (es : List Record). T (are_behind a.end.now (drop c.in_ok-index-2.index es))) (sym c.rows-2.ensures) c.in_ok-index-2.ensures.behind in
     let four = four_there a.region.now.layout.now a.region.now.number a.region.now.tally.now.height a.region.now.tally.now.counts (g.S.Station.view a.station.now).held (c.requires.stands told) a.last (a.last - 1) one c.requires.last in
@@ -155,7 +155,7 @@ returns-clause-row g c told past high is =
     c.row_before-2.ensures
 
 pub returns-clause-steps : goal.returns-clause-steps
-returns-clause-steps g c = same_on c.read_below.ensures.steps c.read_below-2.ensures.steps
+returns-clause-steps g c = same_on c.read_below.ensures.reads.steps c.read_below-2.ensures.reads.steps
 
 pub returns-clause-reads : goal.returns-clause-reads
 returns-clause-reads g c =
@@ -163,10 +163,10 @@ returns-clause-reads g c =
     record {
       last = a.last;
       count = 2;
-      travel = c.read_below-2.ensures.reads ∙ ap (after_walk a.region.now.layout.now a.region.now.number (a.last - 1) (a.last - 1 + 1)) c.read_below.ensures.reads;
+      travel = c.read_below-2.ensures.reads.travel ∙ ap (after_walk a.region.now.layout.now a.region.now.number (a.last - 1) (a.last - 1 + 1)) c.read_below.ensures.reads.travel;
       some = omega arith;
       two = omega arith;
-      calls = omega (arith, c.read_below.ensures.calls, c.read_below-2.ensures.calls);
+      calls = omega (arith, c.read_below.ensures.reads.calls, c.read_below-2.ensures.reads.calls);
       within = c.requires.last;
       inside = omega (arith, c.if-last-eq0.false);
       own = c.requires.ends;

@@ -2,7 +2,7 @@ use Rattle.std.proofs.Common.{◌-◌, not, Option, sym, ap, ◌∙◌, arith}
 use Rattle.std.specs.Ordering.{is_lt}
 use Rattle.key_slot.specs.Record.{Bytes, key_cmp}
 use Rattle.key_slot.specs.Row.{record_of}
-use Rattle.map_model.specs.Scan.{is_from}
+use Rattle.range_scan.specs.ScanBounds.{is_from}
 use Rattle.range_scan.proofs.Lookings.{key_of_row}
 use Rattle.range_scan.proofs.LooksBack.{one_from, none_from}
 use Rattle.range_scan.proofs.behind.row_before.Goals as goal

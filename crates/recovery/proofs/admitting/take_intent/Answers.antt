@@ -19,8 +19,8 @@ use Rattle.map_model.specs.Store.{Update}
 use Rattle.batch_intent.specs.declared.places.TheConstants.{INTENT_SIZE}
 use Rattle.batch_intent.specs.Gate.{has_intent, intent_area, form_reason, reason_at}
 use Rattle.batch_intent.specs.Spelling.{items_in}
-use Rattle.batch_intent.proofs.Meanings.{some_pending}
-use Rattle.recovery.specs.Faults.{IsEarly, IsIntentFault, fault_of}
+use Rattle.batch_intent.proofs.Meanings.{some_waiting}
+use Rattle.recovery.specs.OpeningFaults.{IsEarly, IsIntentFault, fault_of}
 use Rattle.recovery.specs.Intents.{intent_reason, intent_calls, intent_reads, look_reads, place_among}
 use Rattle.recovery.proofs.Intents.{none_waits, none_wrong, some_waits, some_wrong, form_wrong, reads_within, look_within, calls_within, look_called}
 use Rattle.recovery.proofs.Opening.{refused_back}
@@ -129,10 +129,10 @@ looked g c told some is same =
     let image = (g.S.Station.view c.args.station.now).held in
     let from = (g.S.Station.view c.read_intent.new.station).travel.read in
     let end = (g.S.Station.view c.admit.new.station).travel.read in
-    let pending_is = some_pending image (ap (λ (l : Layout). has_intent l image) is ∙ some) ∙ sym same in
+    let waiting_is = some_waiting image (ap (λ (l : Layout). has_intent l image) is ∙ some) ∙ sym same in
     omega (
       arith,
-      look_within parts.place.layout parts.place.region parts.tally.height parts.tally.counts image c.in-Some.intent (end - from) (c.requires.back.stands image (inl (told, refl))) pending_is
+      look_within parts.place.layout parts.place.region parts.tally.height parts.tally.counts image c.in-Some.intent (end - from) (c.requires.back.stands image (inl (told, refl))) waiting_is
           (λ few. omega (arith, c.admit.ensures.unread few)) (omega (arith, c.admit.ensures.reads)),
     )
 
@@ -174,9 +174,9 @@ looked_in g c told some is same =
     let start = (g.S.Station.view c.args.station.now).calls in
     let from = (g.S.Station.view c.read_intent.new.station).calls in
     let end = (g.S.Station.view c.admit.new.station).calls in
-    let pending_is = some_pending image (ap (λ (l : Layout). has_intent l image) is ∙ some) ∙ sym same in
+    let waiting_is = some_waiting image (ap (λ (l : Layout). has_intent l image) is ∙ some) ∙ sym same in
     let look =
-    look_called parts.place.layout parts.place.region parts.tally.height parts.tally.counts image c.in-Some.intent (end - from) (c.requires.back.stands image (inl (told, refl))) pending_is
+    look_called parts.place.layout parts.place.region parts.tally.height parts.tally.counts image c.in-Some.intent (end - from) (c.requires.back.stands image (inl (told, refl))) waiting_is
     (λ few. omega (arith, c.admit.ensures.uncalled few)) (omega (arith, c.admit.ensures.calls)) in
     omega (arith, calls_within parts.place.layout image (end - start) is (λ none. absurd (true≢false (sym some ∙ none))) (omega (arith, look, c.read_intent.ensures.calls)))
 

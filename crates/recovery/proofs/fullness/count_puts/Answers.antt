@@ -1,6 +1,6 @@
 use Rattle.std.proofs.Common.{◌≡◌, ℕ, suc, ◌+◌, ◌<◌, Bool, cond, [], length, take, get_or, sym, ap, ◌∙◌, arith, add-one}
 use Rattle.map_model.specs.Store.{Update, unbind}
-use Rattle.batch_intent.specs.Items.{is_put}
+use Rattle.batch_intent.specs.ItemView.{is_put}
 use Rattle.recovery.specs.Intents.{puts_in}
 use Rattle.recovery.proofs.Rooms.{puts_next}
 use Rattle.recovery.proofs.fullness.count_puts.Goals as goal

@@ -1,7 +1,7 @@
 use Rattle.std.proofs.Common.{◌≡◌, ℕ, ◌+◌, ◌<◌, true, false, [], length, take, get_or, refl, sym, ap, subst, ◌∙◌, arith, add-one, Some}
 use Rattle.std.specs.List.{flat_map}
 use Rattle.map_model.specs.Store.{Update, unbind}
-use Rattle.batch_intent.specs.Items.{update_of}
+use Rattle.batch_intent.specs.ItemView.{update_of}
 use Rattle.batch_intent.specs.Spelling.{item_bytes, intent_bytes}
 use Rattle.recovery.specs.Intents.{meets_by, records_by}
 use Rattle.recovery.proofs.Rooms.{HaveRoom, none_yet, full_now, room_now, records_most, place_next}

@@ -4,7 +4,7 @@ use Rattle.std.proofs.Math.Pow.{pow_mono}
 use Rattle.station.proofs.Composition.{same_on, told_on}
 use Rattle.header_gate.specs.Places.{segment_size}
 use Rattle.key_slot.specs.Segment.{segment_of}
-use Rattle.range_scan.specs.Reading.{page_in}
+use Rattle.range_scan.specs.RegionReading.{page_in}
 use Rattle.redo_journal.proofs.Live.{rest_held}
 use Rattle.recovery.specs.Intents.{AlsoIn, AreThere}
 use Rattle.recovery.proofs.ReadBacks.{still_back}

@@ -3,7 +3,7 @@ use Rattle.station.specs.Bytes.{Same}
 use Rattle.station.specs.View.{Told}
 use Rattle.station.specs.Steps.{Steps}
 use Rattle.header_gate.specs.Places.{segment_size}
-use Rattle.range_scan.specs.Reading.{page_in}
+use Rattle.range_scan.specs.RegionReading.{page_in}
 use Rattle.recovery.specs.Intents.{AreThere}
 use Rattle.recovery.proofs.Lookups.{in_front}
 use Rattle.recovery.proofs.looking.find_keys.Given as goal

@@ -13,7 +13,7 @@ use Rattle.range_scan.proofs.Pages.{format_is, read_as}
 use Rattle.redo_journal.proofs.Live.{rest_held}
 use Rattle.segment.specs.Validated.{damage_of}
 use Rattle.segment.specs.declared.fault.StoreFault.{StoreFault}
-use Rattle.recovery.specs.Faults.{IsRepairFault, repair_fault}
+use Rattle.recovery.specs.OpeningFaults.{IsRepairFault, repair_fault}
 use Rattle.recovery.specs.Intents.{AlsoIn}
 use Rattle.recovery.proofs.Lookups.{undamaged}
 use Rattle.recovery.proofs.Repairing.{shown_reread}

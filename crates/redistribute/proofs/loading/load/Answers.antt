@@ -6,8 +6,8 @@ use Rattle.segment_frames.specs.Lists.{segments_in, numbers_of}
 use Rattle.segment_frames.proofs.PageNumbers.{pages_back, whole_pages, fits_journal}
 use Rattle.header_gate.proofs.PagedSegments.{known_format}
 use Rattle.segment_frames.proofs.LoadLaws.{shown_read, no_fault}
-use Rattle.redistribute.specs.Windows.{HasWindow}
-use Rattle.redistribute.specs.Batches.{kept_in}
+use Rattle.redistribute.specs.SpreadWindows.{HasWindow}
+use Rattle.redistribute.specs.WindowBatches.{kept_in}
 use Rattle.redistribute.proofs.LoadingLaws.{window_segments, window_count, shown_now, one_read, both_read}
 use Rattle.redistribute.proofs.loading.load.Goals as goal
 use Rattle.redistribute.proofs.loading.load.Goals.{After-read_batch, In-Ok}

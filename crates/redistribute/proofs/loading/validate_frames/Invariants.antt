@@ -1,7 +1,7 @@
 use Rattle.std.proofs.Common.{◌≡◌, ◌<◌, ℕ, length, get_or}
-use Rattle.segment_frames.specs.Held.{grouped, HoldsRows}
+use Rattle.segment_frames.specs.HeldRecords.{grouped, HoldsRows}
 use Rattle.segment_frames.specs.Lists.{rows_at, segments_in}
-use Rattle.redistribute.specs.Batches.{kept_in}
+use Rattle.redistribute.specs.WindowBatches.{kept_in}
 use Rattle.redistribute.proofs.loading.validate_frames.Given as goal
 
 abbrev pub invariant-loop-f : goal.invariant-loop-f

@@ -1,6 +1,6 @@
 use Rattle.std.proofs.Common.{inl, refl}
 use Rattle.station.proofs.Composition.{weaken, told_back, each_held}
-use Rattle.segment_frames.specs.Standing.{StandsFor}
+use Rattle.segment_frames.specs.FrameStanding.{StandsFor}
 use Rattle.segment_frames.proofs.Alike.{alike_cleared, represents_cleared, stands_alike}
 use Rattle.resize_region.proofs.SourceLaws.{at_place}
 use Rattle.resize_region.proofs.clearing.clear_store.Goals as goal

@@ -1,5 +1,5 @@
 use Rattle.std.proofs.Common.{◌≡◌, ℕ, ◌+◌, ◌<◌, length, get_or}
-use Rattle.segment_frames.specs.Held.{grouped, HoldsRows}
+use Rattle.segment_frames.specs.HeldRecords.{grouped, HoldsRows}
 use Rattle.segment_frames.specs.Lists.{rows_at}
 use Rattle.resize_region.proofs.source.validate_run.Given as goal
 

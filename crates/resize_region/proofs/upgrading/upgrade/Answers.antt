@@ -4,7 +4,7 @@ use Rattle.std.proofs.lemmas.Bool.{false≢true}
 use Rattle.std.proofs.lemmas.Nat.{pow_pos}
 use Rattle.std.proofs.lemmas.Result.{err_from_is_err_and}
 use Rattle.redo_journal.specs.Rest.{RestsAt}
-use Rattle.range_scan.specs.Faults.{IsDamageAt}
+use Rattle.range_scan.specs.SegmentFaults.{IsDamageAt}
 use Rattle.segment.specs.declared.fault.StoreFault.{StoreFault}
 use Rattle.resize_region.specs.declared.outcome.Upgrade.{Upgrade}
 use Rattle.resize_region.specs.declared.outcome.Upgrade.TheVariants.{Done}

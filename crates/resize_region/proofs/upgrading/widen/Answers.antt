@@ -15,7 +15,7 @@ use Rattle.map_model.specs.Image.{array_of}
 use Rattle.map_model.specs.Regions.{Spares}
 use Rattle.map_model.specs.Standing.{StandsWith}
 use Rattle.map_model.proofs.Spreading.{sum-counts}
-use Rattle.segment_frames.specs.Standing.{IsSettledAt}
+use Rattle.segment_frames.specs.FrameStanding.{IsSettledAt}
 use Rattle.resize_region.specs.Spare.{HasWritten}
 use Rattle.resize_region.specs.Upgraded.{MayWiden, Upgrades, widened, in_wide, upgraded_height}
 use Rattle.resize_region.proofs.OldRowLaws.{rose_on, failed_as, never_failed}
@@ -23,7 +23,7 @@ use Rattle.resize_region.proofs.ResizeLaws.{has_counts, spare_by, array_wide, st
 use Rattle.resize_region.proofs.UpgradeLaws.{upgraded_low, upgraded_room, upgraded_bounds, own_bounds, spreads_err}
 use Rattle.resize_region.proofs.WalkLaws.{walks_beside}
 use Rattle.segment_frames.specs.Lists.{most_segments}
-use Rattle.segment_frames.specs.Parts.{parts}
+use Rattle.segment_frames.specs.SegmentParts.{parts}
 use Rattle.resize_region.proofs.upgrading.widen.Goals as goal
 use Rattle.resize_region.proofs.upgrading.widen.Goals.{After-segments_at, After-copy_wide, In_ok-copy_wide}
 

@@ -5,7 +5,7 @@ use Rattle.station.proofs.Composition.{each_on, told_back}
 use Rattle.header_gate.specs.Places.{height_limit}
 use Rattle.map_model.specs.Array.{Array}
 use Rattle.map_model.specs.Image.{array_of}
-use Rattle.range_scan.specs.ReaderView.{ReaderView}
+use Rattle.range_scan.specs.RegionReaderView.{ReaderView}
 use Rattle.resize_region.specs.Shares.{StandsBare}
 use Rattle.resize_region.specs.OldRows.{IsInOrder}
 use Rattle.resize_region.specs.Source.{Walks}

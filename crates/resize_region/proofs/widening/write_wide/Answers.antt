@@ -35,7 +35,7 @@ use Rattle.resize_region.proofs.WalkLaws.{walks_none, walks_on, walks_beside}
 use Rattle.resize_region.proofs.WideLaws.{wide_layout, wide_length, wide_fits}
 use Rattle.resize_region.proofs.WritingLaws.{spent, on, total, writes_err, writes_failed}
 use Rattle.segment_frames.specs.Lists.{most_segments}
-use Rattle.segment_frames.specs.Parts.{InParts}
+use Rattle.segment_frames.specs.SegmentParts.{InParts}
 use Rattle.segment_frames.proofs.PartLaws.{parts_none, parts_more}
 use Rattle.resize_region.proofs.widening.write_wide.Goals as goal
 use Rattle.resize_region.proofs.widening.write_wide.Goals.{After-gather, In_ok-gather}

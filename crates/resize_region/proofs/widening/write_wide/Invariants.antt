@@ -13,7 +13,7 @@ use Rattle.resize_region.specs.Shares.{HasShares, share_in}
 use Rattle.resize_region.specs.Source.{Walks}
 use Rattle.resize_region.specs.Upgraded.{widened, in_wide}
 use Rattle.segment_frames.specs.Lists.{most_segments}
-use Rattle.segment_frames.specs.Parts.{InParts}
+use Rattle.segment_frames.specs.SegmentParts.{InParts}
 use Rattle.resize_region.proofs.widening.write_wide.Given as goal
 
 abbrev pub invariant-loop-t : goal.invariant-loop-t

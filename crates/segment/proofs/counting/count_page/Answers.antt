@@ -3,7 +3,7 @@ use Rattle.std.proofs.Common.{◌≡◌, ◌∙◌, List, ap, sym, subst, arith,
 use Rattle.key_slot.specs.Record.{Record}
 use Rattle.key_slot.specs.Segment.{IsSegment}
 use Rattle.key_slot.proofs.SegmentLaws.{segment_rows}
-use Rattle.segment.specs.Held.{held_rows}
+use Rattle.segment.specs.HeldSlots.{held_rows}
 use Rattle.segment.proofs.SlotReading.{small_slot, chunk_size, chunks_are, chunks_count, held_len, rows_read}
 use Rattle.segment.proofs.counting.count_page.Given.{Over}
 use Rattle.segment.proofs.counting.count_page.Goals as goal

@@ -3,7 +3,7 @@ use Rattle.std.proofs.Common.{◌≡◌, ℕ, ◌-◌, ◌<◌, ◌≤◌, [], g
 use Rattle.key_slot.specs.Fronts.{IsKeyNumber}
 use Rattle.key_slot.specs.Record.{IsAscending}
 use Rattle.key_slot.specs.Slot.{IsSlot, fields_of, slot_of}
-use Rattle.segment.specs.Held.{held_rows}
+use Rattle.segment.specs.HeldSlots.{held_rows}
 use Rattle.segment.proofs.counting.count_rows.Given as goal
 
 abbrev pub invariant-loop-count : goal.invariant-loop-count

@@ -4,8 +4,8 @@ use Rattle.key_slot.specs.Record.{Record}
 use Rattle.key_slot.specs.Slot.{slot_of}
 use Rattle.key_slot.specs.Segment.{IsSegment}
 use Rattle.key_slot.proofs.SegmentLaws.{segment_rows}
-use Rattle.segment.specs.Held.{held_rows}
-use Rattle.segment.specs.Reading.{is_bad_next, HoldsNext}
+use Rattle.segment.specs.HeldSlots.{held_rows}
+use Rattle.segment.specs.SlotReading.{is_bad_next, HoldsNext}
 use Rattle.segment.proofs.SlotReading.{chunks_are, chunks_count, no_slots, one_more_slot, first_bad_next, chunk_of, all_read, held_len}
 use Rattle.segment.proofs.counting.count_slots.Given.{Over}
 use Rattle.segment.proofs.counting.count_slots.Goals as goal

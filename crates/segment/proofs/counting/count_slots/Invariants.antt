@@ -1,7 +1,7 @@
 -- The slots so far hold the rows so far.
 use Rattle.std.proofs.Common.{◌-◌, ◌<◌, ◌≤◌, [], get_or, Some}
 use Rattle.key_slot.specs.Slot.{IsSlot, fields_of}
-use Rattle.segment.specs.Held.{held_rows}
+use Rattle.segment.specs.HeldSlots.{held_rows}
 use Rattle.segment.proofs.SlotReading.{HoldsSlots}
 use Rattle.segment.proofs.counting.count_slots.Given as goal
 

@@ -7,7 +7,7 @@ use Rattle.key_slot.specs.Ordered.{all_below}
 use Rattle.key_slot.specs.Slot.{IsSlot, fields_of, slot_of}
 use Rattle.key_slot.proofs.SlotLaws.{slot_by_reading, record_held}
 use Rattle.key_slot.proofs.KeyOrder.{numbers_below}
-use Rattle.segment.specs.Held.{held_rows}
+use Rattle.segment.specs.HeldSlots.{held_rows}
 use Rattle.segment.proofs.SlotReading.{below_by_last, none_below, next_here, ascending_here, kept_slot, compared, slot_as_read, read_as_slot, small_slot, key_room_16}
 use Rattle.segment.proofs.counting.next_row.Given.{Over}
 use Rattle.segment.proofs.counting.next_row.Goals as goal

@@ -4,7 +4,7 @@ use Rattle.station.specs.View.{View, MayHold}
 use Rattle.header_gate.specs.Places.{file_length}
 use Rattle.header_gate.specs.declared.layout.Layout.{Layout}
 use Rattle.redo_journal.specs.Rest.{RestsAt}
-use Rattle.pma_store.specs.Store.{StoreView}
+use Rattle.pma_store.specs.StoreView.{StoreView}
 use Rattle.mem_sessions.specs.Untold.{untold_station}
 use Rattle.session_tests.proofs.untold.a_store_of_parts_goes_by_their_index.Goals as goal
 

@@ -1,7 +1,7 @@
 use Rattle.std.proofs.Common.{rules, ℕ, List, inr, arith}
 use Rattle.veb_layout.specs.declared.links.Part.{Part}
 use Rattle.veb_layout.specs.Links.{AreLinks}
-use Rattle.veb_layout.specs.Parts.{ArePartLinks}
+use Rattle.veb_layout.specs.TreeParts.{ArePartLinks}
 use Rattle.veb_layout.proofs.links.fill_links.Goals as goal
 
 -- the whole tree as a part, which is left at the segments

@@ -1,5 +1,5 @@
 use Rattle.std.proofs.Common.{rules, ◌≤◌, arith, subst, sym}
-use Rattle.window_tally.specs.Places.{IsTree}
+use Rattle.window_tally.specs.TallyPlaces.{IsTree}
 use Rattle.window_tally.proofs.KeptLaws.{kept_tree}
 use Rattle.window_tally.proofs.Tally.choice.Goals as goal
 use Rattle.window_tally.proofs.Tally.choice.Goals.{In-Some-2}

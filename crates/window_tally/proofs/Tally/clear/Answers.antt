@@ -1,6 +1,6 @@
 use Rattle.std.proofs.Common.{◌≡◌, ◌+◌, ◌*◌, ◌%◌, ◌^◌, ◌≤◌, sym, ap, subst, ◌∙◌, arith}
 use Rattle.std.proofs.Math.Pow.{pow_mono}
-use Rattle.window_tally.specs.View.{TallyView, empty_tally}
+use Rattle.window_tally.specs.TallyView.{TallyView, empty_tally}
 use Rattle.window_tally.proofs.KeptLaws.{Becomes, empty_becomes}
 use Rattle.window_tally.proofs.PlaceLaws.{doubled}
 use Rattle.window_tally.proofs.Tally.clear.Goals as goal

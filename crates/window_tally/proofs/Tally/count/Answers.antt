@@ -1,7 +1,7 @@
 use Rattle.std.proofs.Common.{rules, ◌≡◌, ◌<◌, length, vec_len, get_or, ap, subst, sym, ◌∙◌, arith}
 use Rattle.std.proofs.lemmas.List.{get_or_read}
 use Rattle.density_rule.specs.Windows.{IsWindow, count_in}
-use Rattle.window_tally.specs.View.{TallyView}
+use Rattle.window_tally.specs.TallyView.{TallyView}
 use Rattle.window_tally.proofs.KeptLaws.{place_kept}
 use Rattle.window_tally.proofs.Tally.count.Goals as goal
 use Rattle.window_tally.proofs.Tally.count.Goals.{After-place_of}

@@ -2,8 +2,8 @@ use Rattle.std.proofs.Common.{rules, ◌≡◌, length, ap, ◌∙◌}
 use Rattle.std.specs.Vec.{with_items}
 use Rattle.std.proofs.lemmas.List.{with_items_is}
 use Rattle.density_rule.specs.Marks.{no_marks}
-use Rattle.window_tally.specs.View.{TallyView}
-use Rattle.window_tally.specs.Inside.{view_of}
+use Rattle.window_tally.specs.TallyView.{TallyView}
+use Rattle.window_tally.specs.TallyFields.{view_of}
 use Rattle.window_tally.proofs.KeptLaws.{Becomes, becomes_at, forgotten_becomes}
 use Rattle.window_tally.proofs.Tally.forget_rests.Goals as goal
 use Rattle.window_tally.proofs.Tally.forget_rests.Goals.{After-forget_all}

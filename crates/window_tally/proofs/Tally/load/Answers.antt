@@ -2,9 +2,9 @@ use Rattle.std.proofs.Common.{rules, ◌≡◌, length, set, ap, subst, sym, ◌
 use Rattle.std.specs.Vec.{with_items}
 use Rattle.std.proofs.lemmas.List.{with_items_is}
 use Rattle.density_rule.specs.Marks.{no_marks}
-use Rattle.window_tally.specs.View.{TallyView}
-use Rattle.window_tally.specs.Places.{IsTree, HasCounts, leaves_of, marks_in}
-use Rattle.window_tally.specs.Inside.{view_of}
+use Rattle.window_tally.specs.TallyView.{TallyView}
+use Rattle.window_tally.specs.TallyPlaces.{IsTree, HasCounts, leaves_of, marks_in}
+use Rattle.window_tally.specs.TallyFields.{view_of}
 use Rattle.window_tally.proofs.KeptLaws.{Becomes, kept_tree, loaded_becomes}
 use Rattle.window_tally.proofs.Tally.load.Goals as goal
 use Rattle.window_tally.proofs.Tally.load.Goals.{After-set_count}

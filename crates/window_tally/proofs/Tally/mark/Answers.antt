@@ -3,8 +3,8 @@ use Rattle.std.proofs.lemmas.List.{get_or_read}
 use Rattle.density_rule.specs.Windows.{IsWindow}
 use Rattle.density_rule.specs.Marks.{mark_of}
 use Rattle.density_rule.proofs.MarkLaws.{mark_of-marks_by, mark_of-marks_by_none}
-use Rattle.window_tally.specs.View.{TallyView}
-use Rattle.window_tally.specs.Places.{place}
+use Rattle.window_tally.specs.TallyView.{TallyView}
+use Rattle.window_tally.specs.TallyPlaces.{place}
 use Rattle.window_tally.proofs.KeptLaws.{place_kept}
 use Rattle.window_tally.proofs.Tally.mark.Goals as goal
 use Rattle.window_tally.proofs.Tally.mark.Goals.{After-place_of}

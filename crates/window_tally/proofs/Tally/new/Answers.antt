@@ -1,6 +1,6 @@
 use Rattle.std.proofs.Common.{arith}
 use Rattle.std.proofs.Math.Pow.{pow_pos}
-use Rattle.window_tally.specs.View.{empty_tally}
+use Rattle.window_tally.specs.TallyView.{empty_tally}
 use Rattle.window_tally.proofs.KeptLaws.{Becomes, empty_becomes}
 use Rattle.window_tally.proofs.PlaceLaws.{doubled, twice}
 use Rattle.window_tally.proofs.Tally.new.Goals as goal

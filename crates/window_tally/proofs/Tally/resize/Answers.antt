@@ -5,9 +5,9 @@ use Rattle.std.proofs.Math.Pow.{pow_pos, pow_mono}
 use Rattle.density_rule.specs.Bounds.{IsInBounds}
 use Rattle.density_rule.specs.Spread.{resized_counts}
 use Rattle.density_rule.specs.Marks.{resized_marks}
-use Rattle.window_tally.specs.View.{TallyView}
-use Rattle.window_tally.specs.Places.{FillsBelow, part_of, leaves_of}
-use Rattle.window_tally.specs.Inside.{view_of}
+use Rattle.window_tally.specs.TallyView.{TallyView}
+use Rattle.window_tally.specs.TallyPlaces.{FillsBelow, part_of, leaves_of}
+use Rattle.window_tally.specs.TallyFields.{view_of}
 use Rattle.window_tally.proofs.PlaceLaws.{twice, doubled}
 use Rattle.window_tally.proofs.KeptLaws.{Becomes, becomes_at, resized_becomes, count_at_root}
 use Rattle.window_tally.proofs.Tally.resize.Goals as goal

@@ -5,9 +5,9 @@ use Rattle.density_rule.specs.Bounds.{IsInBounds}
 use Rattle.density_rule.specs.Windows.{IsWindow, count_in}
 use Rattle.density_rule.specs.Spread.{spread_counts}
 use Rattle.density_rule.specs.Marks.{spread_marks}
-use Rattle.window_tally.specs.View.{TallyView}
-use Rattle.window_tally.specs.Places.{FillsBelow, part_of, leaves_of, marks_in}
-use Rattle.window_tally.specs.Inside.{view_of}
+use Rattle.window_tally.specs.TallyView.{TallyView}
+use Rattle.window_tally.specs.TallyPlaces.{FillsBelow, part_of, leaves_of, marks_in}
+use Rattle.window_tally.specs.TallyFields.{view_of}
 use Rattle.window_tally.proofs.KeptLaws.{Becomes, becomes_at, spread_becomes}
 use Rattle.window_tally.proofs.Tally.set_spread.Goals as goal
 use Rattle.window_tally.proofs.Tally.set_spread.Goals.{After-rest_inside}

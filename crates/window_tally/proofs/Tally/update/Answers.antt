@@ -1,14 +1,14 @@
 use Rattle.std.proofs.Common.{rules, ℕ, ◌≡◌, ◌≤◌, ◌<◌, ◌^◌, true, false, get_or, length, set, ap, subst, sym, refl, ◌∙◌, arith}
 use Rattle.std.specs.Vec.{with_items}
 use Rattle.std.proofs.lemmas.List.{with_items_is, get_or_read}
-use Rattle.density_rule.specs.Updates.{count_after, counts_after}
+use Rattle.density_rule.specs.CountUpdates.{count_after, counts_after}
 use Rattle.density_rule.specs.Marks.{updated_marks}
 use Rattle.window_tally.specs.declared.Change.{Change}
 use Rattle.window_tally.specs.declared.Change.TheVariants.{Add, Take}
-use Rattle.window_tally.specs.View.{TallyView}
+use Rattle.window_tally.specs.TallyView.{TallyView}
 use Rattle.window_tally.specs.Choice.{adds}
-use Rattle.window_tally.specs.Places.{IsTree, HasCounts, leaves_of, marks_in}
-use Rattle.window_tally.specs.Inside.{view_of}
+use Rattle.window_tally.specs.TallyPlaces.{IsTree, HasCounts, leaves_of, marks_in}
+use Rattle.window_tally.specs.TallyFields.{view_of}
 use Rattle.window_tally.proofs.PlaceLaws.{segment_window, get_or-leaves_of}
 use Rattle.window_tally.proofs.KeptLaws.{Becomes, kept_tree, place_kept, becomes_at, updated_becomes}
 use Rattle.window_tally.proofs.Tally.update.Goals as goal

@@ -1,7 +1,7 @@
 use Rattle.std.proofs.Common.{None, get_or, ap, ◌∙◌, ◌/◌, ◌^◌, ◌≤◌, arith, ◌≡◌}
 use Rattle.std.specs.Option.{option_map}
 use Rattle.density_rule.specs.Marks.{one_more}
-use Rattle.window_tally.specs.Places.{place}
+use Rattle.window_tally.specs.TallyPlaces.{place}
 use Rattle.window_tally.proofs.PathLaws.{path_at, path_more_at}
 use Rattle.window_tally.proofs.RestLaws.{marks_in-updated}
 use Rattle.window_tally.proofs.tree.count_update.Goals as goal

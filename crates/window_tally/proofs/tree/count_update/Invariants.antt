@@ -1,7 +1,7 @@
 use Rattle.std.proofs.Common.{◌/◌, ◌^◌, get_or, None}
 use Rattle.std.specs.Option.{option_map}
 use Rattle.density_rule.specs.Marks.{one_more}
-use Rattle.window_tally.specs.Places.{place}
+use Rattle.window_tally.specs.TallyPlaces.{place}
 use Rattle.window_tally.proofs.PathLaws.{WritesPath}
 use Rattle.window_tally.proofs.tree.count_update.Given as goal
 

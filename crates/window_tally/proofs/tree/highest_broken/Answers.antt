@@ -2,11 +2,11 @@ use Rattle.std.proofs.Common.{◌≡◌, ℕ, suc, ◌≤◌, ◌/◌, ◌^◌, 
 use Rattle.std.specs.Option.{IfSome}
 use Rattle.density_rule.proofs.Greatest.{greatest_below_lt}
 use Rattle.density_rule.specs.Bounds.{is_in_bounds}
-use Rattle.density_rule.specs.Updates.{count_after, counts_after, is_broken, greatest_below}
+use Rattle.density_rule.specs.CountUpdates.{count_after, counts_after, is_broken, greatest_below}
 use Rattle.window_tally.specs.declared.Change.{Change}
 use Rattle.window_tally.specs.declared.Change.TheVariants.{Add, Take}
 use Rattle.window_tally.specs.Choice.{adds}
-use Rattle.window_tally.specs.Places.{place, leaves_of}
+use Rattle.window_tally.specs.TallyPlaces.{place, leaves_of}
 use Rattle.window_tally.proofs.SetLaws.{count_few, count_rises, broken_here, kept_here}
 use Rattle.window_tally.proofs.tree.highest_broken.Goals as goal
 use Rattle.window_tally.proofs.tree.highest_broken.Goals.{After-in_bounds, then-not-in_bounds, else-not-in_bounds}

@@ -1,5 +1,5 @@
 use Rattle.std.proofs.Common.{◌-◌, ◌^◌, subst, Some, None}
-use Rattle.window_tally.specs.Places.{Fills}
+use Rattle.window_tally.specs.TallyPlaces.{Fills}
 use Rattle.window_tally.proofs.FillLaws.{levels_more}
 use Rattle.window_tally.proofs.tree.rest_inside.Goals as goal
 

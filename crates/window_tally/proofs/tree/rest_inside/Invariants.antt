@@ -1,5 +1,5 @@
 use Rattle.std.proofs.Common.{Some, None}
-use Rattle.window_tally.specs.Places.{FillsBelow}
+use Rattle.window_tally.specs.TallyPlaces.{FillsBelow}
 use Rattle.window_tally.proofs.tree.rest_inside.Given as goal
 
 abbrev pub invariant-loop-h : goal.invariant-loop-h

@@ -1,5 +1,5 @@
 use Rattle.std.proofs.Common.{◌≡◌, ◌≤◌, ◌+◌, ◌-◌, ◌/◌, ◌^◌, get_or, arith, ap, ◌∙◌}
-use Rattle.window_tally.specs.Places.{place}
+use Rattle.window_tally.specs.TallyPlaces.{place}
 use Rattle.window_tally.proofs.PathLaws.{path_at, path_more_at}
 use Rattle.window_tally.proofs.SetLaws.{count_rises, count_below, count_few, count_set, has_set}
 use Rattle.window_tally.proofs.tree.set_count.Goals as goal

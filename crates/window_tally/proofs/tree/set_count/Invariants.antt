@@ -1,6 +1,6 @@
 use Rattle.std.proofs.Common.{◌/◌, ◌^◌, set}
 use Rattle.density_rule.specs.Windows.{count_in}
-use Rattle.window_tally.specs.Places.{leaves_of}
+use Rattle.window_tally.specs.TallyPlaces.{leaves_of}
 use Rattle.window_tally.proofs.PathLaws.{WritesPath}
 use Rattle.window_tally.proofs.tree.set_count.Given as goal
 

@@ -1,5 +1,5 @@
 use Rattle.std.proofs.Common.{◌-◌, ◌^◌, subst}
-use Rattle.window_tally.specs.Places.{Fills, part_of}
+use Rattle.window_tally.specs.TallyPlaces.{Fills, part_of}
 use Rattle.window_tally.proofs.FillLaws.{levels_more}
 use Rattle.window_tally.proofs.tree.share_out.Goals as goal
 

@@ -1,4 +1,4 @@
-use Rattle.window_tally.specs.Places.{FillsBelow, part_of}
+use Rattle.window_tally.specs.TallyPlaces.{FillsBelow, part_of}
 use Rattle.window_tally.proofs.tree.share_out.Given as goal
 
 abbrev pub invariant-loop-h : goal.invariant-loop-h

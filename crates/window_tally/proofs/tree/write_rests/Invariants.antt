@@ -1,5 +1,5 @@
 use Rattle.std.proofs.Common.{Some, None}
-use Rattle.window_tally.specs.Places.{Fills}
+use Rattle.window_tally.specs.TallyPlaces.{Fills}
 use Rattle.window_tally.proofs.tree.write_rests.Given as goal
 
 abbrev pub invariant-loop-i : goal.invariant-loop-i

@@ -1,6 +1,6 @@
 use Rattle.std.proofs.Common.{◌^◌}
 use Rattle.density_rule.specs.Spread.{share}
-use Rattle.window_tally.specs.Places.{Fills}
+use Rattle.window_tally.specs.TallyPlaces.{Fills}
 use Rattle.window_tally.proofs.tree.write_shares.Given as goal
 
 abbrev pub invariant-loop-i : goal.invariant-loop-i

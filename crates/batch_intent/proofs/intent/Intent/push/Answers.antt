@@ -2,9 +2,9 @@ use Rattle.std.proofs.Common.{◌≡◌, ℕ, ◌+◌, ◌<◌, ◌≤◌, List,
 use Rattle.batch_intent.specs.declared.places.TheConstants.{INTENT_SIZE}
 use Rattle.station.specs.Bytes.{byte}
 use Rattle.map_model.specs.Store.{Update, key_of}
-use Rattle.map_model.specs.Items.{has_item}
+use Rattle.map_model.specs.ItemWords.{has_item}
 use Rattle.batch_intent.specs.declared.intent.TheConstants.{MOST_ITEMS}
-use Rattle.batch_intent.specs.Items.{update_of}
+use Rattle.batch_intent.specs.ItemView.{update_of}
 use Rattle.batch_intent.specs.Spelling.{items_in, item_bytes, intent_bytes}
 use Rattle.batch_intent.specs.Keeping.{KeepsBy}
 use Rattle.batch_intent.specs.Pushing.{push_fault}

@@ -5,7 +5,7 @@ use Rattle.std.specs.FinMap.{get}
 use Rattle.key_slot.specs.Row.{record_of}
 use Rattle.map_model.specs.Cursors.{Cursors, back}
 use Rattle.map_model.specs.Image.{map_of}
-use Rattle.cursor_set.specs.Slots.{found_in, cursor_of}
+use Rattle.cursor_set.specs.CursorPlaces.{found_in, cursor_of}
 use Rattle.cursor_set.specs.declared.answers.Step.TheVariants as step
 use Rattle.cursor_set.specs.Ways.{step_of}
 use Rattle.cursor_set.proofs.Stepped.{moved_if}

@@ -1,7 +1,7 @@
 -- Each answer, by what was found so far.
 use Rattle.std.proofs.Common.{◌<◌, length, refl, sym, ap, subst, ◌∙◌, arith}
 use Rattle.line_source.specs.Lines.{NoFeed}
-use Rattle.line_source.specs.ReaderView.{IsFirstFeed, rest}
+use Rattle.line_source.specs.LineReaderView.{IsFirstFeed, rest}
 use Rattle.line_source.specs.LineStep.{Gives}
 use Rattle.line_source.proofs.Reading.{ready_is, let_go, fill, is_cut}
 use Rattle.line_source.proofs.Giving.{gives_line, gives_last}

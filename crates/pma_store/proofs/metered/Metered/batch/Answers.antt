@@ -3,7 +3,7 @@ use Rattle.std.proofs.Common.{ℕ, length, Ok, ap, subst, sym, ◌∙◌}
 use Rattle.map_model.specs.Image.{map_of}
 use Rattle.pma_store.specs.Batching.{charge_in, items_made, made_in, version_of}
 use Rattle.pma_store.specs.Metered.{view_of}
-use Rattle.pma_store.specs.Store.{IsOpenOn, limit_of}
+use Rattle.pma_store.specs.StoreView.{IsOpenOn, limit_of}
 use Rattle.pma_store.specs.declared.answers.Batch.{Batch}
 use Rattle.pma_store.specs.declared.answers.Batch.TheVariants as batch
 use Rattle.cost_ledger.specs.Ledger.{noted}

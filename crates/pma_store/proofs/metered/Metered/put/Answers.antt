@@ -1,4 +1,4 @@
-use Rattle.std.proofs.Common.{◌≡◌, ℕ, [], ◌∷◌, Ok, sym, ap, ◌∙◌, subst, arith, rules}
+use Rattle.std.proofs.Common.{◌≡◌, ℕ, [], ◌∷◌, Ok, sym, ap, ◌∙◌, subst, arith}
 use Rattle.cost_ledger.specs.Ledger.{noted}
 use Rattle.cost_ledger.specs.Work.{charge_by, IsWork}
 use Rattle.header_gate.specs.declared.layout.Layout.{Layout}
@@ -7,9 +7,9 @@ use Rattle.map_model.specs.Store.{bind}
 use Rattle.pma_store.specs.Charging.{charge_told, put_changes, work_by}
 use Rattle.pma_store.specs.Makes.{Puts}
 use Rattle.pma_store.specs.Metered.{MeteredView, Notes, view_of}
-use Rattle.pma_store.specs.Store.{IsOpenOn}
+use Rattle.pma_store.specs.StoreView.{IsOpenOn}
 use Rattle.pma_store.proofs.Making.{stands_there}
-use Rattle.pma_store.proofs.Metering.{full_at, may_note, put_effect, update_notes}
+use Rattle.pma_store.proofs.Metering.{err_notes, full_at, may_note, put_effect, update_notes}
 use Rattle.pma_store.proofs.Charged.{written_images}
 use Rattle.pma_store.proofs.metered.Metered.put.Goals as goal
 
@@ -43,4 +43,7 @@ returns-clause-images g c =
     written_images c.args.self.now.store.place.layout (subst (λ (l : Layout). IsSlotFormat l.format) put.update.layout (record { least = c.height.ensures.store.layout.format.least; most = c.height.ensures.store.layout.format.most })) c.put.new.self.tally.height (put_changes c.in_ok-answer.answer) c.in_ok-answer.report a.travel.written b.travel.written put.update.cost (λ is. (put.full (full_at c.in_ok-answer.answer is).0 (full_at c.in_ok-answer.answer is).1).unwritten)
 
 pub returns-in_err-answer-clause-notes : goal.returns-in_err-answer-clause-notes
-returns-in_err-answer-clause-notes g c = search rules
+returns-in_err-answer-clause-notes g c =
+    let u = bind c.args.key.now c.args.value.now in
+    subst (λ (m : MeteredView). Notes (u ∷ []) c.from_residual.result (λ done. 1) (λ done. charge_told c.put.new.self.tally.height (put_changes done.0) done.1) m (record { store = c.put.new.self; ledger = c.self.inside.ledger }) (g.S.Station.view c.args.station.now)) c.self.view_is
+    (err_notes c.from_residual.result c.from_residual.ensures.0 (u ∷ []) (λ done. 1) (λ done. charge_told c.put.new.self.tally.height (put_changes done.0) done.1) (view_of c.self.inside) c.put.new.self c.self.invariant c.in_err-answer.ensures.closed)

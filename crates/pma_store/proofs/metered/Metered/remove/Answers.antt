@@ -7,7 +7,7 @@ use Rattle.map_model.specs.Store.{unbind}
 use Rattle.pma_store.specs.Charging.{charge_told, work_by}
 use Rattle.pma_store.specs.Makes.{Removes}
 use Rattle.pma_store.specs.Metered.{MeteredView, Notes, view_of}
-use Rattle.pma_store.specs.Store.{IsOpenOn}
+use Rattle.pma_store.specs.StoreView.{IsOpenOn}
 use Rattle.pma_store.proofs.Making.{stands_there}
 use Rattle.pma_store.proofs.Metering.{may_note, took_effect, update_notes}
 use Rattle.pma_store.proofs.Charged.{written_images}

@@ -1,9 +1,9 @@
 use Rattle.std.proofs.Common.{false, sym, ap, ◌∙◌, subst}
 use Rattle.std.proofs.lemmas.Result.{on_ok_weaker}
-use Rattle.range_scan.specs.Seeking.{ReadsNear, later}
+use Rattle.range_scan.specs.SeekReads.{ReadsNear, later}
 use Rattle.pma_store.specs.Metered.{MeteredView}
-use Rattle.pma_store.specs.Seeking.{kept_region, unclosed}
-use Rattle.pma_store.specs.Store.{IsOpenOn}
+use Rattle.pma_store.specs.StoreSeeks.{kept_region, unclosed}
+use Rattle.pma_store.specs.StoreView.{IsOpenOn}
 use Rattle.pma_store.proofs.Sought.{opens_by, stands_idle}
 use Rattle.pma_store.proofs.seek.MeteredSeek.first_row.Goals as goal
 

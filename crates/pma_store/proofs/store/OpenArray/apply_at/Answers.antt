@@ -4,14 +4,15 @@ use Rattle.station.specs.View.{Told}
 use Rattle.station.specs.Steps.{Steps}
 use Rattle.station.proofs.Composition.{told_on, told_back}
 use Rattle.density_rule.specs.Bounds.{upper_of}
-use Rattle.density_rule.specs.Updates.{counts_after}
+use Rattle.density_rule.specs.CountUpdates.{counts_after}
 use Rattle.density_rule.specs.Windows.{IsBalanced}
 use Rattle.header_gate.specs.declared.layout.Layout.{Layout}
 use Rattle.header_gate.specs.Places.{height_limit}
 use Rattle.map_model.specs.Array.{rows}
 use Rattle.map_model.specs.Holding.{HoldsMap}
 use Rattle.map_model.specs.Image.{array_of, map_of, height_of}
-use Rattle.map_model.specs.Store.{Update, bind, height_after, map_after, unbind}
+use Rattle.map_model.specs.Store.{Update, bind, unbind}
+use Rattle.map_model.specs.After.{height_after, map_after}
 use Rattle.std.proofs.lemmas.Grind.{common_steps}
 use Rattle.pma_store.specs.declared.update.Need.TheVariants as need
 use Rattle.window_tally.specs.declared.Change.{Change}
@@ -19,15 +20,15 @@ use Rattle.window_tally.specs.declared.Change.TheVariants.{Add}
 use Rattle.window_tally.specs.declared.Pick.TheVariants.{AtLimit, Fits}
 use Rattle.window_tally.specs.declared.Pick.{Pick}
 use Rattle.window_tally.specs.Choice.{adds, IsPossible, pick_of}
-use Rattle.window_tally.specs.View.{TallyView}
+use Rattle.window_tally.specs.TallyView.{TallyView}
 use Rattle.map_model.specs.ArrayState.{next_state, report_by, report_of}
-use Rattle.pma_store.specs.Answers.{state_in, reported}
-use Rattle.pma_store.specs.Counting.{SumsIf, SumsOne, counted}
+use Rattle.pma_store.specs.StoreAnswers.{state_in, reported}
+use Rattle.pma_store.specs.SegmentCounts.{SumsIf, SumsOne, counted}
 use Rattle.pma_store.specs.Changing.{outcome_of, update_cost, picked_height}
 use Rattle.pma_store.specs.declared.answers.Outcome.{Outcome}
 use Rattle.pma_store.specs.declared.answers.Outcome.TheVariants.{Changed, Replaced, Unchanged}
 use Rattle.pma_store.specs.Rewrites.{HasRewritten, Rewrites, rewritten, commit_cost}
-use Rattle.pma_store.specs.Store.{StoreView, Stands, limit_of}
+use Rattle.pma_store.specs.StoreView.{StoreView, Stands, limit_of}
 use Rattle.pma_store.specs.Touching.{Updates, IsPlaceAfter}
 use Rattle.map_model.specs.ArrayUpdates.{edited}
 use Rattle.pma_store.specs.Updating.{update_of, need_of}
@@ -45,7 +46,7 @@ use Rattle.pma_store.proofs.Damages.{change_is, none_asks}
 use Rattle.pma_store.proofs.Making.{no_fault, stands_there, stands_again, quiet_applies, fault_applies, rewrite_faults, changes, quiet_report, quiet_rested, replaces}
 use Rattle.pma_store.specs.Readying.{broken_in, readied, ready_cost, resizes}
 use Rattle.pma_store.specs.Damaging.{FindsNoRoom, IsMetLate, change_in, picked, report_at}
-use Rattle.pma_store.specs.Calling.{asked_calls, commit_calls, update_calls}
+use Rattle.pma_store.specs.UpdateCalls.{asked_calls, commit_calls, update_calls}
 use Rattle.pma_store.proofs.Meeting.{moved_one, quiet_within, replaced_within}
 use Rattle.pma_store.proofs.store.OpenArray.apply_at.Goals.{After-prepare, After-rewrite, After-rewrite-2, In-Nothing, Then-eq}
 use Rattle.cost_ledger.specs.declared.work.Work.TheVariants as work

@@ -5,12 +5,12 @@ use Rattle.station.specs.View.{EachHeld}
 use Rattle.station.specs.Steps.{Steps}
 use Rattle.redo_journal.specs.Frames.{Batch}
 use Rattle.redo_journal.specs.Rest.{RestsAt}
-use Rattle.segment_frames.specs.Standing.{IsSettledAt}
-use Rattle.pma_store.specs.Calling.{clear_calls}
-use Rattle.pma_store.specs.Inside.{view_of}
+use Rattle.segment_frames.specs.FrameStanding.{IsSettledAt}
+use Rattle.pma_store.specs.UpdateCalls.{clear_calls}
+use Rattle.pma_store.specs.StoreFields.{view_of}
 use Rattle.pma_store.specs.Looking.{TellsOther}
 use Rattle.pma_store.specs.Readying.{KeepsStore, clear_cost}
-use Rattle.pma_store.specs.Store.{StoreView, StandsOn, limit_of}
+use Rattle.pma_store.specs.StoreView.{StoreView, StandsOn, limit_of}
 use Rattle.pma_store.specs.Touching.{IsClearPlace}
 use Rattle.pma_store.proofs.ClearCosts.{cleared_bytes, cleared_calls}
 use Rattle.pma_store.proofs.Clearing.{clear_keeps, clear_touches, stands_cleared}

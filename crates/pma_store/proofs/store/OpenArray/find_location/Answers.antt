@@ -10,8 +10,8 @@ use Rattle.map_model.specs.Store.{key_of}
 use Rattle.map_model.specs.Image.{array_of}
 use Rattle.range_scan.specs.PageView.{PageView}
 use Rattle.segment.specs.Rows.{key_at, value_of, IsGap}
-use Rattle.pma_store.specs.Store.{StoreView, Stands}
-use Rattle.pma_store.specs.Inside.{view_of}
+use Rattle.pma_store.specs.StoreView.{StoreView, Stands}
+use Rattle.pma_store.specs.StoreFields.{view_of}
 use Rattle.pma_store.specs.Locations.{IsLocation, IsOwn, FindsLocation}
 use Rattle.pma_store.specs.Updating.{update_of}
 use Rattle.pma_store.specs.declared.update.Location.{Location}
@@ -21,7 +21,7 @@ use Rattle.pma_store.proofs.Making.{by_disk, no_fault}
 use Rattle.station.specs.View.{after_read}
 use Rattle.header_gate.specs.InPlace.{IsRecovered}
 use Rattle.header_gate.specs.Places.{segment_place, segment_size}
-use Rattle.range_scan.specs.Faults.{IsDamageAt}
+use Rattle.range_scan.specs.SegmentFaults.{IsDamageAt}
 use Rattle.pma_store.proofs.Resting.{readable_held}
 use Rattle.pma_store.proofs.Standing.{found_is, segment_is, only_failed, within_region}
 use Rattle.pma_store.proofs.store.OpenArray.find_location.Goals as goal

@@ -7,17 +7,17 @@ use Rattle.header_gate.specs.declared.layout.Layout.{Layout}
 use Rattle.redo_journal.specs.declared.place.Place.{Place}
 use Rattle.redo_journal.specs.Rest.{RestsAt}
 use Rattle.station.specs.View.{Told}
-use Rattle.window_tally.specs.View.{TallyView}
+use Rattle.window_tally.specs.TallyView.{TallyView}
 use Rattle.std.specs.Prelude.{sum}
 use Rattle.std.proofs.Common.{◌⊎◌}
 use Rattle.std.proofs.Math.Pow.{pow_mono}
 use Rattle.segment.specs.declared.fault.StoreFault.TheVariants.{Failed}
-use Rattle.pma_store.specs.Calling.{copying_calls}
+use Rattle.pma_store.specs.UpdateCalls.{copying_calls}
 use Rattle.pma_store.specs.Damaging.{IsMetAmong}
 use Rattle.pma_store.specs.Looking.{TellsOther}
-use Rattle.pma_store.specs.Inside.{view_of}
+use Rattle.pma_store.specs.StoreFields.{view_of}
 use Rattle.pma_store.specs.Readying.{copying_cost}
-use Rattle.pma_store.specs.Store.{StoreView, IsStore, StandsOn, limit_of}
+use Rattle.pma_store.specs.StoreView.{StoreView, IsStore, StandsOn, limit_of}
 use Rattle.pma_store.specs.Touching.{IsPlaceAfter}
 use Rattle.pma_store.proofs.Balancing.{one_power}
 use Rattle.pma_store.proofs.ReadyStores.{resize_keeps, resize_among, among_tells, stands_resized, kept_store, resized_store}

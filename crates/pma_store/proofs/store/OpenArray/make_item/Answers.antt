@@ -2,9 +2,9 @@ use Rattle.std.proofs.Common.{Bool, Option, Some, None, sym, ap, subst, ◌∙�
 use Rattle.std.proofs.lemmas.Result.{err_from_is_err_and}
 use Rattle.std.specs.Prelude.{is_ok, sum}
 use Rattle.density_rule.specs.Bounds.{upper_of}
-use Rattle.pma_store.specs.Items.{ChangesNone, CountsAsFound, IsAsFound}
-use Rattle.pma_store.specs.Validating.{SumsItem}
-use Rattle.pma_store.specs.Store.{StoreView, IsStore, StandsOn, limit_of}
+use Rattle.pma_store.specs.ItemsMade.{ChangesNone, CountsAsFound, IsAsFound}
+use Rattle.pma_store.specs.ItemEffects.{SumsItem}
+use Rattle.pma_store.specs.StoreView.{StoreView, IsStore, StandsOn, limit_of}
 use Rattle.pma_store.proofs.Making.{stands_on}
 use Rattle.pma_store.specs.Updating.{update_of}
 use Rattle.pma_store.proofs.ItemsApplied.{applied_behind, applied_item, failed_item, unfound_item}

@@ -10,9 +10,9 @@ use Rattle.map_model.specs.Array.{segment_at, segment_for}
 use Rattle.map_model.specs.Image.{array_of}
 use Rattle.map_model.specs.Store.{Update, unbind, key_of}
 use Rattle.segment.specs.Rows.{value_of}
-use Rattle.pma_store.specs.Items.{CountsAsFound, IsAsFound, MakesItem}
-use Rattle.pma_store.specs.Validating.{SumsItem, found_at}
-use Rattle.pma_store.specs.Store.{limit_of}
+use Rattle.pma_store.specs.ItemsMade.{CountsAsFound, IsAsFound, MakesItem}
+use Rattle.pma_store.specs.ItemEffects.{SumsItem, found_at}
+use Rattle.pma_store.specs.StoreView.{limit_of}
 use Rattle.pma_store.specs.Updating.{FitsFormat, update_of}
 use Rattle.pma_store.proofs.FoundItems.{all_tallies, next_tallies, none_tallies, tally_item}
 use Rattle.pma_store.proofs.ItemsApplied.{fits_format}

@@ -1,6 +1,6 @@
 use Rattle.std.specs.Prelude.{sum}
 use Rattle.density_rule.specs.Bounds.{upper_of}
-use Rattle.pma_store.specs.Store.{limit_of}
+use Rattle.pma_store.specs.StoreView.{limit_of}
 use Rattle.pma_store.proofs.FoundItems.{TalliesFirst}
 use Rattle.pma_store.proofs.ItemsMade.{HasMade}
 use Rattle.pma_store.proofs.Sums.{SumsFirst}

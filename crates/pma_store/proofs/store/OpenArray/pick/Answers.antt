@@ -3,7 +3,7 @@ use Rattle.std.specs.Prelude.{sum}
 use Rattle.density_rule.specs.Bounds.{upper_of}
 use Rattle.window_tally.specs.Choice.{pick_of}
 use Rattle.pma_store.specs.Readying.{broken_in}
-use Rattle.pma_store.specs.Store.{StoreView}
+use Rattle.pma_store.specs.StoreView.{StoreView}
 use Rattle.pma_store.proofs.Picks.{broken_is, fewer}
 use Rattle.pma_store.proofs.store.OpenArray.pick.Goals as goal
 

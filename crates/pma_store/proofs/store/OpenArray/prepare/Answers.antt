@@ -10,7 +10,7 @@ use Rattle.std.proofs.lemmas.Grind.{common_steps}
 use Rattle.window_tally.specs.declared.Pick.TheVariants.{Fits, Spread, Grow, Shrink, AtLimit}
 use Rattle.window_tally.specs.declared.Change.TheVariants.{Add}
 use Rattle.pma_store.specs.Locations.{IsOwn}
-use Rattle.pma_store.specs.Store.{StoreView, Stands, limit_of}
+use Rattle.pma_store.specs.StoreView.{StoreView, Stands, limit_of}
 use Rattle.pma_store.specs.Updating.{update_of}
 use Rattle.pma_store.proofs.Changes.{finds_again}
 use Rattle.pma_store.proofs.Outcomes.{records_are, rows_len}
@@ -25,7 +25,7 @@ use Rattle.pma_store.proofs.Touching.{place_before}
 use Rattle.pma_store.proofs.store.OpenArray.prepare.Goals as goal
 use Rattle.pma_store.proofs.Damages.{asked_first, on_err_too}
 use Rattle.pma_store.specs.Readying.{broken_in, ready_cost, resizes, KeepsStore}
-use Rattle.pma_store.specs.Calling.{again_calls, ready_calls}
+use Rattle.pma_store.specs.UpdateCalls.{again_calls, ready_calls}
 use Rattle.pma_store.proofs.store.OpenArray.prepare.Goals.{After-make_ready}
 
 stands : (g : _) (c : After-make_ready g) → Told (g.S.Station.view c.args.station.now) → Stands c.args.self.now (g.S.Station.view c.args.station.now).held

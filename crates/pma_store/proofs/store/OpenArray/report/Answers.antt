@@ -3,7 +3,7 @@ use Rattle.density_rule.specs.declared.Window.{Window}
 use Rattle.density_rule.specs.Windows.{IsWindow}
 use Rattle.density_rule.proofs.Places.{over_in_store}
 use Rattle.window_tally.specs.Choice.{IsPossible}
-use Rattle.pma_store.specs.Store.{StoreView}
+use Rattle.pma_store.specs.StoreView.{StoreView}
 use Rattle.pma_store.proofs.Picks.{spread_within}
 use Rattle.pma_store.proofs.store.OpenArray.report.Goals as goal
 

@@ -10,10 +10,10 @@ use Rattle.header_gate.specs.InPlace.{IsBare}
 use Rattle.map_model.specs.Array.{Array, resized}
 use Rattle.map_model.specs.Image.{array_of}
 use Rattle.segment.specs.declared.fault.StoreFault.TheVariants.{Failed}
-use Rattle.pma_store.specs.Calling.{clear_calls, copying_calls}
+use Rattle.pma_store.specs.UpdateCalls.{clear_calls, copying_calls}
 use Rattle.pma_store.specs.Damaging.{IsMetAmong}
 use Rattle.pma_store.specs.Readying.{KeepsStore, clear_cost, copying_cost}
-use Rattle.pma_store.specs.Store.{StoreView}
+use Rattle.pma_store.specs.StoreView.{StoreView}
 use Rattle.pma_store.proofs.Clearing.{place_cleared}
 use Rattle.pma_store.proofs.Making.{keeps_behind, keeps_within}
 use Rattle.pma_store.proofs.store.OpenArray.shrink.Goals as goal

@@ -6,18 +6,18 @@ use Rattle.segment.specs.declared.fault.StoreFault.TheVariants.{Failed}
 use Rattle.redistribute.proofs.SpreadLaws.{window_inside, length-leaves}
 use Rattle.header_gate.specs.declared.layout.Layout.{Layout}
 use Rattle.segment_frames.specs.Lists.{most_segments}
-use Rattle.segment_frames.specs.Parts.{parts}
-use Rattle.pma_store.specs.Calling.{spread_calls}
+use Rattle.segment_frames.specs.SegmentParts.{parts}
+use Rattle.pma_store.specs.UpdateCalls.{spread_calls}
 use Rattle.pma_store.specs.Damaging.{IsMetMoving}
 use Rattle.pma_store.specs.Looking.{TellsOther}
 use Rattle.std.proofs.lemmas.Result.{IfErr-weaker}
 use Rattle.station.proofs.Composition.{told_back}
 use Rattle.density_rule.specs.Windows.{IsWindow, IsBalanced}
 use Rattle.density_rule.proofs.Places.{window_end}
-use Rattle.window_tally.specs.View.{TallyView}
-use Rattle.pma_store.specs.Inside.{view_of}
+use Rattle.window_tally.specs.TallyView.{TallyView}
+use Rattle.pma_store.specs.StoreFields.{view_of}
 use Rattle.pma_store.specs.Readying.{spread_cost}
-use Rattle.pma_store.specs.Store.{StoreView, IsStore, StandsOn, limit_of}
+use Rattle.pma_store.specs.StoreView.{StoreView, IsStore, StandsOn, limit_of}
 use Rattle.pma_store.specs.Touching.{IsPlaceAfter}
 use Rattle.pma_store.proofs.Balancing.{one_power, spread_balances}
 use Rattle.pma_store.proofs.ReadyStores.{rebalance_keeps, rebalance_moving, moving_tells, kept_store, spread_store, spread_tally, either, stands_spread, all_five}

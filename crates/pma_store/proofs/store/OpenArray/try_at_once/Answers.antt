@@ -15,13 +15,13 @@ use Rattle.pma_store.specs.declared.batch.Attempt.{Attempt}
 use Rattle.pma_store.specs.declared.batch.Attempt.TheVariants.{Validated}
 use Rattle.pma_store.specs.AtOnce.{TriesOnce}
 use Rattle.pma_store.specs.BatchCalls.{CallsBatch}
-use Rattle.pma_store.specs.Calling.{runs_calls}
+use Rattle.pma_store.specs.UpdateCalls.{runs_calls}
 use Rattle.pma_store.specs.Batching.{AppliesBatch, done_by, version_of}
-use Rattle.pma_store.specs.Inside.{view_of}
-use Rattle.pma_store.specs.Validating.{ValidatesItems, counts_of, edits_of, validated_of, there_in}
+use Rattle.pma_store.specs.StoreFields.{view_of}
+use Rattle.pma_store.specs.ItemEffects.{ValidatesItems, counts_of, edits_of, validated_of, there_in}
 use Rattle.pma_store.specs.Looked.{BelongThere, HasLooked}
 use Rattle.pma_store.specs.Once.{AreUsed}
-use Rattle.pma_store.specs.Store.{StoreView, IsOpenOn, limit_of}
+use Rattle.pma_store.specs.StoreView.{StoreView, IsOpenOn, limit_of}
 use Rattle.redo_journal.specs.Neighbours.{run_count}
 use Rattle.redo_journal.specs.Rest.{RestsAt}
 use Rattle.pma_store.proofs.AppliedOnce.{committed, not_committed, once_looked}

@@ -10,12 +10,12 @@ use Rattle.header_gate.specs.Places.{height_limit}
 use Rattle.map_model.specs.Holding.{HoldsMap}
 use Rattle.map_model.specs.Image.{array_of}
 use Rattle.window_tally.specs.declared.Change.{Change}
-use Rattle.window_tally.specs.View.{TallyView}
-use Rattle.pma_store.specs.Counting.{counted}
-use Rattle.pma_store.specs.Calling.{commit_calls}
+use Rattle.window_tally.specs.TallyView.{TallyView}
+use Rattle.pma_store.specs.SegmentCounts.{counted}
+use Rattle.pma_store.specs.UpdateCalls.{commit_calls}
 use Rattle.pma_store.specs.Rewrites.{Rewrites, rewritten, commit_cost}
-use Rattle.pma_store.specs.Store.{StoreView, Stands, limit_of}
-use Rattle.pma_store.specs.Inside.{view_of}
+use Rattle.pma_store.specs.StoreView.{StoreView, Stands, limit_of}
+use Rattle.pma_store.specs.StoreFields.{view_of}
 use Rattle.redo_journal.specs.Rest.{RestsAt}
 use Rattle.redo_journal.proofs.Live.{rests_settled}
 use Rattle.pma_store.proofs.Resting.{each_rest, turned}

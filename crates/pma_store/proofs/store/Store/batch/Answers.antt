@@ -1,5 +1,5 @@
 use Rattle.std.proofs.Common.{inl, inr, ap, ◌∙◌}
-use Rattle.pma_store.specs.Store.{StoreView}
+use Rattle.pma_store.specs.StoreView.{StoreView}
 use Rattle.pma_store.specs.declared.store.Store.TheInside.{Inside}
 use Rattle.pma_store.proofs.Meeting.{mid_as}
 use Rattle.pma_store.proofs.store.Store.batch.Goals as goal

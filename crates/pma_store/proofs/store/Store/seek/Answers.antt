@@ -3,12 +3,12 @@ use Rattle.station.specs.View.{Told}
 use Rattle.key_slot.specs.Record.{Bytes}
 use Rattle.key_slot.specs.declared.row.Row.{Row}
 use Rattle.map_model.specs.Image.{array_of}
-use Rattle.range_scan.specs.Seeking.{ReadsNear, later}
+use Rattle.range_scan.specs.SeekReads.{ReadsNear, later}
 use Rattle.segment.specs.declared.fault.StoreFault.{StoreFault}
 use Rattle.header_gate.specs.InPlace.{IsRecovered}
-use Rattle.pma_store.specs.Seeking.{kept_region}
-use Rattle.pma_store.specs.Store.{StoreView, Stands}
-use Rattle.pma_store.specs.Inside.{view_of}
+use Rattle.pma_store.specs.StoreSeeks.{kept_region}
+use Rattle.pma_store.specs.StoreView.{StoreView, Stands}
+use Rattle.pma_store.specs.StoreFields.{view_of}
 use Rattle.pma_store.specs.declared.store.Store.TheInside.{Inside}
 use Rattle.pma_store.proofs.Making.{kept_open, opens_on, stands_there}
 use Rattle.pma_store.proofs.Standing.{rows_ascend, within_region}

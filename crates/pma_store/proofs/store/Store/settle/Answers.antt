@@ -1,6 +1,6 @@
 use Rattle.std.proofs.Common.{◌≡◌, Bool, true, false, Ok, Err, sym, ap, subst, ◌∙◌}
 use Rattle.pma_store.specs.Settling.{SettlesStore}
-use Rattle.pma_store.specs.Store.{StoreView, IsOpenOn}
+use Rattle.pma_store.specs.StoreView.{StoreView, IsOpenOn}
 use Rattle.pma_store.specs.declared.store.Store.TheInside.{Inside}
 use Rattle.pma_store.proofs.Settled.{open_by, settled_by}
 use Rattle.pma_store.proofs.store.Store.settle.Goals as goal

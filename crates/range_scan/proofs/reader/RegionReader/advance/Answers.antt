@@ -1,7 +1,7 @@
 use Rattle.std.proofs.Common.{◌-◌, List, length, Option, Some, sym, ap, ◌∙◌}
 use Rattle.key_slot.specs.Record.{Bytes, Record}
 use Rattle.segment.specs.Rows.{key_at}
-use Rattle.range_scan.specs.ReaderView.{ReaderView}
+use Rattle.range_scan.specs.RegionReaderView.{ReaderView}
 use Rattle.range_scan.proofs.Pages.{last_some}
 use Rattle.range_scan.proofs.reader.RegionReader.advance.Goals as goal
 

@@ -3,7 +3,7 @@ use mathlib.Core.Bool.{true≢false}
 use Rattle.key_slot.specs.Record.{Bytes, Record}
 use Rattle.key_slot.specs.Segment.{FitsSegment}
 use Rattle.segment.specs.Rows.{key_at}
-use Rattle.range_scan.specs.ReaderView.{ReaderView}
+use Rattle.range_scan.specs.RegionReaderView.{ReaderView}
 use Rattle.range_scan.specs.Running.{read_for}
 use Rattle.range_scan.proofs.Pages.{last_some}
 use Rattle.range_scan.proofs.reader.RegionReader.next_of_run.Goals as goal

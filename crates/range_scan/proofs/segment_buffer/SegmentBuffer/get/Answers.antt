@@ -9,7 +9,7 @@ use Rattle.key_slot.specs.Segment.{segment_of}
 use Rattle.segment.specs.Rows.{value_of}
 use Rattle.segment.specs.Validated.{damage_of}
 use Rattle.station.specs.View.{Told}
-use Rattle.range_scan.specs.Reading.{page_in}
+use Rattle.range_scan.specs.RegionReading.{page_in}
 use Rattle.range_scan.proofs.Held.{found_fits}
 use Rattle.range_scan.proofs.segment_buffer.SegmentBuffer.get.Goals as goal
 

@@ -3,7 +3,7 @@ use Rattle.std.proofs.Common.{◌≡◌, ℕ, length, ap, sym, ◌∙◌}
 use Rattle.key_slot.proofs.SegmentLaws.{segment_rows}
 use Rattle.segment.specs.declared.fault.Damage.TheVariants.{OtherCount}
 use Rattle.segment.specs.declared.fault.StoreFault.TheVariants.{Damaged}
-use Rattle.range_scan.specs.Reading.{page_in}
+use Rattle.range_scan.specs.RegionReading.{page_in}
 use Rattle.range_scan.proofs.Held.{damage_none, damage_other, found_other}
 use Rattle.range_scan.proofs.segment_buffer.SegmentBuffer.read.Goals as goal
 

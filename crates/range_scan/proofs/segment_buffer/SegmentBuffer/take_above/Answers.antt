@@ -1,7 +1,7 @@
 -- What follows the last key is sound, and what doesn't is out of order.
 use Rattle.std.proofs.Common.{ap, sym, ◌∙◌}
-use Rattle.map_model.specs.Reasons.{begins_above}
-use Rattle.range_scan.specs.Reading.{page_in}
+use Rattle.map_model.specs.FileReasons.{begins_above}
+use Rattle.range_scan.specs.RegionReading.{page_in}
 use Rattle.range_scan.specs.Running.{first_of}
 use Rattle.range_scan.proofs.Pages.{no_fault, order_fault}
 use Rattle.range_scan.proofs.segment_buffer.SegmentBuffer.take_above.Goals as goal

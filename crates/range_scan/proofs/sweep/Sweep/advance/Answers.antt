@@ -4,9 +4,9 @@ use Rattle.std.specs.List.{list_all}
 use Rattle.key_slot.specs.Record.{Bytes, Record, is_record}
 use Rattle.density_rule.specs.Windows.{count_in}
 use Rattle.key_slot.specs.Segment.{IsSegment, segment_of}
-use Rattle.range_scan.specs.Bounds.{are_before, are_from}
-use Rattle.range_scan.specs.ReaderView.{ReaderView, IsReader}
-use Rattle.range_scan.specs.Reading.{last_behind, page_fault, page_in}
+use Rattle.range_scan.specs.ScanBounds.{are_before, are_from}
+use Rattle.range_scan.specs.RegionReaderView.{ReaderView, IsReader}
+use Rattle.range_scan.specs.RegionReading.{last_behind, page_fault, page_in}
 use Rattle.range_scan.specs.Running.{StepsBy, first_of, pages_in, read_for}
 use Rattle.range_scan.specs.SweepView.{SweepView, IsSweep, validated}
 use Rattle.range_scan.specs.Sweeping.{IsSweeping}

@@ -3,10 +3,9 @@ use Rattle.std.specs.Prelude.{drop}
 use Rattle.std.specs.Option.{option_map}
 use Rattle.std.specs.Ordering.{is_lt}
 use Rattle.key_slot.specs.Record.{Bytes, Record}
-use Rattle.map_model.specs.Scan.{is_below}
+use Rattle.range_scan.specs.ScanBounds.{is_below, begins_below}
 use Rattle.segment.specs.Rows.{key_at}
 use Rattle.segment.proofs.Slots.{some_record}
-use Rattle.range_scan.specs.Bounds.{begins_below}
 use Rattle.range_scan.specs.SweepView.{SweepView}
 use Rattle.range_scan.proofs.Inside.{begins_at, begins_anyway, hand_by}
 use Rattle.range_scan.proofs.sweep.Sweep.is_at_hand.Goals as goal

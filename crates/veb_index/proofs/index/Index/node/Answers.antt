@@ -1,6 +1,6 @@
 use Rattle.std.proofs.Common.{ℕ, ◌-◌, ◌^◌, ◌<◌, [], sym, ap, subst, ◌∙◌, arith}
 use Rattle.std.proofs.lemmas.List.{get_or_read, get_or-take}
-use Rattle.veb_index.specs.View.{IndexView, fence_at}
+use Rattle.veb_index.specs.IndexView.{IndexView, fence_at}
 use Rattle.veb_index.proofs.Setting.{nodes_fit}
 use Rattle.veb_index.proofs.index.Index.node.Goals as goal
 use Rattle.veb_index.proofs.index.Index.node.Goals.{After-index}

@@ -1,6 +1,6 @@
 use Rattle.std.proofs.Common.{ℕ, ◌-◌, ◌^◌, ◌<◌, length, sym, ap, subst, ◌∙◌, arith}
 use Rattle.std.proofs.lemmas.List.{length-set}
-use Rattle.veb_index.specs.View.{IndexView, fence_at}
+use Rattle.veb_index.specs.IndexView.{IndexView, fence_at}
 use Rattle.veb_index.proofs.Fronts.{set_front}
 use Rattle.veb_index.proofs.Setting.{nodes_fit}
 use Rattle.veb_index.proofs.Positions.{node_here, node_there}
