@@ -15,7 +15,7 @@ const NARROW: u32 = 1;
 
 const WIDE: u32 = 2;
 
-// The `put` of a key and a value, where they are of some size.
+/// The `put` of a key and a value, if a slot has room for them.
 pub fn put(key: &[u8], value: &[u8]) -> Command {
     match (Key::from_bytes(key), Value::from_bytes(value)) {
         (Ok(key), Ok(value)) => Command::Put(key, value),
@@ -23,7 +23,7 @@ pub fn put(key: &[u8], value: &[u8]) -> Command {
     }
 }
 
-// The `get` of a key of some size.
+/// The `get` of a key, if a slot has room for it.
 pub fn get(key: &[u8]) -> Command {
     match Key::from_bytes(key) {
         Ok(key) => Command::Get(key),
