@@ -1,7 +1,7 @@
 -- Files with an intent: what they mean, and what keeps it.
 use Rattle.std.proofs.Common.{◌≡◌, ◌⊎◌, inl, inr, T, ℕ, zero, suc, ◌+◌, ◌%◌, ◌<◌, ◌≤◌, ◌==◌, ◌&&◌, nat_le, Bool, true, false, cond, List, [], length, take, refl, sym, ap, subst, ◌∙◌, arith}
 use mathlib.Core.Bool.{true≢false}
-use Rattle.std.specs.List.{list_all}
+use Rattle.std.specs.List.{list_all, list_any}
 use Rattle.std.proofs.lemmas.Bool.{eqb-true}
 use Rattle.std.proofs.lemmas.Bool.Decides.{nat_tests}
 use Rattle.station.specs.Bytes.{byte, Touched}
@@ -12,13 +12,14 @@ use Rattle.header_gate.specs.Header.{number, layout_in, intent_gate}
 use Rattle.header_gate.proofs.NumberLaws.{number_same}
 use Rattle.header_gate.specs.Places.{height_limit}
 use Rattle.map_model.specs.Store.{Map, State, Update}
-use Rattle.map_model.specs.Items.{state_after_items}
+use Rattle.map_model.specs.Items.{state_after_items, effects_of, is_full}
 use Rattle.map_model.specs.After.{map_after_items}
 use Rattle.map_model.specs.ItemWords.{AreAdmitted}
 use Rattle.map_model.specs.Image.{Represents, RepresentsMap, height_of, slot_format}
 use Rattle.map_model.specs.Batches.{IsUnnamed}
 use Rattle.map_model.proofs.Unnamed.{unnamed_represents, layout_same, format_same}
 use Rattle.map_model.proofs.Recovering.{determined}
+use Rattle.map_model.proofs.ItemEffects.{none_finds_full}
 use Rattle.map_model.proofs.Resuming.{resumed_same, resumed_admitted, map_of_items}
 use Rattle.batch_intent.specs.Spelling.{IsIntent, Spells, items_in, fits_item}
 use Rattle.batch_intent.specs.Gate.{IsIntentPlace, IsIntentGatePlace, has_intent, intent_area, Intends}
@@ -104,7 +105,7 @@ means_waiting image base height items is some spells admitted =
       represents = is;
       idle = λ none. absurd (true≢false (sym some ∙ none));
       form = λ _. spells;
-      admitted = admitted;
+      admitted = none_finds_full (height_limit (layout_in image)) base items admitted;
       begins = state_after_items (height_limit (layout_in image)) (record { map = base; height = height }) items;
       begins_is = refl;
       map_is = map_of_items (height_limit (layout_in image)) (record { map = base; height = height }) items;
@@ -121,7 +122,7 @@ in_layout {k} {l} image m same means =
       represents = means.represents;
       idle = λ none. means.idle (ap (λ (j : Layout). has_intent j image) same ∙ none);
       form = λ some. subst (λ (j : Layout). Spells j.format means.items (intent_area image)) same (means.form (ap (λ (j : Layout). has_intent j image) same ∙ some));
-      admitted = subst (λ (j : Layout). AreAdmitted (height_limit j) means.base means.items) same means.admitted;
+      admitted = subst (λ (j : Layout). list_any is_full (effects_of (height_limit j) means.base means.items) ≡ false) same means.admitted;
       begins = means.begins;
       begins_is = sym (ap (λ (j : Layout). state_after_items (height_limit j) (record { map = means.base; height = means.height }) means.items) same) ∙ means.begins_is;
       map_is = means.map_is;

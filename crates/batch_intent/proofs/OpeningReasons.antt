@@ -12,6 +12,7 @@ use Rattle.map_model.specs.ItemWords.{AreAdmitted}
 use Rattle.map_model.specs.Image.{Represents, map_of, height_of, slot_format}
 use Rattle.map_model.specs.FileReasons.{reason_of}
 use Rattle.map_model.proofs.Reasonings.{represents_of_none, none_of_represents}
+use Rattle.map_model.proofs.ItemEffects.{admitted_where_none}
 use Rattle.map_model.proofs.Recovering.{determined}
 use Rattle.batch_intent.specs.Spelling.{items_in}
 use Rattle.batch_intent.specs.IntentReasons.{wrong_place}
@@ -69,7 +70,8 @@ module _ (image : List ℕ) where
   unfolding opening_reason
   none_own m means =
       let own = determined image means.base means.height means.represents in
-      let admitted = (λ t. first_full (height_limit (layout_in image)) (sym own.0 t) (sym (items_are image m means) t)) ∙ means.admitted in
+      let admitted = (λ t. first_full (height_limit (layout_in image)) (sym own.0 t) (sym (items_are image m means) t))
+      ∙ admitted_where_none (height_limit (layout_in image)) means.base means.items means.admitted in
       both_none (reason_of image) (or_else (form_reason (layout_in image) image) (fullness_reason image)) (none_of_represents image means.base means.height means.represents)
       (both_none (form_reason (layout_in image) image) (fullness_reason image) (form_none m means (has_waiting image) refl) (ap (full_reason (intent_area image)) admitted))
 

@@ -15,11 +15,11 @@ use Rattle.batch_intent.specs.IntentReasons.{wrong_place}
 
 -- the place of its gate
 abbrev pub IsIntentGatePlace : ℕ → Type 0
-IsIntentGatePlace k = IsPlaceOf gates.Intent k
+IsIntentGatePlace i = IsPlaceOf gates.Intent i
 
 -- a place of the intent or its gate
 abbrev pub IsIntentPlace : ℕ → Type 0
-IsIntentPlace k = InRange INTENT INTENT_SIZE k ⊎ IsIntentGatePlace k
+IsIntentPlace i = InRange INTENT INTENT_SIZE i ⊎ IsIntentGatePlace i
 
 -- whether a file of a layout has an intent that is to be applied: its version has intents, and the gate is odd
 abbrev pub has_intent : Layout → List ℕ → Bool
@@ -27,11 +27,11 @@ has_intent layout file = nat_le INTENT_VERSION layout.version && (intent_gate fi
 
 -- the bytes of the intent
 unfoldable pub intent_area : List ℕ → List ℕ
-intent_area file = map (λ k. byte file (INTENT + k)) (range_with_len 0 INTENT_SIZE)
+intent_area file = map (λ i. byte file (INTENT + i)) (range_with_len 0 INTENT_SIZE)
 
 -- the spelling of the items stands in the intent
 pub record HoldsItems (items : List Update) (file : List ℕ) : Type 0 where
-  pub spelled : (k : ℕ) → k < length (intent_bytes items) → byte file (INTENT + k) ≡ byte (intent_bytes items) k
+  pub spelled : (i : ℕ) → i < length (intent_bytes items) → byte file (INTENT + i) ≡ byte (intent_bytes items) i
 
 -- What the writing of an intent may leave: intent and gate alone are touched. If the gate was even and is odd, the intent
 -- is that of the items.

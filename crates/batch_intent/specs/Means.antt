@@ -1,5 +1,6 @@
 -- What a file means: the map that it represents, with the items that wait in its intent made.
 use Rattle.std.specs.Prelude.{◌≡◌, ℕ, ◌+◌, if◌then◌else◌, Bool, true, false, List, [], take, Option, Some, None}
+use Rattle.std.specs.List.{list_any}
 use Rattle.station.specs.Bytes.{byte, InRange}
 use Rattle.batch_intent.specs.declared.places.TheConstants.{INTENT, INTENT_SIZE}
 use Rattle.header_gate.specs.declared.layout.Layout.{Layout}
@@ -10,7 +11,7 @@ use Rattle.header_gate.specs.Header.{intent_gate, layout_in}
 use Rattle.header_gate.specs.Places.{height_limit}
 use Rattle.header_gate.specs.Reasons.{or_else}
 use Rattle.map_model.specs.Store.{Map, State, Update}
-use Rattle.map_model.specs.Items.{state_after_items, first_full}
+use Rattle.map_model.specs.Items.{state_after_items, effects_of, is_full, first_full}
 use Rattle.map_model.specs.After.{map_after_items}
 use Rattle.map_model.specs.Image.{Represents, RepresentsMap, slot_format, map_of}
 use Rattle.map_model.specs.ArrayState.{ArrayState, opened_state, next_states}
@@ -37,7 +38,7 @@ pub record Means (l : Layout) (image : List ℕ) (m : Map) : Type 0 where
   pub represents : Represents image base height
   pub idle : has_intent l image ≡ false → items ≡ []
   pub form : has_intent l image ≡ true → Spells l.format items (intent_area image)
-  pub admitted : first_full (height_limit l) base items ≡ None
+  pub admitted : list_any is_full (effects_of (height_limit l) base items) ≡ false
   pub begins : State
   pub begins_is : state_after_items (height_limit l) (record { map = base; height = height }) items ≡ begins
   pub map_is : begins.map ≡ m
@@ -69,20 +70,20 @@ opening_reason image = or_else (reason_of image) (or_else (form_reason (layout_i
 pub record KeepsIntent (old new : List ℕ) : Type 0 where
   pub layout_is : layout_in new ≡ layout_in old
   pub gate_is : intent_gate new ≡ intent_gate old
-  pub same : (k : ℕ) → InRange INTENT INTENT_SIZE k → byte new k ≡ byte old k
+  pub same : (i : ℕ) → InRange INTENT INTENT_SIZE i → byte new i ≡ byte old i
 
 -- a place at which nothing stands that says which items wait, but for the slot format: none of identity, intent
 -- and its gate. All that an update of one key may touch is such.
-pub record IsApart (k : ℕ) : Type 0 where
-  pub identity : InRange IDENTITY 20 k → ⊥
-  pub intent : IsIntentPlace k → ⊥
+pub record IsApart (i : ℕ) : Type 0 where
+  pub identity : InRange IDENTITY 20 i → ⊥
+  pub intent : IsIntentPlace i → ⊥
 
--- k of the items were made: the image represents the map after them, and all of them still wait
-pub record InBatch (layout : Layout) (base : Map) (items : List Update) (k : ℕ) (image : List ℕ) : Type 0 where
+-- so many of the items were made: the image represents the map after them, and all of them still wait
+pub record InBatch (layout : Layout) (base : Map) (items : List Update) (made : ℕ) (image : List ℕ) : Type 0 where
   pub some : has_waiting image ≡ true
   pub layout_is : layout_in image ≡ layout
   pub spells : Spells (slot_format image) items (intent_area image)
-  pub represents : RepresentsMap image (map_after_items (height_limit layout) base (take k items))
+  pub represents : RepresentsMap image (map_after_items (height_limit layout) base (take made items))
 
 -- the map after all items
 abbrev pub map_after_all : Layout → Map → List Update → Map

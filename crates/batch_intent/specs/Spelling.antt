@@ -40,7 +40,7 @@ pub record Spells (format : ℕ) (items : List Update) (bytes : List ℕ) : Type
   pub some : 1 ≤ length items
   pub intent : IsIntent items
   pub fit : T (list_all (fits_item format) items)
-  pub spelled : (k : ℕ) → k < length (intent_bytes items) → byte bytes k ≡ byte (intent_bytes items) k
+  pub spelled : (i : ℕ) → i < length (intent_bytes items) → byte bytes i ≡ byte (intent_bytes items) i
 
 -- How bytes are read.
 

@@ -11,7 +11,6 @@ mod item;
 mod laws;
 mod places;
 mod reading;
-mod sizes;
 mod spelling;
 mod validating;
 
@@ -24,4 +23,3 @@ pub use laws::{
 };
 pub use places::{INTENT, INTENT_SIZE};
 pub use reading::read_intent;
-pub use sizes::{key_room, value_room};

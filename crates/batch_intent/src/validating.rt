@@ -11,8 +11,8 @@ ghost use Rattle.batch_intent.specs.IntentReasons.{is_item, wrong_place};
 
 use crate::intent::{Intent, MOST_ITEMS};
 use crate::places::INTENT_SIZE;
-use crate::sizes::{key_room, value_room};
 use crate::spelling::{HEAD, PUT, REMOVE, item_at, place_behind};
+use key_slot::{key_room, value_room};
 
 // The intent that the bytes hold, or the place of the first thing in them that is wrong: their number of items, at place 0,
 // or an item.
@@ -69,6 +69,7 @@ fn stands_at(bytes: &[u8; INTENT_SIZE], p: usize, format: u32) -> bool
     if bytes[p] != PUT && (bytes[p] != REMOVE || value_len != 0) {
         return false;
     }
+    let format = format as usize;
     if key_len == 0 || key_len > key_room(format) || value_len > value_room(format) {
         return false;
     }

@@ -18,7 +18,7 @@ abbrev pub halvings : ℕ → ℕ → ℕ
 halvings zero n = 0
 halvings (suc tries) n = let more = halvings tries (n / 2) in if nat_le n 1 then 0 else suc more
 
--- the logarithm to base 2 of a number from 1 on, rounded down: the greatest k with 2^k at most n
+-- the logarithm to base 2 of a number from 1 on, rounded down: the greatest e with 2^e at most n
 unfoldable pub floor_log2 : ℕ → ℕ
 floor_log2 n = halvings n n
 

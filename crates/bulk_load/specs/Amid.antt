@@ -113,7 +113,7 @@ IsOverKept place s fault = Unit {0}
 pub record CopiesUnder {X : Type 0} (place : Place) (key : Option Bytes) (result : Result X LoadFault) (old new : MergeRun) (f g : Batch) (a b : View) : Type 0 where
   pub amid : OnOk result (IsAmid place new g b)
   pub stops : OnOk result (StopsAt key new.ahead)
-  pub upto : OnOk result (IfSome key (λ k. begins_above new.taken.last ((k, []) ∷ []) ≡ true))
+  pub upto : OnOk result (IfSome key (λ least. begins_above new.taken.last ((least, []) ∷ []) ≡ true))
   pub taken : OnOk result (Told a → (rows : List Record) → IsTaken place.layout old.taken f rows →
       IsTaken place.layout new.taken g (rows ++ under key (left_in (array_of a.held) old.ahead)))
   pub packed : OnOk result (Told a → (rows : List Record) → IsTaken place.layout old.taken f rows →
@@ -198,16 +198,17 @@ pub record HasEdits (edits : List Update) (s : MergeRun) : Type 0 where
   pub keys : HasKeys edits s
   pub binds : s.found.stored + s.found.replaced ≡ binds_in edits
 
--- Line k was taken: what comes of it by itself, whatever the store has. No text has `2^32` updates, so none is one too many.
-pub record MergesAlone (k : ℕ) (edits : List Update) (ended : Bool) (line : MergeLine) (s : MergeRun) : Type 0 where
+-- The line of this number was taken: what comes of it by itself, whatever the store has. No text has `2^32` updates, so none is
+-- one too many.
+pub record MergesAlone (number : ℕ) (edits : List Update) (ended : Bool) (line : MergeLine) (s : MergeRun) : Type 0 where
   pub now : List Update
-  pub after : after_merge_line (2 ^ 32) [] k edits ended line ≡ reads now s.taken.ended
+  pub after : after_merge_line (2 ^ 32) [] number edits ended line ≡ reads now s.taken.ended
   pub has : HasEdits now s
 
 -- more records than may be come of the line by itself, if each of those that are kept stays
-pub record IsOverAlone (most kept k : ℕ) (edits : List Update) (ended : Bool) (line : MergeLine) : Type 0 where
+pub record IsOverAlone (most kept number : ℕ) (edits : List Update) (ended : Bool) (line : MergeLine) : Type 0 where
   pub now : List Update
-  pub after : after_merge_line (2 ^ 32) [] k edits ended line ≡ reads now false
+  pub after : after_merge_line (2 ^ 32) [] number edits ended line ≡ reads now false
   pub many : most < kept + binds_in now
 
 -- no call is made for a line that is refused
@@ -217,29 +218,29 @@ StaysAtLine a b fault = Unit {0}
 
 -- a line that is refused is wrong by itself, and of one that fills the store too many records may come
 abbrev pub IsDueAlone : ℕ → ℕ → ℕ → List Update → Bool → MergeLine → LoadFault → Type 0
-IsDueAlone most kept k edits ended line (fault.Line n) = after_merge_line (2 ^ 32) [] k edits ended line ≡ wrong n
-IsDueAlone most kept k edits ended line (fault.Full n) = IsOverAlone most kept k edits ended line
-IsDueAlone most kept k edits ended line fault = Unit {0}
+IsDueAlone most kept number edits ended line (fault.Line n) = after_merge_line (2 ^ 32) [] number edits ended line ≡ wrong n
+IsDueAlone most kept number edits ended line (fault.Full n) = IsOverAlone most kept number edits ended line
+IsDueAlone most kept number edits ended line fault = Unit {0}
 
--- line k was taken: what comes of it
-pub record MergesLine (place : Place) (k : ℕ) (m : Map) (edits : List Update) (ended : Bool) (line : MergeLine) (s : MergeRun) (b : Batch) (v : View) : Type 0 where
+-- the line of this number was taken: what comes of it
+pub record MergesLine (place : Place) (number : ℕ) (m : Map) (edits : List Update) (ended : Bool) (line : MergeLine) (s : MergeRun) (b : Batch) (v : View) : Type 0 where
   pub now : List Update
-  pub after : after_merge_line (most_records place.layout) (entries m) k edits ended line ≡ reads now s.taken.ended
+  pub after : after_merge_line (most_records place.layout) (entries m) number edits ended line ≡ reads now s.taken.ended
   pub merged : HasMerged place m now s b v
 
--- The outcome of the taking of line k.
-pub record TakesUpdate {X : Type 0} (place : Place) (k : ℕ) (line : MergeLine) (result : Result X LoadFault) (old new : MergeRun) (f g : Batch) (a b : View) : Type 0 where
+-- The outcome of the taking of the line of this number.
+pub record TakesUpdate {X : Type 0} (place : Place) (number : ℕ) (line : MergeLine) (result : Result X LoadFault) (old new : MergeRun) (f g : Batch) (a b : View) : Type 0 where
   pub between : OnOk result (IsBetween place new g b)
   pub takes : OnOk result (Told a → (m : Map) (edits : List Update) → HasMerged place m edits old f a →
-      MergesLine place k m edits old.taken.ended line new g b)
+      MergesLine place number m edits old.taken.ended line new g b)
   pub faulty : IfErr result (λ fault. Told a → (m : Map) (edits : List Update) → HasMerged place m edits old f a →
       IsUpdateFault (most_records place.layout) (after_merge_line (most_records place.layout)
-      (entries m) k edits old.taken.ended line) fault)
+      (entries m) number edits old.taken.ended line) fault)
   pub stops : IfErr result (MayStop (most_records place.layout))
   -- the same by itself, on any station
-  pub alone : OnOk result ((edits : List Update) → HasEdits edits old → MergesAlone k edits old.taken.ended line new)
+  pub alone : OnOk result ((edits : List Update) → HasEdits edits old → MergesAlone number edits old.taken.ended line new)
   pub due : IfErr result (λ fault. (edits : List Update) → HasEdits edits old →
-      IsDueAlone (most_records place.layout) (sum old.ahead.tally.now.counts) k edits old.taken.ended line fault)
+      IsDueAlone (most_records place.layout) (sum old.ahead.tally.now.counts) number edits old.taken.ended line fault)
   pub stays : IfErr result (StaysAtLine a b)
   pub tally : new.ahead.tally.now ≡ old.ahead.tally.now
   pub goes : OnOk result (Goes place old.taken.written new.taken.written old.ahead.reader.next new.ahead.reader.next f g a b)

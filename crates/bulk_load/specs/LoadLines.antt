@@ -18,31 +18,31 @@ pub data Loading : Type 0 where
   -- a record follows as many as may be
   full : Loading
 
--- a record behind these, in line k
+-- a record behind these, in the line of this number
 abbrev pub after_record : ℕ → ℕ → List Record → Record → Loading
-after_record most k rows r =
-    if not (begins_above (last_key rows) (r ∷ [])) then wrong k
+after_record most number rows r =
+    if not (begins_above (last_key rows) (r ∷ [])) then wrong number
     else (if length rows == most then full else reads (rows ++ r ∷ []) false)
 
--- line k
+-- the line of this number
 abbrev pub after_line : ℕ → ℕ → List Record → Bool → LoadLine → Loading
-after_line most k rows ended Nothing = reads rows ended
-after_line most k rows true (Row row) = wrong k
-after_line most k rows false (Row row) = after_record most k rows (record_of row)
-after_line most k rows true (End n) = wrong k
-after_line most k rows false (End n) = if n == length rows then reads rows true else wrong k
-after_line most k rows ended Bad = wrong k
+after_line most number rows ended Nothing = reads rows ended
+after_line most number rows true (Row row) = wrong number
+after_line most number rows false (Row row) = after_record most number rows (record_of row)
+after_line most number rows true (End n) = wrong number
+after_line most number rows false (End n) = if n == length rows then reads rows true else wrong number
+after_line most number rows ended Bad = wrong number
 
--- line k, if reading goes on so far
+-- the line of this number, if reading goes on so far
 abbrev pub load_step : ℕ → ℕ → ℕ → Loading → List ℕ → Loading
-load_step format most k (reads rows ended) raw = after_line most k rows ended (load_line_raw format raw)
-load_step format most k (wrong n) raw = wrong n
-load_step format most k full raw = full
+load_step format most number (reads rows ended) raw = after_line most number rows ended (load_line_raw format raw)
+load_step format most number (wrong n) raw = wrong n
+load_step format most number full raw = full
 
--- the lines from line k on
+-- the lines from this number on
 abbrev pub load_from : ℕ → ℕ → ℕ → Loading → List (List ℕ) → Loading
-load_from format most k s [] = s
-load_from format most k s (raw ∷ lines) = load_from format most (k + 1) (load_step format most k s raw) lines
+load_from format most number s [] = s
+load_from format most number s (raw ∷ lines) = load_from format most (number + 1) (load_step format most number s raw) lines
 
 -- what comes of these lines in a store that may hold that many records
 abbrev pub loading : ℕ → ℕ → List (List ℕ) → Loading

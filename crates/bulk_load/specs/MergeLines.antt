@@ -24,33 +24,33 @@ pub data Merging : Type 0 where
 abbrev pub may_follow : List Update → Update → Bool
 may_follow edits u = nat_lt (length edits + 1) (2 ^ 32) && begins_above (last_key (map mark_of edits)) (mark_of u ∷ [])
 
--- an update behind these, in line k, beside these records
+-- an update behind these, in the line of this number, beside these records
 abbrev pub after_edit : ℕ → List Record → ℕ → List Update → Update → Merging
-after_edit most rows k edits u =
-    if not (may_follow edits u) then wrong k
+after_edit most rows number edits u =
+    if not (may_follow edits u) then wrong number
     else (if nat_lt most (length (front_rows (edits ++ u ∷ []) rows)) then full else reads (edits ++ u ∷ []) false)
 
--- line k
+-- the line of this number
 abbrev pub after_merge_line : ℕ → List Record → ℕ → List Update → Bool → MergeLine → Merging
-after_merge_line most rows k edits ended Nothing = reads edits ended
-after_merge_line most rows k edits true (Bind row) = wrong k
-after_merge_line most rows k edits false (Bind row) = after_edit most rows k edits (bind row.key row.value)
-after_merge_line most rows k edits true (Remove key) = wrong k
-after_merge_line most rows k edits false (Remove key) = after_edit most rows k edits (unbind key)
-after_merge_line most rows k edits true (End n) = wrong k
-after_merge_line most rows k edits false (End n) = if n == length edits then reads edits true else wrong k
-after_merge_line most rows k edits ended Bad = wrong k
+after_merge_line most rows number edits ended Nothing = reads edits ended
+after_merge_line most rows number edits true (Bind row) = wrong number
+after_merge_line most rows number edits false (Bind row) = after_edit most rows number edits (bind row.key row.value)
+after_merge_line most rows number edits true (Remove key) = wrong number
+after_merge_line most rows number edits false (Remove key) = after_edit most rows number edits (unbind key)
+after_merge_line most rows number edits true (End n) = wrong number
+after_merge_line most rows number edits false (End n) = if n == length edits then reads edits true else wrong number
+after_merge_line most rows number edits ended Bad = wrong number
 
--- line k, if reading goes on so far
+-- the line of this number, if reading goes on so far
 abbrev pub merge_step : ℕ → ℕ → List Record → ℕ → Merging → List ℕ → Merging
-merge_step format most rows k (reads edits ended) raw = after_merge_line most rows k edits ended (merge_line_raw format raw)
-merge_step format most rows k (wrong n) raw = wrong n
-merge_step format most rows k full raw = full
+merge_step format most rows number (reads edits ended) raw = after_merge_line most rows number edits ended (merge_line_raw format raw)
+merge_step format most rows number (wrong n) raw = wrong n
+merge_step format most rows number full raw = full
 
--- the lines from line k on
+-- the lines from this number on
 abbrev pub merge_from : ℕ → ℕ → List Record → ℕ → Merging → List (List ℕ) → Merging
-merge_from format most rows k s [] = s
-merge_from format most rows k s (raw ∷ lines) = merge_from format most rows (k + 1) (merge_step format most rows k s raw) lines
+merge_from format most rows number s [] = s
+merge_from format most rows number s (raw ∷ lines) = merge_from format most rows (number + 1) (merge_step format most rows number s raw) lines
 
 -- what comes of these lines beside these records, in a store that may hold that many
 abbrev pub merging : ℕ → ℕ → List Record → List (List ℕ) → Merging

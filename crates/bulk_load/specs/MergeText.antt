@@ -86,8 +86,8 @@ map_after_edits m (u ∷ edits) = map_after_edits (map_after_edit m u) edits
 -- how many of them bind a key that the map doesn't have, bind one that it has, remove one that it has, and one that it
 -- doesn't have: since no two have one key, the map before them all decides
 abbrev pub count_from : Map → List Update → ItemCounts → ItemCounts
-count_from m [] c = c
-count_from m (u ∷ edits) c = count_from m edits (effect_count (effect_by (contains_key m (key_of u)) true u) c)
+count_from m [] counts = counts
+count_from m (u ∷ edits) counts = count_from m edits (effect_count (effect_by (contains_key m (key_of u)) true u) counts)
 
 abbrev pub count_edits : Map → List Update → ItemCounts
 count_edits m edits = count_from m edits no_items

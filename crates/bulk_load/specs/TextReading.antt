@@ -57,19 +57,19 @@ pub record IsTaking (l : Layout) (t : Taken) (b : Batch) : Type 0 where
   pub place : HasPlace l t
   pub few : t.records ≤ most_records l
 
--- line k was taken: what comes of it, and that its record is packed
-pub record TakesLine (place : Place) (k : ℕ) (rows : List Record) (line : LoadLine) (old : Taken) (a : station.View) (new : Taken) (b : Batch) (z : station.View) : Type 0 where
+-- the line of this number was taken: what comes of it, and that its record is packed
+pub record TakesLine (place : Place) (number : ℕ) (rows : List Record) (line : LoadLine) (old : Taken) (a : station.View) (new : Taken) (b : Batch) (z : station.View) : Type 0 where
   pub now : List Record
-  pub after : after_line (most_records place.layout) k rows old.ended line ≡ reads now new.ended
+  pub after : after_line (most_records place.layout) number rows old.ended line ≡ reads now new.ended
   pub taken : IsTaken place.layout new b now
   pub packed : station.Told a → HasPacked place rows old.written a.held → HasPacked place now new.written z.held
 
--- The outcome of the taking of line k, whatever was answered.
-pub record TakesOn {X : Type 0} (place : Place) (k : ℕ) (line : LoadLine) (result : Result X LoadFault) (old new : Taken) (f g : Batch) (a b : station.View) : Type 0 where
-  pub takes : OnOk result ((rows : List Record) → IsTaken place.layout old f rows → TakesLine place k rows line old a new g b)
+-- The outcome of the taking of the line of this number, whatever was answered.
+pub record TakesOn {X : Type 0} (place : Place) (number : ℕ) (line : LoadLine) (result : Result X LoadFault) (old new : Taken) (f g : Batch) (a b : station.View) : Type 0 where
+  pub takes : OnOk result ((rows : List Record) → IsTaken place.layout old f rows → TakesLine place number rows line old a new g b)
   pub taking : OnOk result (IsTaking place.layout new g)
   pub faulty : IfErr result (λ fault. (rows : List Record) → IsTaken place.layout old f rows →
-      IsLineFault (most_records place.layout) (after_line (most_records place.layout) k rows old.ended line) fault)
+      IsLineFault (most_records place.layout) (after_line (most_records place.layout) number rows old.ended line) fault)
   pub onward : OnOk result (old.written ≤ new.written)
   pub journal : g.journal ≡ f.journal
   pub turn : g.turn ≡ f.turn

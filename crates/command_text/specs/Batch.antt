@@ -16,10 +16,10 @@ use Rattle.command_text.specs.declared.command.Why.TheVariants as why
 
 -- the item of words: of `put KEY`, `put KEY VALUE` or `remove KEY`; no value's word is the empty value
 abbrev pub batch_item : List (List ℕ) → Option Update
-batch_item (name ∷ k ∷ []) =
-    if bytes_eq name (codes "put") then Some (bind (percent_decode k) [])
-    else if bytes_eq name (codes "remove") then Some (unbind (percent_decode k)) else None
-batch_item (name ∷ k ∷ v ∷ []) = if bytes_eq name (codes "put") then Some (bind (percent_decode k) (percent_decode v)) else None
+batch_item (name ∷ one ∷ []) =
+    if bytes_eq name (codes "put") then Some (bind (percent_decode one) [])
+    else if bytes_eq name (codes "remove") then Some (unbind (percent_decode one)) else None
+batch_item (name ∷ one ∷ two ∷ []) = if bytes_eq name (codes "put") then Some (bind (percent_decode one) (percent_decode two)) else None
 batch_item _ = None
 
 -- a command, unless a slot has no room for the key or the value of one of these items, from left to right

@@ -22,13 +22,13 @@ value_then f word next =
 
 -- `put KEY` or `put KEY VALUE`; no value's word is the empty value
 abbrev pub put_read : ℕ → List (List ℕ) → Command
-put_read f (k ∷ []) = key_then f k (λ key. Put key [])
-put_read f (k ∷ v ∷ []) = key_then f k (λ key. value_then f v (λ value. Put key value))
+put_read f (one ∷ []) = key_then f one (λ key. Put key [])
+put_read f (one ∷ two ∷ []) = key_then f one (λ key. value_then f two (λ value. Put key value))
 put_read f _ = Bad why.Words
 
 -- a command with one key
 abbrev pub keyed : ℕ → (List ℕ → Command) → List (List ℕ) → Command
-keyed f command (k ∷ []) = key_then f k command
+keyed f command (one ∷ []) = key_then f one command
 keyed f command _ = Bad why.Words
 
 -- a number was read, and then comes what follows
@@ -38,9 +38,9 @@ number_then (Some n) next = next n
 
 -- `range LOW HIGH` or `range LOW HIGH LIMIT`; no limit's word is the greatest limit
 abbrev pub range_of : ℕ → List (List ℕ) → Command
-range_of f (l ∷ h ∷ []) = with_bound f l (λ low. with_bound f h (λ high. Range low high 4294967295))
-range_of f (l ∷ h ∷ n ∷ []) =
-    with_bound f l (λ low. with_bound f h (λ high. number_then (number_of n) (λ limit. Range low high limit)))
+range_of f (one ∷ two ∷ []) = with_bound f one (λ low. with_bound f two (λ high. Range low high 4294967295))
+range_of f (one ∷ two ∷ three ∷ []) =
+    with_bound f one (λ low. with_bound f two (λ high. number_then (number_of three) (λ limit. Range low high limit)))
 range_of f _ = Bad why.Words
 
 -- a command without further words
@@ -50,12 +50,12 @@ alone command _ = Bad why.Words
 
 -- `probe KEY B`, with a block size from 1 on
 abbrev pub probe_of : ℕ → List (List ℕ) → Command
-probe_of f (k ∷ b ∷ []) = key_then f k (λ key. number_then (if_positive (number_of b)) (λ block. Probe key block))
+probe_of f (one ∷ two ∷ []) = key_then f one (λ key. number_then (if_positive (number_of two)) (λ block. Probe key block))
 probe_of f _ = Bad why.Words
 
 -- `open NAME LOW HIGH`
 abbrev pub open_of : ℕ → List (List ℕ) → Command
-open_of f (n ∷ l ∷ h ∷ []) = key_then f n (λ name. with_bound f l (λ low. with_bound f h (λ high. Open name low high)))
+open_of f (one ∷ two ∷ three ∷ []) = key_then f one (λ name. with_bound f two (λ low. with_bound f three (λ high. Open name low high)))
 open_of f _ = Bad why.Words
 
 -- the command with this name that asks something of the cursors

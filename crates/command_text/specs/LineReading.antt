@@ -23,7 +23,7 @@ on_bound next None = command.OversizedKey
 
 -- a range between two bounds, with a limit
 abbrev pub bounded : ℕ → List ℕ → List ℕ → Option ℕ → Command
-bounded f low high limit = with_bound f low (λ l. with_bound f high (λ h. number_then limit (λ n. command.Range l h n)))
+bounded f low high limit = with_bound f low (λ from. with_bound f high (λ to. number_then limit (λ n. command.Range from to n)))
 
 -- a probe of a key, with a block size
 abbrev pub probed : ℕ → List ℕ → Option ℕ → Command
@@ -31,7 +31,7 @@ probed f word block = key_then f word (λ key. number_then block (λ n. command.
 
 -- a cursor of this name between two bounds
 abbrev pub opened_between : ℕ → List ℕ → List ℕ → List ℕ → Command
-opened_between f name low high = with_bound f low (λ l. with_bound f high (λ h. command.Open name l h))
+opened_between f name low high = with_bound f low (λ from. with_bound f high (λ to. command.Open name from to))
 
 -- and of the name that a word is
 abbrev pub named_between : ℕ → List ℕ → List ℕ → List ℕ → Command

@@ -16,8 +16,8 @@ row_of f key value = if nat_lt (key_room f) (length key) || nat_lt (value_room f
 
 -- `record KEY` or `record KEY VALUE`; no value's word is the empty value
 abbrev pub record_line : ℕ → List (List ℕ) → LoadLine
-record_line f (k ∷ []) = row_of f (percent_decode k) []
-record_line f (k ∷ v ∷ []) = row_of f (percent_decode k) (percent_decode v)
+record_line f (one ∷ []) = row_of f (percent_decode one) []
+record_line f (one ∷ two ∷ []) = row_of f (percent_decode one) (percent_decode two)
 record_line f _ = Bad
 
 -- a number was read, or none

@@ -25,7 +25,7 @@ removal_of f key = if nat_lt (key_room f) (length key) then Bad else Remove key
 
 -- `remove KEY`
 abbrev pub removal_line : ℕ → List (List ℕ) → MergeLine
-removal_line f (k ∷ []) = removal_of f (percent_decode k)
+removal_line f (one ∷ []) = removal_of f (percent_decode one)
 removal_line f _ = Bad
 
 -- the line with this first word

@@ -72,7 +72,7 @@ last_given past (g ∷ gs) = last_given (Some g.row.0) gs
 
 -- how often a key is among records
 abbrev pub times : Bytes → List Record → ℕ
-times key records = length (where_key key_cmp (λ k. eq_by_cmp key_cmp k key) records)
+times key records = length (where_key key_cmp (λ other. eq_by_cmp key_cmp other key) records)
 
 abbrev pub IsOpen : Bytes → Session → Type 0
 IsOpen name s = contains_key s.cursors name ≡ true

@@ -47,15 +47,15 @@ IsClean image = IsIndexed (version_of image) → clean_gate image ≡ 1 → IsLe
 
 -- the place of the clean gate
 abbrev pub IsCleanPlace : ℕ → Type 0
-IsCleanPlace k = IsPlaceOf Clean k
+IsCleanPlace i = IsPlaceOf Clean i
 
 -- the places of the index
 abbrev pub IsAreaPlace : Layout → ℕ → Type 0
-IsAreaPlace l k = area_place l ≤ k
+IsAreaPlace l i = area_place l ≤ i
 
 -- what the leaving of an index may make of an image: a clean one, with other bytes in the index and in the clean gate alone
 pub record Leaves (l : Layout) (old new : List ℕ) : Type 0 where
-  pub touched : Touched (λ k. IsCleanPlace k ⊎ IsAreaPlace l k) old new
+  pub touched : Touched (λ i. IsCleanPlace i ⊎ IsAreaPlace l i) old new
   pub clean : IsClean new
 
 -- the image has an index that may be taken for that of its array: nothing is wrong with its header, and its clean gate is odd

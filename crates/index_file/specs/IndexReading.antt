@@ -140,7 +140,7 @@ pub record IsFirstWrong (f h first count : ℕ) (piece : List ℕ) (x : ℕ) : T
   pub from : first ≤ x
   pub below : x < first + count
   pub wrong : is_node_of f h x piece (NODE_SIZE * (x - first)) ≡ false
-  pub before : (k : ℕ) → first + k < x → is_node_of f h (first + k) piece (NODE_SIZE * k) ≡ true
+  pub before : (i : ℕ) → first + i < x → is_node_of f h (first + i) piece (NODE_SIZE * i) ≡ true
 
 -- the place is that of the first of n nodes that isn't there
 pub record FailsAt (l : Layout) (h n : ℕ) (file : List ℕ) (place : ℕ) : Type 0 where

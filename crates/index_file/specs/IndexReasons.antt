@@ -32,9 +32,9 @@ order_reason l h fence i = if nat_le 2 i && not (is_lt (key_cmp (fence (i - 1)) 
 abbrev pub counts_read : Layout → ℕ → List ℕ → List ℕ
 counts_read l h file = map (λ i. number file (count_place l i)) (range_with_len 0 (2 ^ h))
 
--- window (j, k) is outside its bounds
+-- window (j, i) is outside its bounds
 abbrev pub window_reason : Layout → ℕ → List ℕ → ℕ → ℕ → Option Reason
-window_reason l h counts j k = if is_in_bounds h j (count_in counts j k) then None else Some (Index (count_place l (k * 2 ^ j)))
+window_reason l h counts j i = if is_in_bounds h j (count_in counts j i) then None else Some (Index (count_place l (i * 2 ^ j)))
 
 -- the first window of height j that is. Those of height 0 are the segments
 abbrev pub row_reason : Layout → ℕ → List ℕ → ℕ → Option Reason

@@ -10,7 +10,7 @@ use Rattle.index_file.specs.declared.sizes.TheConstants.{FENCE_AT, LINKS_AT}
 
 -- that many bytes of a file from a place on; past its end they are zero
 abbrev pub bytes_at : List ℕ → ℕ → ℕ → List ℕ
-bytes_at file place n = map (λ k. byte file (place + k)) (range_with_len 0 n)
+bytes_at file place n = map (λ i. byte file (place + i)) (range_with_len 0 n)
 
 -- whether n bytes from a place on are zero
 abbrev pub is_zero : List ℕ → ℕ → ℕ → Bool

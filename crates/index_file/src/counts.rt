@@ -14,12 +14,11 @@ ghost use Rattle.window_tally.specs.TallyView.{IsTally};
 
 use crate::area::{count_at, wrong_count};
 use crate::fault::AreaFault;
-use crate::node::number_at;
 use crate::reading::read_front;
 use crate::sizes::{COUNT_SIZE, PIECE};
 use crate::writing::{PIECE_COUNTS, segment_count};
 use density_rule::in_bounds;
-use header_gate::Layout;
+use header_gate::{Layout, number_at};
 use station::Station;
 use window_tally::Tally;
 

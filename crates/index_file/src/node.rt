@@ -8,9 +8,9 @@ ghost use Rattle.key_slot.specs.declared.sizes.TheConstants.{MAX_KEY_LEN};
 ghost use Rattle.index_file.specs.Node.{IsNode, is_node, fence_in, has_form as has_form_of, is_zero as is_zero_of};
 
 use crate::sizes::{FENCE_AT, LINKS_AT, NODE_SIZE};
-use batch_intent::key_room;
 use byteorder::{ByteOrder, LittleEndian};
-use key_slot::Key;
+use header_gate::number_at;
+use key_slot::{Key, key_room};
 
 /// The bytes of a node with this fence and these links, which is one of the longer format.
 pub(crate) fn node_bytes(fence: &Key, left: u32, right: u32) -> [u8; NODE_SIZE]
@@ -86,14 +86,6 @@ pub(crate) fn put_number(bytes: &mut [u8], at: usize, value: u32)
     LittleEndian::write_u32(&mut bytes[at..], value);
 }
 
-/// The number at a place.
-pub(crate) fn number_at(bytes: &[u8], at: usize) -> u32
-    requires { at + 4 ≤ length bytes.now }
-    ensures { result ≡ number bytes.now at }
-{
-    LittleEndian::read_u32(&bytes[at..])
-}
-
 // Whether what stands at a place has the form of a node of a file of the slot format, whatever its links.
 #[tactic(auto, unfolding(crate::specs::Node::has_form))]
 fn has_form(bytes: &[u8], at: usize, format: u32) -> bool
@@ -105,7 +97,7 @@ fn has_form(bytes: &[u8], at: usize, format: u32) -> bool
     if size < 1 {
         return false;
     }
-    if size > key_room(format) {
+    if size > key_room(format as usize) {
         return false;
     }
     if !is_zero(bytes, at + 1, FENCE_AT - 1) {

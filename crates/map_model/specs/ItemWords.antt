@@ -33,15 +33,15 @@ no_items = record { stored = 0; replaced = 0; removed = 0; absent = 0 }
 
 -- with one item more, by its effect
 abbrev pub effect_count : Effect → ItemCounts → ItemCounts
-effect_count Replaces c = record c { replaced = c.replaced + 1 }
-effect_count Takes c = record c { removed = c.removed + 1 }
-effect_count FindsNone c = record c { absent = c.absent + 1 }
-effect_count effect c = record c { stored = c.stored + 1 }
+effect_count Replaces counts = record counts { replaced = counts.replaced + 1 }
+effect_count Takes counts = record counts { removed = counts.removed + 1 }
+effect_count FindsNone counts = record counts { absent = counts.absent + 1 }
+effect_count effect counts = record counts { stored = counts.stored + 1 }
 
 -- with items more, each by what it does in the map before it
 abbrev pub count_items : ℕ → Map → List Update → ItemCounts → ItemCounts
-count_items hmax m [] c = c
-count_items hmax m (u ∷ us) c = count_items hmax (map_after hmax m u) us (effect_count (effect_of hmax m u) c)
+count_items hmax m [] counts = counts
+count_items hmax m (u ∷ us) counts = count_items hmax (map_after hmax m u) us (effect_count (effect_of hmax m u) counts)
 
 -- the sum of the items' charges, each in the array before it
 abbrev pub charge_after_items : ℕ → ArrayState → List Update → ℕ

@@ -33,11 +33,11 @@ items_for segments i (u ∷ us) = if edits segments i (has_key segments (key_of 
 -- the counts and the marks after changes in their order
 abbrev pub counts_by : List ItemChange → List ℕ → List ℕ
 counts_by [] counts = counts
-counts_by (c ∷ cs) counts = counts_by cs (counts_after (adds c.change) counts c.segment)
+counts_by (item ∷ rest) counts = counts_by rest (counts_after (adds item.change) counts item.segment)
 
 abbrev pub marks_by_changes : ℕ → List ItemChange → Marks → Marks
 marks_by_changes height [] marks = marks
-marks_by_changes height (c ∷ cs) marks = marks_by_changes height cs (updated_marks height c.segment marks)
+marks_by_changes height (item ∷ rest) marks = marks_by_changes height rest (updated_marks height item.segment marks)
 
 -- how many images of segments an item may write, by whether its key is there: two if it edits a segment
 abbrev pub charge_one : Bool → Update → ℕ
@@ -66,15 +66,15 @@ pub record AreEdits (hmax : ℕ) (s : ArrayState) (items : List Update) (next : 
   -- no item meets a full store
   pub admitted : AreAdmitted hmax s.map items
   -- every window is within its bounds behind each of the items
-  pub balanced : (k : ℕ) → IsBalancedArray s.height (next_states hmax s (take k items)).array
+  pub balanced : (j : ℕ) → IsBalancedArray s.height (next_states hmax s (take j items)).array
 
 -- a batch's images are those of the edited segments, each of the pages of a segment of format f, and it names each
 -- segment that an item edits
 pub record LaysEdits (f : ℕ) (segments : Array) (items : List Update) (numbers : List ℕ) (image : ℕ → ℕ → ℕ) : Type 0 where
   -- each number is that of a segment
-  pub inside : (k : ℕ) → k < length numbers → get_or numbers k 0 < length segments
+  pub inside : (j : ℕ) → j < length numbers → get_or numbers j 0 < length segments
   -- its image is that of the segment, edited by its items
-  pub named : (k : ℕ) → k < length numbers → let i = get_or numbers k 0 in
-      IsSegmentImage f (edited_by (items_for segments i items) (segment_at segments i)) (segment_image f image k)
+  pub named : (j : ℕ) → j < length numbers → let i = get_or numbers j 0 in
+      IsSegmentImage f (edited_by (items_for segments i items) (segment_at segments i)) (segment_image f image j)
   -- no item edits a segment that is not named
   pub unnamed : (i : ℕ) → i < length segments → IsNone numbers i → items_for segments i items ≡ []

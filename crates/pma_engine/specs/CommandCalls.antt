@@ -27,7 +27,7 @@ pub record IsForUpdate (change : Change) (key : Bytes) (s : StoreView) (a : View
 -- that many calls are those of a step of a cursor, which reads a segment or two; if there is none, none
 abbrev pub IsForStep : Option Cursor → ℕ → Type 0
 IsForStep None calls = calls ≡ 0
-IsForStep (Some k) calls = calls ≡ 2
+IsForStep (Some at) calls = calls ≡ 2
 
 -- that many calls are those of a range: no more than the store has segments, and no more than two besides one for each four of its
 -- records

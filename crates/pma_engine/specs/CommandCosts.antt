@@ -89,11 +89,11 @@ pub record Walks (s : StoreView) (from to : ℕ) (a b : Travel) : Type 0 where
 -- the later one first. Without a cursor it reads none.
 abbrev pub LooksAhead : Option Cursor → StoreView → Travel → Travel → Type 0
 LooksAhead None s a b = b ≡ a
-LooksAhead (Some k) s a b = (from : ℕ) × ((to : ℕ) × Walks s from to a b × (from < to) × (to ≤ from + 2))
+LooksAhead (Some at) s a b = (from : ℕ) × ((to : ℕ) × Walks s from to a b × (from < to) × (to ≤ from + 2))
 
 abbrev pub LooksBehind : Option Cursor → StoreView → Travel → Travel → Type 0
 LooksBehind None s a b = b ≡ a
-LooksBehind (Some k) s a b = (last : ℕ) × ((count : ℕ) × (last < 2 ^ s.tally.height) × (0 < count) × (count ≤ 2) × (count ≤ last + 1) × (b ≡ after_walk_back s.place.layout s.place.region last count a))
+LooksBehind (Some at) s a b = (last : ℕ) × ((count : ℕ) × (last < 2 ^ s.tally.height) × (0 < count) × (count ≤ 2) × (count ≤ last + 1) × (b ≡ after_walk_back s.place.layout s.place.region last count a))
 
 -- How far a command takes the station, with these cursors open: an update writes at most that many bytes, a batch those of its items
 -- and of their intent, a get reads one segment, a range and a check walk over segments, a step of a cursor over two at most, and

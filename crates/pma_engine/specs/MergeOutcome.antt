@@ -43,7 +43,7 @@ use Rattle.pma_engine.specs.declared.status.TheConstants.{DONE, REFUSED, DISK_FA
 
 -- the line that says what the updates of a merge found
 abbrev pub merged_line : ItemCounts → Reply
-merged_line c = reply.Merged c.stored c.replaced c.removed c.absent
+merged_line counts = reply.Merged counts.stored counts.replaced counts.removed counts.absent
 
 -- the line with which a merge into an open store ends
 abbrev pub line_of_merge : Result Merged LoadFault → Option Reply

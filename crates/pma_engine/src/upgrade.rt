@@ -17,13 +17,10 @@ use crate::status::{DISK_FAULT, DONE, REFUSED};
 use command_text::Reply;
 use header_gate::Reason;
 use pma_store::Store;
-use resize_region::{Upgrade, refusal, upgrade};
+use resize_region::{Upgrade, WIDE, refusal, upgrade};
 use segment::StoreFault;
 use station::Station;
 use std::alloc::Global;
-
-// The slot format that an upgrade makes: a store begins in format 1, and 2 is the only other one.
-const WIDE: u32 = 2;
 
 /// Opens the store of that name, and spreads its records in slots of format 2 over the other region. The items of an intent
 /// that is to be applied are made before that, so that none is left for the longer slots.

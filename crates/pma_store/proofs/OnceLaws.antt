@@ -223,7 +223,7 @@ module _ (hmax : ℕ) (s : ArrayState) (items : List Update) (holds : HoldsMap h
 
   pub not_short : (l : Layout) → length (edited_segments s.array items) ≤ most_segments l → IsShort l s.array items → ⊥
   not_short l room (inl over) = omega (arith, room, over)
-  not_short l room (inr (inl fills)) = omega (arith, fills.over, few_there fills.k fills.at fills.inside)
+  not_short l room (inr (inl fills)) = omega (arith, fills.over, few_there fills.first fills.at fills.inside)
   not_short l room (inr (inr empties)) =
       let whole : take (length items) items ≡ items = take_all (length items) items (omega arith) in
       let left = some_left (length items) empties.at empties.inside empties.some in
@@ -235,13 +235,13 @@ module _ (hmax : ℕ) (s : ArrayState) (items : List Update) (holds : HoldsMap h
 pub has_edited : (segments : Array) (numbers : List ℕ) (items : List Update) (n : ℕ) (own : List Record) (new : List (Result ℕ ℕ)) (some : 0 < length segments) (ascends : IsAscending (rows segments)) (distinct : are_distinct items ≡ true) (size : length numbers ≡ length items)
     → BelongThere segments numbers items → own ≡ segment_at segments n → ((k : ℕ) (d : Update) → k < length items → get_or numbers k 0 ≡ n → FindsIn (key_of (get_or items k d)) own (get_or new k (Err 0))) → HasEdit n numbers items new → IsEdited segments items n
 has_edited segments numbers items n own new some ascends distinct size belong own_is finds is = record {
-  j = is.k;
+  j = is.item;
   within = is.within;
-  own = λ d. sym (belong is.k d is.within) ∙ is.own;
+  own = λ d. sym (belong is.item d is.within) ∙ is.own;
   edits = λ d.
-      let there = found_there 1 segments numbers items some ascends distinct size belong (get_or new is.k (Err 0)) (get_or items is.k d) n (sym is.own ∙ belong is.k d is.within)
-      (subst (λ (r : List Record). FindsIn (key_of (get_or items is.k d)) r (get_or new is.k (Err 0))) own_is (finds is.k d is.within is.own)) in
-      ap (edits_by (get_or items is.k d)) (sym there) ∙ is.edits d;
+      let there = found_there 1 segments numbers items some ascends distinct size belong (get_or new is.item (Err 0)) (get_or items is.item d) n (sym is.own ∙ belong is.item d is.within)
+      (subst (λ (r : List Record). FindsIn (key_of (get_or items is.item d)) r (get_or new is.item (Err 0))) own_is (finds is.item d is.within is.own)) in
+      ap (edits_by (get_or items is.item d)) (sym there) ∙ is.edits d;
 }
 
 module _ (l : Layout) (segments : Array) (numbers : List ℕ) (items : List Update) (ascends : IsAscending (rows segments)) (distinct : are_distinct items ≡ true) (few : length items ≤ 16) (size : length numbers ≡ length items) (belong : BelongThere segments numbers items)
@@ -286,8 +286,8 @@ module _ (l : Layout) (segments : Array) (numbers : List ℕ) (items : List Upda
   short_by used (inr (inl fills)) = inr (inl (record {
     at = n;
     inside = inside;
-    k = fills.k + 1;
-    over = subst (λ (r : List Record). SEGMENT_SLOTS < length r) (front_edits (fills.k + 1) (omega (arith, fills.within))) fills.over;
+    first = fills.item + 1;
+    over = subst (λ (r : List Record). SEGMENT_SLOTS < length r) (front_edits (fills.item + 1) (omega (arith, fills.within))) fills.over;
   }))
   short_by used (inr (inr empty)) = inr (inr (record {
     at = n;

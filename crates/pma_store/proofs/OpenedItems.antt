@@ -20,6 +20,7 @@ use Rattle.map_model.specs.ArrayState.{ArrayState, opened_state, next_states}
 use Rattle.map_model.specs.After.{map_after_items}
 use Rattle.map_model.specs.ItemWords.{AreAdmitted}
 use Rattle.map_model.specs.Store.{Map, Update}
+use Rattle.map_model.proofs.ItemEffects.{admitted_where_none}
 use Rattle.recovery.specs.OpeningCosts.{opening_cost, opening_reads}
 use Rattle.recovery.specs.OpeningFaults.{IsNoDamage, IsRereadFault, repair_fault}
 use Rattle.recovery.specs.Opening.{OpensFile, GoesOn, SyncsFirst}
@@ -218,7 +219,7 @@ module _ {X : Type 0} {a b c : View} (x : X) (items : List Update) (s t : StoreV
     admitted : AreAdmitted (limit_of s) behind.base items
     admitted =
         subst (λ (l : Layout). AreAdmitted (height_limit l) behind.base items) (sym own_layout)
-        (subst (AreAdmitted (height_limit (layout_in a.held)) behind.base) behind_items behind.admitted)
+        (subst (AreAdmitted (height_limit (layout_in a.held)) behind.base) behind_items (admitted_where_none (height_limit (layout_in a.held)) behind.base behind.items behind.admitted))
 
     after : map_after_all s.place.layout behind.base items ≡ meant_map a.held
     after = (λ τ. map_after_items (height_limit (own_layout τ)) behind.base (sym behind_items τ)) ∙ map_made b.held (meant_map a.held) behind

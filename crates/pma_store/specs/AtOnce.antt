@@ -36,16 +36,16 @@ use Rattle.pma_store.specs.Once.{AreOneCommit}
 use Rattle.pma_store.specs.Rewrites.{spared_bytes}
 use Rattle.pma_store.specs.StoreView.{StoreView, limit_of}
 
--- number k of the segments of a batch
+-- number i of the segments of a batch
 abbrev pub number_of : ℕ → Batch → ℕ → ℕ
-number_of format b k = get_or (segments_in format b.numbers) k 0
+number_of format b i = get_or (segments_in format b.numbers) i 0
 
 -- the fences of the first n segments of a batch are their first keys, and the others stay
 pub record RenewsFences (format : ℕ) (b : Batch) (n : ℕ) (old new : IndexView) : Type 0 where
   pub hmax : new.hmax ≡ old.hmax
   pub height : new.height ≡ old.height
-  pub set : (k : ℕ) → k < n → 0 < number_of format b k → fence_of new (number_of format b k) ≡ key_at (segment_at (held_lists format b) k) 0
-  pub others : (i : ℕ) → ((k : ℕ) → k < n → number_of format b k ≡ i → ⊥) → fence_of new i ≡ fence_of old i
+  pub set : (j : ℕ) → j < n → 0 < number_of format b j → fence_of new (number_of format b j) ≡ key_at (segment_at (held_lists format b) j) 0
+  pub others : (i : ℕ) → ((j : ℕ) → j < n → number_of format b j ≡ i → ⊥) → fence_of new i ≡ fence_of old i
 
 -- The items of a batch fit one commit, with that many changes: the frames hold each edited segment, and no more segments than
 -- items edit one.
@@ -53,12 +53,12 @@ pub record FitsCommit (numbers : List ℕ) (items : List Update) (look : BatchSc
   pub whole : look.whole ≡ true
   pub few : look.count ≤ edits_of validated
   pub listed : length changes ≤ length items
-  pub in_store : All (λ c. c.segment < 2 ^ tally.height) changes
+  pub in_store : All (λ item. item.segment < 2 ^ tally.height) changes
   pub changes_are : (array : Array) → 0 < length array → IsAscending (rows array) → BelongThere array numbers items →
       HasFound array numbers items look.found (2 ^ tally.height) → changes ≡ changes_in array items
   pub fit : fit_one_commit tally.height tally.counts changes ≡ true
-  pub kinds : kinds_in changes ≡ kinds_of items (flags (λ k. is_ok (get_or look.found k (Err 0))) (length items))
-  pub counts_are : counts_of validated ≡ counted_first items (λ k. is_ok (get_or look.found k (Err 0))) (length items)
+  pub kinds : kinds_in changes ≡ kinds_of items (flags (λ i. is_ok (get_or look.found i (Err 0))) (length items))
+  pub counts_are : counts_of validated ≡ counted_first items (λ i. is_ok (get_or look.found i (Err 0))) (length items)
 
 -- Why they don't: not each segment that they edit is in frames, more are there than items edit one, or the changes don't fit.
 abbrev pub IsUnfit : List ℕ → List Update → BatchScan → ValidatedItems → TallyView → Type 0
@@ -75,21 +75,21 @@ pub record CommitsPages (place : Place) (count : ℕ) (b : Batch) (old new : Lis
   pub none : count ≡ 0 → new ≡ old
 
 -- The pages in frames were committed, or nothing was done where there are none. The frames note then what the gate says.
-pub record CommitsFrames (place : Place) (count : ℕ) (result : Result (Unit {0}) Failed) (b : Batch) (turn : ℕ) (a c : View) : Type 0 where
-  pub steps : Steps (CommitsPages place count b) a c
-  pub laid : OnOk result (Told a → recovered place.layout c.held ≡ replayed_over place.layout place.region b.numbers (frame_byte b.slots) (recovered place.layout a.held))
-  pub rests : OnOk result (RestsAt place.layout turn c)
-  pub none : count ≡ 0 → c.travel.written ≡ a.travel.written
-  pub cost : c.travel.written ≤ a.travel.written + (8196 * place.layout.format * count + 6 - spared_bytes place.layout)
-  pub unread : c.travel.read ≡ a.travel.read
+pub record CommitsFrames (place : Place) (count : ℕ) (result : Result (Unit {0}) Failed) (b : Batch) (turn : ℕ) (a d : View) : Type 0 where
+  pub steps : Steps (CommitsPages place count b) a d
+  pub laid : OnOk result (Told a → recovered place.layout d.held ≡ replayed_over place.layout place.region b.numbers (frame_byte b.slots) (recovered place.layout a.held))
+  pub rests : OnOk result (RestsAt place.layout turn d)
+  pub none : count ≡ 0 → d.travel.written ≡ a.travel.written
+  pub cost : d.travel.written ≤ a.travel.written + (8196 * place.layout.format * count + 6 - spared_bytes place.layout)
+  pub unread : d.travel.read ≡ a.travel.read
   -- where there are any, eight calls, with two journals five, and one for each run of neighbouring pages
-  pub calls : c.calls ≤ a.calls + runs_calls place.layout (run_count b.numbers)
-  pub cause : OnErr result (Rose a.disk_faults c.disk_faults)
+  pub calls : d.calls ≤ a.calls + runs_calls place.layout (run_count b.numbers)
+  pub cause : OnErr result (Rose a.disk_faults d.disk_faults)
 
 -- Besides, the fences of the edited segments were set, and the changes counted, but not where it failed.
 pub record CommitsEdits (place : Place) (look : BatchScan) (changes : List ItemChange) (result : Result (Unit {0}) Failed) (b : Batch)
-    (turn : ℕ) (index next_index : IndexView) (tally next_tally : TallyView) (a c : View) : Type 0 where
-  pub frames : CommitsFrames place look.count result b turn a c
+    (turn : ℕ) (index next_index : IndexView) (tally next_tally : TallyView) (a d : View) : Type 0 where
+  pub frames : CommitsFrames place look.count result b turn a d
   pub fences : OnOk result (RenewsFences place.layout.format b look.count index next_index)
   pub counted : OnOk result (next_tally ≡ record tally { counts = counts_by changes tally.counts; marks = marks_by_changes tally.height changes tally.marks })
   pub is_tally : IsTally next_tally

@@ -20,9 +20,9 @@ use Rattle.pma_store.specs.StoreView.{StoreView}
 pub record AreOwnSegments (items : List Update) (height : ℕ) (a : View) (segments : List ℕ) : Type 0 where
   pub ascends : Ascends segments
   pub few : length segments ≤ length items
-  pub below : (k : ℕ) → k < length segments → get_or segments k 0 < 2 ^ height
-  pub own : Told a → (k : ℕ) (d : Update) → k < length segments →
-      (j : ℕ) × (j < length items) × (get_or segments k 0 ≡ segment_for (array_of a.held) (key_of (get_or items j d)))
+  pub below : (i : ℕ) → i < length segments → get_or segments i 0 < 2 ^ height
+  pub own : Told a → (i : ℕ) (d : Update) → i < length segments →
+      (j : ℕ) × (j < length items) × (get_or segments i 0 ≡ segment_for (array_of a.held) (key_of (get_or items j d)))
 
 -- Keys of the items were looked for, by one call for each of some segments to which they belong.
 pub record LooksOnce (items : List Update) (height : ℕ) (a b : View) : Type 0 where

@@ -37,7 +37,7 @@ version_of s = s.place.layout.version
 
 -- the answer where all items are made
 abbrev pub done_by : ItemCounts → ℕ → Batch
-done_by c charge = Done c.stored c.replaced c.removed c.absent charge
+done_by counts charge = Done counts.stored counts.replaced counts.removed counts.absent charge
 
 -- what a batch answers in a file of this version and a state of it, where the greatest height is hmax
 abbrev pub batch_answer : ℕ → ℕ → ArrayState → List Update → Batch
@@ -113,8 +113,8 @@ IsBatchPlace l p = IsUpdatePlace l p ⊎ IsIntentPlace p
 pub record MakesAtOnce (items : List Update) (s : StoreView) (a b : View) : Type 0 where
   -- At no moment any byte of the intent or of its gate is touched.
   pub touched : Steps (Touched (IsUpdatePlace s.place.layout)) a b
-  -- At most `8196 * F * k + 6` bytes are written for the k segments that its items edit, with F pages a segment, at version 4 a
-  -- byte less, and nothing if k is 0.
+  -- At most `8196 * F * n + 6` bytes are written for the n segments that its items edit, with F pages a segment, at version 4 a
+  -- byte less, and nothing if n is 0.
   pub written : b.travel.written ≤ a.travel.written
       + (8196 * s.place.layout.format * length (edited_segments (array_of a.held) items) + 6 - spared_bytes s.place.layout)
   pub unwritten : edited_segments (array_of a.held) items ≡ [] → b.travel.written ≡ a.travel.written

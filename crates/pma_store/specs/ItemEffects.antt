@@ -35,8 +35,8 @@ counts_in (Some j) = Some (counts_of j)
 
 -- the counts with an item
 abbrev pub counted_by : Update → Bool → ItemCounts → ItemCounts
-counted_by (bind key value) present c = if present then record c { replaced = c.replaced + 1 } else record c { stored = c.stored + 1 }
-counted_by (unbind key) present c = if present then record c { removed = c.removed + 1 } else record c { absent = c.absent + 1 }
+counted_by (bind key value) present counts = if present then record counts { replaced = counts.replaced + 1 } else record counts { stored = counts.stored + 1 }
+counted_by (unbind key) present counts = if present then record counts { removed = counts.removed + 1 } else record counts { absent = counts.absent + 1 }
 
 -- how many of the items edit a segment
 abbrev pub edits_of : Validated → ℕ
@@ -46,9 +46,9 @@ edits_of j = j.stored + j.replaced + j.removed
 abbrev pub total : Validated → ℕ
 total j = j.stored + j.replaced + j.removed + j.absent
 
--- the first k of the items have their keys in the map as it was found
+-- the first j of the items have their keys in the map as it was found
 abbrev pub AreFound : List Bool → List Update → Map → ℕ → Type 0
-AreFound found items m k = (i : ℕ) → i < k → (d : Update) → slice_index_or found i false ≡ contains_key m (key_of (slice_index_or items i d))
+AreFound found items m j = (i : ℕ) → i < j → (d : Update) → slice_index_or found i false ≡ contains_key m (key_of (slice_index_or items i d))
 
 -- so all of them have, where it was looked for
 abbrev pub AreAllFound : Option (List Bool) → List Update → Map → Type 0
@@ -57,7 +57,7 @@ AreAllFound (Some found) items m = AreFound found items m (length items)
 
 -- they have, by where each was found
 abbrev pub AreFoundAt : List (Result ℕ ℕ) → List Update → Map → Type 0
-AreFoundAt found items m = (k : ℕ) (d : Update) → k < length items → is_ok (slice_index_or found k (Err 0)) ≡ contains_key m (key_of (slice_index_or items k d))
+AreFoundAt found items m = (i : ℕ) (d : Update) → i < length items → is_ok (slice_index_or found i (Err 0)) ≡ contains_key m (key_of (slice_index_or items i d))
 
 -- what was found of item i
 abbrev pub found_at : Option (List Bool) → ℕ → Option Bool
@@ -70,19 +70,19 @@ found_in (Some j) = Some j.found
 
 -- What is counted by what was found, whatever the station tells.
 
--- the numbers of the first k items, by which of their keys are there
+-- the numbers of the first i items, by which of their keys are there
 abbrev pub counted_first : List Update → (ℕ → Bool) → ℕ → ItemCounts
 counted_first items there zero = no_items
-counted_first items there (suc k) = counted_by (slice_index_or items k (unbind [])) (there k) (counted_first items there k)
+counted_first items there (suc i) = counted_by (slice_index_or items i (unbind [])) (there i) (counted_first items there i)
 
 -- how many records there are behind them, of that many before
 abbrev pub records_first : List Update → (ℕ → Bool) → ℕ → ℕ → ℕ
 records_first items there records zero = records
-records_first items there records (suc k) = records_by (slice_index_or items k (unbind [])) (there k) (records_first items there records k)
+records_first items there records (suc i) = records_by (slice_index_or items i (unbind [])) (there i) (records_first items there records i)
 
 -- none of the first n items meets a full store of `most` records
 abbrev pub HaveRoom : List Update → (ℕ → Bool) → ℕ → ℕ → ℕ → Type 0
-HaveRoom items there records most n = (k : ℕ) → k < n → meets_by (slice_index_or items k (unbind [])) (there k) (records_first items there records k) most ≡ false
+HaveRoom items there records most n = (i : ℕ) → i < n → meets_by (slice_index_or items i (unbind [])) (there i) (records_first items there records i) most ≡ false
 
 -- Items were counted as their keys were found, in a store of that many records, and none of them meets a full store.
 pub record CountsFound (items : List Update) (there : ℕ → Bool) (records most : ℕ) (counts : ItemCounts) : Type 0 where
@@ -91,7 +91,7 @@ pub record CountsFound (items : List Update) (there : ℕ → Bool) (records mos
 
 -- which keys are there, as they were found
 abbrev pub there_in : List Bool → ℕ → Bool
-there_in found k = slice_index_or found k false
+there_in found i = slice_index_or found i false
 
 -- what an item makes of a number of records, by whether its key is there
 abbrev pub SumsBy : Update → Bool → ℕ → ℕ → Type 0
@@ -116,13 +116,13 @@ SumsFound (Some found) items most before after = HaveRoom items (there_in found)
 -- the first n values of what is found
 abbrev pub flags : (ℕ → Bool) → ℕ → List Bool
 flags there zero = []
-flags there (suc n) = there 0 ∷ flags (λ k. there (suc k)) n
+flags there (suc n) = there 0 ∷ flags (λ i. there (suc i)) n
 
 -- the counts with items more, each by whether its key was found
 abbrev pub counted_all : List Update → List Bool → ItemCounts → ItemCounts
-counted_all [] bs c = c
-counted_all (u ∷ us) [] c = c
-counted_all (u ∷ us) (b ∷ bs) c = counted_all us bs (counted_by u b c)
+counted_all [] bs counts = counts
+counted_all (u ∷ us) [] counts = counts
+counted_all (u ∷ us) (b ∷ bs) counts = counted_all us bs (counted_by u b counts)
 
 -- what items make of the counts and marks, as their keys were found, if it was looked for them
 abbrev pub TalliesFound : Option (List Bool) → List Update → ℕ → TallyView → TallyView → Type 0
@@ -133,7 +133,7 @@ TalliesFound (Some found) items most t v = HaveRoom items (there_in found) (sum 
 -- the kinds of changes
 abbrev pub kinds_in : List ItemChange → List Change
 kinds_in [] = []
-kinds_in (c ∷ cs) = c.change ∷ kinds_in cs
+kinds_in (item ∷ rest) = item.change ∷ kinds_in rest
 
 -- with one before them, if there is one
 abbrev pub with_kind : Option Change → List Change → List Change

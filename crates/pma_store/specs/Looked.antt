@@ -30,17 +30,17 @@ use Rattle.pma_store.specs.Once.{AreUsed}
 
 -- a list tells the segment to which the key of each item belongs
 abbrev pub BelongThere : Array → List ℕ → List Update → Type 0
-BelongThere segments numbers items = (k : ℕ) (d : Update) → k < length items → get_or numbers k 0 ≡ segment_for segments (key_of (get_or items k d))
+BelongThere segments numbers items = (i : ℕ) (d : Update) → i < length items → get_or numbers i 0 ≡ segment_for segments (key_of (get_or items i d))
 
 -- a batch in frames has the segments that a look tells, all below one. From segment 1 on each has a row for its fence
 pub record AreLoaded (format : ℕ) (b : Batch) (look : BatchScan) (from : ℕ) : Type 0 where
   pub held : IsHeld format b
   pub count_is : look.count ≡ length (segments_in format b.numbers)
   pub few : look.count ≤ 16
-  pub numbers_are : (k : ℕ) → k < look.count → get_or look.edited k 0 ≡ get_or (segments_in format b.numbers) k 0
-  pub below : (k : ℕ) → k < look.count → get_or (segments_in format b.numbers) k 0 < from
-  pub fits : (k : ℕ) → k < look.count → FitsSegment format (segment_at (held_lists format b) k)
-  pub filled : (k : ℕ) → k < look.count → 0 < get_or (segments_in format b.numbers) k 0 → 0 < length (segment_at (held_lists format b) k)
+  pub numbers_are : (i : ℕ) → i < look.count → get_or look.edited i 0 ≡ get_or (segments_in format b.numbers) i 0
+  pub below : (i : ℕ) → i < look.count → get_or (segments_in format b.numbers) i 0 < from
+  pub fits : (i : ℕ) → i < look.count → FitsSegment format (segment_at (held_lists format b) i)
+  pub filled : (i : ℕ) → i < look.count → 0 < get_or (segments_in format b.numbers) i 0 → 0 < length (segment_at (held_lists format b) i)
 
 -- the items of a segment may be made in its rows, and these be added to a batch
 pub record MayLoad (l : Layout) (items : List Update) (numbers : List ℕ) (segment : ℕ) (b : Batch) (look : BatchScan) (rows : List Record) : Type 0 where
@@ -67,12 +67,12 @@ pub record LoadsMore (format segment : ℕ) (rows : List Record) (b next : Batch
 
 -- the keys of the items of all segments below one were looked for in the segments of an array
 abbrev pub HasFound : Array → List ℕ → List Update → List (Result ℕ ℕ) → ℕ → Type 0
-HasFound segments numbers items found from = (k : ℕ) (d : Update) → k < length items → get_or numbers k 0 < from → FindsIn (key_of (get_or items k d)) (segment_at segments (get_or numbers k 0)) (get_or found k (Err 0))
+HasFound segments numbers items found from = (i : ℕ) (d : Update) → i < length items → get_or numbers i 0 < from → FindsIn (key_of (get_or items i d)) (segment_at segments (get_or numbers i 0)) (get_or found i (Err 0))
 
 -- the batch has each segment below one that an item edits, with all of its items made
 pub record LoadsEdits (format : ℕ) (segments : Array) (items : List Update) (b : Batch) (from : ℕ) : Type 0 where
-  pub named : (k : ℕ) → k < length (segments_in format b.numbers) → let i = get_or (segments_in format b.numbers) k 0 in
-      segment_at (held_lists format b) k ≡ edited_by (items_for segments i items) (segment_at segments i)
+  pub named : (j : ℕ) → j < length (segments_in format b.numbers) → let i = get_or (segments_in format b.numbers) j 0 in
+      segment_at (held_lists format b) j ≡ edited_by (items_for segments i items) (segment_at segments i)
   pub unnamed : (i : ℕ) → i < from → IsNone (segments_in format b.numbers) i → items_for segments i items ≡ []
 
 -- both, as far as a look is whole
@@ -86,27 +86,27 @@ after_reads place [] t = t
 after_reads place (n ∷ ns) t = after_reads place ns (after_read (segment_place place.layout place.region n) (segment_size place.layout) t)
 
 -- Of the segments that a list tells, those below one were read in ascending order, each once by one call, and no other was.
-pub record ReadsOnce (place : Place) (numbers : List ℕ) (from : ℕ) (a c : View) : Type 0 where
+pub record ReadsOnce (place : Place) (numbers : List ℕ) (from : ℕ) (a d : View) : Type 0 where
   pub read : List ℕ
   pub ascends : Ascends read
-  pub below : (k : ℕ) → k < length read → get_or read k 0 < from
-  pub told : (k : ℕ) → k < length read → (j : ℕ) × (j < length numbers) × (get_or numbers j 0 ≡ get_or read k 0)
-  pub each : (j : ℕ) → j < length numbers → get_or numbers j 0 < from → (k : ℕ) × (k < length read) × (get_or read k 0 ≡ get_or numbers j 0)
-  pub travel_is : c.travel ≡ after_reads place read a.travel
-  pub calls : c.calls ≤ a.calls + length read
+  pub below : (i : ℕ) → i < length read → get_or read i 0 < from
+  pub told : (i : ℕ) → i < length read → (j : ℕ) × (j < length numbers) × (get_or numbers j 0 ≡ get_or read i 0)
+  pub each : (j : ℕ) → j < length numbers → get_or numbers j 0 < from → (i : ℕ) × (i < length read) × (get_or read i 0 ≡ get_or numbers j 0)
+  pub travel_is : d.travel ≡ after_reads place read a.travel
+  pub calls : d.calls ≤ a.calls + length read
 
 -- A batch was looked over, in a store with this tally: nothing was written.
 pub record LooksOver (place : Place) (tally : TallyView) (numbers : List ℕ) (items : List Update)
-    (result : Result (Unit {0}) StoreFault) (b : Batch) (look : BatchScan) (a c : View) : Type 0 where
+    (result : Result (Unit {0}) StoreFault) (b : Batch) (look : BatchScan) (a d : View) : Type 0 where
   pub loaded : OnOk result (AreLoaded place.layout.format b look (2 ^ tally.height))
   pub looked : OnOk result (Told a → HasLooked place.layout.format (array_of a.held) numbers items b look (2 ^ tally.height))
   pub journal : b.journal ≡ place.layout.journal
-  pub steps : Steps Same a c
-  pub unwritten : c.travel.written ≡ a.travel.written
-  pub reads : OnOk result (ReadsOnce place numbers (2 ^ tally.height) a c)
-  pub looks : LooksOnce items tally.height a c
+  pub steps : Steps Same a d
+  pub unwritten : d.travel.written ≡ a.travel.written
+  pub reads : OnOk result (ReadsOnce place numbers (2 ^ tally.height) a d)
+  pub looks : LooksOnce items tally.height a d
   pub few : OnOk result (look.count ≤ length looks.looked)
   pub used : OnOk result (Told a → AreUsed place.layout (array_of a.held) items b look.whole)
   pub damaged : IfErr result (λ fault. Told a → fault ≡ Failed)
-  pub met : IfErr result (λ fault. IsMetLooking place tally fault c)
-  pub failed : IsErrOf result Failed → Rose a.disk_faults c.disk_faults
+  pub met : IfErr result (λ fault. IsMetLooking place tally fault d)
+  pub failed : IsErrOf result Failed → Rose a.disk_faults d.disk_faults

@@ -45,8 +45,8 @@ pub record IsEdited (segments : Array) (items : List Update) (i : ℕ) : Type 0 
 pub record Overfills (segments : Array) (items : List Update) : Type 0 where
   pub at : ℕ
   pub inside : at < length segments
-  pub k : ℕ
-  pub over : SEGMENT_SLOTS < length (edited_by (items_for segments at (take k items)) (segment_at segments at))
+  pub first : ℕ
+  pub over : SEGMENT_SLOTS < length (edited_by (items_for segments at (take first items)) (segment_at segments at))
 
 -- they leave none in a segment from 1 on
 pub record Empties (segments : Array) (items : List Update) : Type 0 where
@@ -61,5 +61,5 @@ IsShort l segments items = (most_segments l < length (edited_segments segments i
 
 -- Frames hold segments that items edit, and no others, and where these aren't all of them, it is told why.
 pub record AreUsed (l : Layout) (segments : Array) (items : List Update) (b : Batch) (whole : Bool) : Type 0 where
-  pub edited : (k : ℕ) → k < length (segments_in l.format b.numbers) → IsEdited segments items (get_or (segments_in l.format b.numbers) k 0)
+  pub edited : (i : ℕ) → i < length (segments_in l.format b.numbers) → IsEdited segments items (get_or (segments_in l.format b.numbers) i 0)
   pub short : whole ≡ false → IsShort l segments items

@@ -15,9 +15,9 @@ own_items n (i ∷ is) (u ∷ us) = if i == n then u ∷ own_items n is us else 
 
 -- a page is full amid them: the first ones of them would make more records than a segment has slots
 pub record FillsAmid (n : ℕ) (segments : List ℕ) (items : List Update) (rows : List Record) : Type 0 where
-  pub k : ℕ
-  pub within : k < length items
-  pub over : SEGMENT_SLOTS < length (edited_by (own_items n (take (k + 1) segments) (take (k + 1) items)) rows)
+  pub item : ℕ
+  pub within : item < length items
+  pub over : SEGMENT_SLOTS < length (edited_by (own_items n (take (item + 1) segments) (take (item + 1) items)) rows)
 
 -- the place of a key in rows, if it is there
 pub record FindsIn (key : Bytes) (rows : List Record) (found : Result ℕ ℕ) : Type 0 where
@@ -30,7 +30,7 @@ edits_by u present = is_put u || present
 
 -- one of the items of segment n edits it, as they were found
 pub record HasEdit (n : ℕ) (segments : List ℕ) (items : List Update) (found : List (Result ℕ ℕ)) : Type 0 where
-  pub k : ℕ
-  pub within : k < length items
-  pub own : get_or segments k 0 ≡ n
-  pub edits : (d : Update) → edits_by (get_or items k d) (is_ok (get_or found k (Err 0))) ≡ true
+  pub item : ℕ
+  pub within : item < length items
+  pub own : get_or segments item 0 ≡ n
+  pub edits : (d : Update) → edits_by (get_or items item d) (is_ok (get_or found item (Err 0))) ≡ true

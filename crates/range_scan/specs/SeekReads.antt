@@ -50,51 +50,51 @@ stands_at past (Some r) = is_at past r.0
 
 -- One segment or two that stand side by side were read, in ascending order and once each, and nothing was written, on every
 -- station.
-pub record ReadsNear {A : Type 0} (start : Option Bytes) (k : KeptRegion) (result : Result A StoreFault) (a b : View) : Type 0 where
+pub record ReadsNear {A : Type 0} (start : Option Bytes) (kept : KeptRegion) (result : Result A StoreFault) (a b : View) : Type 0 where
   pub from : ℕ
   pub to : ℕ
-  pub travel : b.travel ≡ after_walk k.layout k.region from to a.travel
+  pub travel : b.travel ≡ after_walk kept.layout kept.region from to a.travel
   pub some : from < to
   pub two : to ≤ from + 2
   -- each is read by at most one call
   pub calls : b.calls ≤ a.calls + (to - from)
   -- they are segments of the store, so that in one of height 0 it is one
-  pub within : to ≤ 2 ^ k.height
+  pub within : to ≤ 2 ^ kept.height
   -- the first that is read is the one to which the bound belongs
   pub own : Told a → from ≡ first_for start (array_of a.held)
   -- damage is that of the segment that was read last, by the count that is kept for it
-  pub causes : IfErr result (IsDamageAt (to - 1) k.counts)
+  pub causes : IfErr result (IsDamageAt (to - 1) kept.counts)
 
 -- One segment was read, and maybe behind it the one before it, each once, and nothing was written, on every station.
-pub record ReadsBehind {A : Type 0} (end : Option Bytes) (k : KeptRegion) (result : Result A StoreFault) (a b : View) : Type 0 where
+pub record ReadsBehind {A : Type 0} (end : Option Bytes) (kept : KeptRegion) (result : Result A StoreFault) (a b : View) : Type 0 where
   pub last : ℕ
   pub count : ℕ
-  pub travel : b.travel ≡ after_walk_back k.layout k.region last count a.travel
+  pub travel : b.travel ≡ after_walk_back kept.layout kept.region last count a.travel
   pub some : 0 < count
   pub two : count ≤ 2
   -- each is read by at most one call
   pub calls : b.calls ≤ a.calls + count
   -- they are segments of the store, so that in one of height 0 it is one
-  pub within : last < 2 ^ k.height
+  pub within : last < 2 ^ kept.height
   pub inside : count ≤ last + 1
   -- the first that is read is the one to which the bound belongs
   pub own : Told a → last ≡ last_for end (array_of a.held)
   -- the other one is read only if no record of the first is below the bound
   pub needed : 1 < count → Told a → T (are_behind end (segment_at (array_of a.held) last))
   -- damage is that of the segment that was read last, by the count that is kept for it
-  pub causes : IfErr result (IsDamageAt (last + 1 - count) k.counts)
+  pub causes : IfErr result (IsDamageAt (last + 1 - count) kept.counts)
 
 -- One segment was read, once, and nothing was written, on every station.
-pub record ReadsOne {A : Type 0} (k : KeptRegion) (segment : ℕ) (result : Result A StoreFault) (a b : View) : Type 0 where
+pub record ReadsOne {A : Type 0} (kept : KeptRegion) (segment : ℕ) (result : Result A StoreFault) (a b : View) : Type 0 where
   -- no byte changes
   pub steps : Steps Same a b
-  pub travel : b.travel ≡ after_walk k.layout k.region segment (segment + 1) a.travel
+  pub travel : b.travel ≡ after_walk kept.layout kept.region segment (segment + 1) a.travel
   -- it is read by at most one call
   pub calls : b.calls ≤ a.calls + 1
   -- if bytes are told only the disk fails
   pub damaged : IfErr result (λ fault. Told a → fault ≡ Failed)
   -- on any station damage is that of the segment, by the count that is kept for it
-  pub causes : IfErr result (IsDamageAt segment k.counts)
+  pub causes : IfErr result (IsDamageAt segment kept.counts)
   -- `Failed` comes only if the count of disk faults rose
   pub failed : IfErr result (λ fault. fault ≡ Failed → Rose a.disk_faults b.disk_faults)
 

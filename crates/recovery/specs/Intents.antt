@@ -65,12 +65,12 @@ intent_calls image = if has_intent (layout_in image) image then 2 + look_calls i
 
 -- which of the items find their keys
 pub record AreThere (items : List Update) (there : List Bool) (finds : Bytes → Bool) : Type 0 where
-  pub each : (k : ℕ) (d : Update) → k < length items → get_or there k false ≡ finds (key_of (get_or items k d))
+  pub each : (i : ℕ) (d : Update) → i < length items → get_or there i false ≡ finds (key_of (get_or items i d))
 
 -- with the keys in these records
 pub record AlsoIn (items : List Update) (rows : List Record) (old new : List Bool) : Type 0 where
   pub size : length new ≡ length old
-  pub each : (k : ℕ) (d : Update) → k < length items → get_or new k false ≡ (get_or old k false || is_some (value_of (key_of (get_or items k d)) rows))
+  pub each : (i : ℕ) (d : Update) → i < length items → get_or new i false ≡ (get_or old i false || is_some (value_of (key_of (get_or items i d)) rows))
 
 -- by whether its key is there and by the number of records
 abbrev pub meets_by : Update → Bool → ℕ → ℕ → Bool

@@ -27,5 +27,5 @@ pub record IsBefore (layout : Layout) (region n i along : ℕ) (r : ReaderView) 
 pub record AreLoaded (format : ℕ) (page : ℕ → List ℕ) (i : ℕ) (last : Option Bytes) (counts : List ℕ) (fence : ℕ → Option Bytes) : Type 0 where
   pub sound : first_reason (page_reason format page) i ≡ None
   pub last_is : last ≡ last_key (rows (array_from format page i))
-  pub counted : (k : ℕ) → k < i → get_or counts k 0 ≡ length (segment_of format (page k))
-  pub fenced : (k : ℕ) (key : Bytes) → 0 < k → k < i → first_key_of format (page k) ≡ Some key → fence k ≡ Some key
+  pub counted : (j : ℕ) → j < i → get_or counts j 0 ≡ length (segment_of format (page j))
+  pub fenced : (j : ℕ) (key : Bytes) → 0 < j → j < i → first_key_of format (page j) ≡ Some key → fence j ≡ Some key

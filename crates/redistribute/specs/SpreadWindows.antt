@@ -13,9 +13,9 @@ use Rattle.redistribute.specs.Moving.{KeepsAll, in_store}
 abbrev pub run_of : ℕ → ℕ → Array → Array
 run_of first m lists = slice_range lists first (first + m)
 
--- the counts of window (h, k)
+-- the counts of window (h, i)
 abbrev pub counts_at : List ℕ → ℕ → ℕ → List ℕ
-counts_at counts h k = slice_range counts (k * 2 ^ h) ((k + 1) * 2 ^ h)
+counts_at counts h i = slice_range counts (i * 2 ^ h) ((i + 1) * 2 ^ h)
 
 -- the array once the records of the m segments from the first on are spread over them
 unfoldable pub spread_at : ℕ → ℕ → Array → Array

@@ -37,7 +37,7 @@ pub record Redone (numbers : List ℕ) (held lists after : Array) : Type 0 where
 -- records stay
 pub record TakesBatch (place : Place) (b : Batch) (image : List ℕ) : Type 0 where
   pub settled : IsSettledAt place image
-  pub below : (k : ℕ) → k < length (segments_in place.layout.format b.numbers) → get_or (segments_in place.layout.format b.numbers) k 0 < 2 ^ height_of image
+  pub below : (i : ℕ) → i < length (segments_in place.layout.format b.numbers) → get_or (segments_in place.layout.format b.numbers) i 0 < 2 ^ height_of image
   pub after : Array
   pub redone : Redone (segments_in place.layout.format b.numbers) (held_lists place.layout.format b) (array_of image) after
 

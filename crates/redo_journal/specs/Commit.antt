@@ -33,13 +33,13 @@ abbrev pub IsNamed : ℕ → List ℕ → ℕ → Type 0
 IsNamed region [] p = ⊥
 IsNamed region (n ∷ numbers) p = InRange (region + page_size * n) page_size p ⊎ IsNamed region numbers p
 
--- byte o of image k, where the images stand one after another
+-- byte o of image i, where the images stand one after another
 abbrev pub image_byte : List ℕ → ℕ → ℕ → ℕ
-image_byte images k o = byte images (page_size * k + o)
+image_byte images i o = byte images (page_size * i + o)
 
--- byte o of frame k
+-- byte o of frame i
 abbrev pub frame_byte : List (List ℕ) → ℕ → ℕ → ℕ
-frame_byte slots k o = image_byte (bytes_of slots) k o
+frame_byte slots i o = image_byte (bytes_of slots) i o
 
 -- A commit of a batch: it is in the recovered image wholly or not at all; a journal that is to be laid is that of the
 -- batch, or has the table of one that was to be laid before; nothing changed but journals, gate and the batch's pages.

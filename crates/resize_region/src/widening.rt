@@ -31,8 +31,8 @@ use spread_plan::share;
 use station::Station;
 use window_tally::Tally;
 
-/// The slot format of an upgraded store, the only one besides that of a new store.
-pub(crate) const WIDE: u32 = 2;
+/// The slot format that an upgrade makes: a store begins in format 1, and 2 is the only other one.
+pub const WIDE: u32 = 2;
 
 /// Writes the records of a store of format 1 into `segments` segments of format 2 of the other region. Each old segment is
 /// read once and validated.

@@ -14,11 +14,11 @@ is_bad_next rows (suc i) read = is_bad_behind (Some (slice_get rows i)) read
 -- the rows with what slot i holds
 pub record HoldsNext (old : List Record) (i : ℕ) (read : Option (Option Record)) (new : List Record) : Type 0 where
   pub most : length new ≤ i + 1
-  pub before : (k : ℕ) → k < i → slice_get new k ≡ slice_get old k
+  pub before : (j : ℕ) → j < i → slice_get new j ≡ slice_get old j
   pub here : read ≡ Some (slice_get new i)
 
 -- the slots hold `count` rows, in ascending order, and nothing behind them
 pub record AreRows (f count : ℕ) (slots : List Bytes) : Type 0 where
   pub most : count ≤ SEGMENT_SLOTS
   pub ascending : IsAscending (held_rows f count slots)
-  pub each : (k : ℕ) → k < SEGMENT_SLOTS → slot_of f (slice_index_or slots k []) ≡ Some (slice_get (held_rows f count slots) k)
+  pub each : (i : ℕ) → i < SEGMENT_SLOTS → slot_of f (slice_index_or slots i []) ≡ Some (slice_get (held_rows f count slots) i)

@@ -32,7 +32,7 @@ rows_in format n slots = map (rows_at format slots) (range_with_len 0 n)
 
 -- the numbers of the segments whose pages have these numbers, the first page of each standing for it
 unfoldable pub segments_in : ℕ → List ℕ → List ℕ
-segments_in format pages = map (λ k. get_or pages (format * k) 0 / format) (range_with_len 0 (length pages / format))
+segments_in format pages = map (λ i. get_or pages (format * i) 0 / format) (range_with_len 0 (length pages / format))
 
 -- the lists of the batch's segments
 abbrev pub held_lists : ℕ → Batch → Array

@@ -21,7 +21,7 @@ resize_of hmax height Take = Shrink
 -- by the greatest height whose window over the segment would be outside its bounds
 abbrev pub pick_of : ℕ → ℕ → ℕ → Change → Option ℕ → Pick
 pick_of hmax height segment change None = Fits
-pick_of hmax height segment change (Some c) = if c == height then resize_of hmax height change else Spread (record { height = c + 1; number = segment / 2 ^ (c + 1) })
+pick_of hmax height segment change (Some h) = if h == height then resize_of hmax height change else Spread (record { height = h + 1; number = segment / 2 ^ (h + 1) })
 
 -- what is needed can be done: the window may be spread, the records fit the new height. At the limit they cannot
 abbrev pub IsPossible : TallyView → Pick → Type 0

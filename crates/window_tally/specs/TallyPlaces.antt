@@ -1,5 +1,5 @@
--- The implicit tree in which a tally is kept, as in Williams' heapsort (1964). Window (h, k) of a store of height H
--- stands at place 2^(H - h) + k, so the root is at 1, the two halves of the window at i are at 2i and 2i + 1, and the
+-- The implicit tree in which a tally is kept, as in Williams' heapsort (1964). Window (h, i) of a store of height H
+-- stands at place 2^(H - h) + i, so the root is at 1, the two halves of the window at p are at 2p and 2p + 1, and the
 -- segments stand side by side from 2^H on.
 use Rattle.std.specs.Prelude.{◌≡◌, ℕ, ◌+◌, ◌-◌, ◌*◌, ◌/◌, ◌^◌, ◌<◌, ◌≤◌, ◌⊎◌, List, length, take, drop, sum, slice_index, slice_index_or, Option, None}
 use Rattle.density_rule.specs.Windows.{IsWindow, count_in}
@@ -7,7 +7,7 @@ use Rattle.density_rule.specs.Spread.{share}
 use Rattle.density_rule.specs.Marks.{Marks, marks_by}
 
 abbrev pub place : ℕ → ℕ → ℕ → ℕ
-place height h k = 2 ^ (height - h) + k
+place height h i = 2 ^ (height - h) + i
 
 -- the counts of the segments
 abbrev pub leaves_of : ℕ → List ℕ → List ℕ
@@ -15,11 +15,11 @@ leaves_of height items = take (2 ^ height) (drop (2 ^ height) items)
 
 -- the marks of the windows below the root
 abbrev pub marks_in : ℕ → List (Option ℕ) → Marks
-marks_in height items = marks_by height (λ h k. slice_index_or items (place height h k) None)
+marks_in height items = marks_by height (λ h i. slice_index_or items (place height h i) None)
 
 -- the places of all windows hold what these counts of segments give
 abbrev pub HasCounts : ℕ → List ℕ → List ℕ → Type 0
-HasCounts height items counts = (h k : ℕ) → IsWindow height h k → slice_index items (place height h k) ≡ count_in counts h k
+HasCounts height items counts = (h i : ℕ) → IsWindow height h i → slice_index items (place height h i) ≡ count_in counts h i
 
 -- counts that the loops go over
 pub record IsTree (height : ℕ) (items : List ℕ) : Type 0 where
@@ -41,5 +41,5 @@ pub record Fills {X : Type 0} (d : X) (value : ℕ → X) (first n : ℕ) (old n
 -- all other windows what they held
 pub record FillsBelow {X : Type 0} (d : X) (value : ℕ → ℕ → X) (height j w top : ℕ) (old new : List X) : Type 0 where
   pub inside : (h i : ℕ) → h < top → i < 2 ^ (j - h) → slice_index_or new (place height h (w * 2 ^ (j - h) + i)) d ≡ value h i
-  pub outside : (h k : ℕ) → IsWindow height h k → (h < top → k / 2 ^ (j - h) ≡ w → ⊥) →
-      slice_index_or new (place height h k) d ≡ slice_index_or old (place height h k) d
+  pub outside : (h n : ℕ) → IsWindow height h n → (h < top → n / 2 ^ (j - h) ≡ w → ⊥) →
+      slice_index_or new (place height h n) d ≡ slice_index_or old (place height h n) d

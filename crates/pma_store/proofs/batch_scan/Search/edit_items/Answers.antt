@@ -18,7 +18,7 @@ returns-then-not-edit_item-clause-full c = λ _.
     let le : i < length c.args.self.now.segments.now = omega (arith, lt, c.requires) in
     let over = subst (λ (u : Update). SEGMENT_SLOTS < length (edited u c.loop-i.rows)) (c.item.ensures none) (c.edit_item.ensures.full c.if-not-edit_item.true) in
     record {
-      k = i;
+      item = i;
       within = lt;
       over = subst (λ (r : List Record). SEGMENT_SLOTS < length r) (own_more c.args.n c.args.self.now.segments.now us c.args.rows.now i lt le c.loop-i.rows (edited (get_or us i none) c.loop-i.rows) c.loop-i.invariant.rows none c.if-self-i.true refl) over;
     }
