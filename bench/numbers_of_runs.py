@@ -13,7 +13,7 @@ CONTESTANTS = [
     "pma", "pma-1024", "pma-paired", "sqlite-delete", "sqlite-wal", "sqlite-wal-cache", "lmdb", "leveldb", "leveldb-cache",
     "nothing",
 ]
-TABLES = ["times", "pauses", "sizes", "puts", "charges", "blocks", "contestants", "setup"]
+TABLES = ["times", "pauses", "sizes", "puts", "charges", "blocks", "clients", "contestants", "setup"]
 
 
 def number(text):

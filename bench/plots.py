@@ -35,43 +35,57 @@ def columns(rows, words, numeric, scale=1):
 # ---- where the program loses ----
 
 
-def lost(what, unit_of, values, cause, more=False):
-    """The row of one number where a peer has the better one; none where the program has."""
+OURS = "pma", "pma-paired", "pma-1024"
+
+
+def lost(kind, what, unit_of, values, cause, more=False):
+    """The row of one number where a peer has the better one, with the factor and the cause; none where the program has."""
     peers = {name: value for name, value in values.items() if not name.startswith("pma") and name != "nothing"}
     if "pma" not in values or not peers:
         return []
     best = (max if more else min)(peers, key=peers.get)
-    if values["pma"] >= peers[best] if more else values["pma"] <= peers[best]:
-        return []
-    small_journal = number(values["pma-1024"]) if "pma-1024" in values else ""
-    return [[what, unit_of, number(values["pma"]), small_journal, f"{best}: {number(peers[best])}", cause]]
+    factor = peers[best] / values["pma"] if more else values["pma"] / peers[best]
+    ours = [number(values[name]) if name in values else "" for name in OURS]
+    return [(factor, (kind, unit_of, cause), what, [*ours, f"{best}: {number(peers[best])}"])] if factor > 1 else []
+
+
+def one_a_cause(rows):
+    """Of the rows of one kind with one cause that with the greatest factor; the others are named beside it."""
+    groups = {}
+    for row in rows:
+        groups.setdefault(row[1], []).append(row)
+    for (kind, unit_of, cause), group in groups.items():
+        _, _, worst, cells = max(group)
+        others = [what for _, _, what, _ in group if what != worst]
+        yield [f"{kind}: {worst}" + (f"; less: {', '.join(others)}" if others else ""), unit_of, *cells, cause]
 
 
 def lost_on_disk(numbers):
     rows = []
-    causes = dict.fromkeys(("overwrite", "fillrandom", "deleterandom"), "four syncs, one after the other")
-    causes[BATCH] = "four syncs a batch, and each segment of an item is written whole, twice"
+    causes = dict.fromkeys(("overwrite", "fillrandom", "deleterandom"), "four syncs, one after the other; with two journals two")
+    causes[BATCH] = "as many syncs a batch, and each segment of an item is written whole, twice"
     causes |= dict.fromkeys(MERGES, "a merge reads and writes the whole store, however few the updates are")
     for work, cause in causes.items():
         rates = by_contestant(where(numbers.puts, workload=work), "a_second")
-        rows += lost(f"durable updates on a disk, {work}", "a second", rates, cause, more=True)
+        rows += lost("durable on a disk", work, "a second", rates, cause, more=True)
     put = where(numbers.puts, workload="overwrite")
     syncs, written = by_contestant(put, "syncs_a_put"), by_contestant(put, "bytes_a_put")
-    rows += lost("syncs of a put, overwrite", "syncs", syncs, "the journal, its gate, the segment, the gate")
-    return rows + lost("bytes written for a put, overwrite", "bytes", written, "a segment is written whole, twice")
+    rows += lost("a put", "syncs of an overwrite", "syncs", syncs, "the journal, its gate, the segment, the gate")
+    return rows + lost("a put", "bytes of an overwrite", "bytes", written, "a segment is written whole, twice")
 
 
 def lost_space(numbers):
     sizes, rows = where(numbers.sizes, records=numbers.greatest), []
     for what, column, cause in (
-        ("length of the file", "length_bytes", "HEIGHT and JOURNAL set it when the store is made"),
-        ("bytes of the file that are taken", "taken_bytes", "two regions, and gaps among the records"),
+        ("its length", "length_bytes", "HEIGHT and JOURNAL set it when the store is made"),
+        ("its bytes that are taken", "taken_bytes", "two regions, and gaps among the records"),
     ):
-        rows += lost(what, "MB", {name: value / 1e6 for name, value in by_contestant(sizes, column).items()}, cause)
+        rows += lost("the file", what, "MB", {name: value / 1e6 for name, value in by_contestant(sizes, column).items()}, cause)
     for memory in (MEMORY, QUICK_MEMORY):
-        rows += lost(memory, "MiB", beside_opening(numbers, memory, MEMORY), "the journal's pages and the index")
+        values = beside_opening(numbers, memory, MEMORY)
+        rows += lost("memory", memory.removeprefix("memory of "), "MiB", values, "the journal's pages and the index")
     pauses = by_contestant(where(numbers.pauses, records=numbers.greatest), "greatest_us")
-    return rows + lost("the greatest pause of a put while a store is filled", "us", pauses, "a growth writes the whole array")
+    return rows + lost("a filling", "the greatest pause of a put", "us", pauses, "a growth writes the whole array")
 
 
 def beside_opening(numbers, work, opening):
@@ -86,7 +100,7 @@ def lost_time(numbers):
         (OPEN, "an opening reads the whole region and makes the index"),
         (QUICK, "an opening reads the index of the file, and the run writes it anew"),
     ):
-        rows += lost(f"processor time, {work}", "ms", beside_opening(numbers, work, OPEN), cause)
+        rows += lost("processor time", work, "ms", beside_opening(numbers, work, OPEN), cause)
     reads = "each segment is read by a system call and validated whole"
     updates = "a segment is validated and edited whole, and written twice"
     causes = {work: reads for work in READS} | {work: updates for work in UPDATES}
@@ -94,13 +108,13 @@ def lost_time(numbers):
     causes[BATCH] = "each item's segment is validated and edited whole, and written twice"
     causes |= {
         "cursor": "each `next` looks for its key anew, in a segment that is read and validated whole",
-        "cursor back": "each `prev` does",
+        "cursor back": "each `next` looks for its key anew, in a segment that is read and validated whole",
     }
     causes |= {"bulk, load": "records are packed and then spread, so each segment is written twice", "bulk, dump": reads}
     causes |= dict.fromkeys(MERGES, "the whole store is read and written, however few the updates are")
     causes["fillseq"] = "ascending keys all come into one segment, whose window is spread again and again"
     for work, cause in causes.items():
-        rows += lost(f"processor time, {work}", unit(work), numbers.time(numbers.greatest, work), cause)
+        rows += lost("processor time", work, unit(work), numbers.time(numbers.greatest, work), cause)
     return rows
 
 
@@ -108,11 +122,12 @@ def losses(numbers):
     rows = lost_on_disk(numbers) + lost_space(numbers) + lost_time(numbers)
     return [
         "## Where `pma` loses",
-        f"At {numbers.greatest} records, beside the best of the peers in each row:",
-        table(["what", "unit", "`pma`", "with a JOURNAL of 1024", "take instead", "the cause"], rows),
-        "A batch of `pma` is one command in a crash, of 16 items at most, and four syncs if its segments fit into the journal "
-        "and no item needs a rebalance. `merge` makes any number of updates together, and reads and writes the whole store for them: "
-        "if they are few for the store, take one of the peers, whose transactions have no limit and are synced once or twice.",
+        f"At {numbers.greatest} records, beside the best of the peers in each row. Of several workloads with one cause the "
+        "one with the greatest factor has the numbers.",
+        table(["what", "unit", "`pma`", "two journals", "JOURNAL 1024", "take instead", "the cause"], one_a_cause(rows)),
+        "A batch of `pma` is one command in a crash, of 16 items at most, and has the syncs of a put if its segments fit into the "
+        "journal and no item needs a rebalance. `merge` makes any number of updates together, and reads and writes the whole store "
+        "for them: if they are few for the store, take one of the peers, whose transactions have no limit.",
     ]
 
 
@@ -204,6 +219,20 @@ def touched(numbers):
     ]
 
 
+def by_clients(numbers):
+    who = list(dict.fromkeys(row["contestant"] for row in numbers.clients))
+    rows = []
+    for place, what in dict.fromkeys((row["place"], row["what"]) for row in numbers.clients):
+        found = {row["contestant"]: row for row in where(numbers.clients, place=place, what=what)}
+        cells = [f"{r['a_second']} ({r['least']} to {r['greatest']})" if (r := found.get(name)) else "" for name in who]
+        rows.append([f"{what}, {'in memory' if place == 'memory' else 'on a disk'}", *cells])
+    return [
+        "## The client of Python beside modules",
+        "Operations a second by the clock; [below](#the-python-client) is how they are run.",
+        table(["what", *who], rows),
+    ]
+
+
 def sections(numbers):
     text = losses(numbers) + described(numbers) if numbers.times else []
     for records in numbers.records:
@@ -212,6 +241,7 @@ def sections(numbers):
         (numbers.puts, durable),
         (numbers.pauses, paused),
         (numbers.sizes, sized),
+        (numbers.clients, by_clients),
         (numbers.charges, charged),
         (numbers.blocks, touched),
     ):
