@@ -1,6 +1,7 @@
 -- A merge amid the records of a store and the lines of a text: what results so far is packed into the region that isn't live.
 use Rattle.station.specs.declared.travel.Travel.{Travel}
-use Rattle.std.specs.Prelude.{◌≡◌, ℕ, ◌+◌, ◌-◌, ◌*◌, ◌^◌, ◌<◌, ◌≤◌, nat_lt, ◌&&◌, not, Bool, true, List, [], ◌∷◌, ◌++◌, length, map, Option, Some, IfSome, T, Result, OnOk, IfOk, IfErr, IsErrOf, sum, if◌then◌else◌, false}
+use Rattle.std.specs.Prelude.{◌≡◌, ℕ, ◌+◌, ◌-◌, ◌*◌, ◌^◌, ◌<◌, ◌≤◌, nat_lt, ◌&&◌, not, Bool, true, T, if◌then◌else◌, false}
+use Rattle.std.specs.Prelude.{List, [], ◌∷◌, ◌++◌, length, map, Option, Some, IfSome, Result, OnOk, IfOk, IfErr, IsErrOf, sum}
 use Rattle.std.specs.FinMap.{entries}
 use Rattle.station.specs.View.{View, Told, Rose}
 use Rattle.station.specs.Steps.{Steps}

@@ -1,6 +1,7 @@
 //! The records of a store that a merge has before it: the segments of its region are read one after another, each once.
 
-ghost use Rattle.std.specs.Prelude.{◌≡◌, ◌<◌, ◌≤◌, ◌+◌, ◌-◌, ◌^◌, ◌↔◌, ◌∷◌, [], ℕ, List, true, false, length, slice_get, if◌then◌else◌, Option, Some, None, Ok, IfOk, IfErr, IfSome, IsNone, IsErrOf, OnOk, OnErr};
+ghost use Rattle.std.specs.Prelude.{◌≡◌, ◌<◌, ◌≤◌, ◌+◌, ◌-◌, ◌^◌, ◌↔◌, ℕ, true, false, if◌then◌else◌};
+ghost use Rattle.std.specs.Prelude.{◌∷◌, [], List, length, slice_get, Option, Some, None, Ok, IfOk, IfErr, IfSome, IsNone, IsErrOf, OnOk, OnErr};
 ghost use Rattle.density_rule.specs.Windows.{count_in};
 ghost use Rattle.station.specs.Bytes.{Same};
 ghost use Rattle.station.specs.View.{Told, Rose};

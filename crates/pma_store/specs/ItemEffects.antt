@@ -1,5 +1,6 @@
 -- What the items of a batch would do, by whether their keys are there and by how many records there are.
-use Rattle.std.specs.Prelude.{◌≡◌, ◌^◌, ℕ, zero, suc, ◌+◌, ◌<◌, if◌then◌else◌, Bool, true, false, List, [], ◌∷◌, length, slice_index_or, Option, Some, None, is_some, Result, IfOk, IfErr, IsErrOf, is_ok, Err, sum}
+use Rattle.std.specs.Prelude.{◌≡◌, ◌^◌, ℕ, zero, suc, ◌+◌, ◌<◌, if◌then◌else◌, Bool, true, false}
+use Rattle.std.specs.Prelude.{List, [], ◌∷◌, length, slice_index_or, Option, Some, None, is_some, Result, IfOk, IfErr, IsErrOf, is_ok, Err, sum}
 use Rattle.std.specs.FinMap.{contains_key}
 use Rattle.density_rule.specs.Bounds.{upper_of}
 use Rattle.station.specs.Bytes.{Same}
