@@ -399,6 +399,7 @@ static void interrupted_callers(void)
     DUE(put(store, "a", "1") == PMA_OK && pma_close(store) == PMA_OK);
     pid_t child = fork();
     if (child == 0) {
+        signal(SIGINT, SIG_DFL); /* a shell's `&` ignores it */
         store = opened("interrupted");
         signaler(getpid(), SIGINT, 300000);
         while (put(store, "a", "2") == PMA_OK)

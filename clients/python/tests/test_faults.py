@@ -175,7 +175,9 @@ class FaultTest(StoreCase):
         self.assertEqual(len(self.open("r")), 0)
 
     def test_interrupted_by_the_terminal(self):
+        # What a shell starts with `&` begins with SIGINT ignored.
         script = ("import os, signal, sys; sys.path[:0] = sys.argv[1:2]; import pma\n"
+                  "signal.signal(signal.SIGINT, signal.default_int_handler)\n"
                   "try:\n"
                   "    with pma.open(sys.argv[2], 'c', height=4, program=sys.argv[3]) as store:\n"
                   "        store[b'a'] = b'1'\n"
