@@ -1,11 +1,19 @@
 #!/usr/bin/env bash
 # What a stranger would do, as a user who isn't root, with an empty home, in a fresh clone of what is committed: makes the program,
-# tries the demo and the documents' examples, installs it in a folder of its own, reads the page, runs it from there and uninstalls.
-# Then tries what is outside the gate, cleans, and runs the gate, from nothing. Ends with 1 where a step failed.
-# Usage: tools/newcomer.sh [short]; with `short` it leaves out the gate and what is outside it, and takes a quarter of an hour to
-# three quarters, by the machine; else it takes some hours.
+# takes the parts below, cleans, and looks whether anything is left. Ends with 1 where a step failed.
+# use:      tries the demo and the documents' examples, installs it in a folder of its own, reads the page, runs it and uninstalls.
+# outside:  what is outside the gate, but for the trials.
+# trials:   `make trials`.
+# gate:     `make check`, behind the cleaning and so from nothing.
+# On four processors of 2.5 GHz the program takes half an hour, use five minutes, outside a quarter of an hour, trials an hour and
+# a half, the gate an hour and a quarter.
+# Usage: tools/newcomer.sh [PART..], all four where none is named.
 set -u
 cd "$(dirname "$0")/.."
+parts=${*:-use outside trials gate}
+for part in $parts; do
+    case $part in use | outside | trials | gate) ;; *) sed -n 's/^# Usage/Usage/p' tools/newcomer.sh >&2 && exit 2 ;; esac
+done
 folder=$(mktemp -d)
 trap 'rm -rf "$folder"' EXIT
 git clone -q . "$folder/pma" || exit 1
@@ -36,30 +44,40 @@ step_of() {
     step "$1" sh -c "$2" sh "$folder/prefix"
 }
 
+# Whether a part is wanted.
+wanted() {
+    case " $parts " in *" $1 "*) ;; *) return 1 ;; esac
+}
+
 step 'make' make
-step 'make demo' make demo
-step 'make doc-examples' make doc-examples
-step 'make clients' make clients
-step 'make install' make install "PREFIX=$folder/prefix"
-if command -v man >/dev/null; then
-    step_of 'the page, without a warning' \
-        'MANROFFSEQ= MANWIDTH=80 man --warnings -E UTF-8 -l -Tutf8 -Z "$1/share/man/man1/pma.1" 2>&1 >/dev/null | { ! grep .; }'
+if wanted use; then
+    step 'make demo' make demo
+    step 'make doc-examples' make doc-examples
+    step 'make clients' make clients
+    step 'make install' make install "PREFIX=$folder/prefix"
+    if command -v man >/dev/null; then
+        step_of 'the page, without a warning' \
+            'MANROFFSEQ= MANWIDTH=80 man --warnings -E UTF-8 -l -Tutf8 -Z "$1/share/man/man1/pma.1" 2>&1 >/dev/null | { ! grep .; }'
+    fi
+    step_of 'manual and format' 'cmp docs/MANUAL.md "$1/share/doc/pma/MANUAL.md" && cmp docs/FORMAT.md "$1/share/doc/pma/FORMAT.md"'
+    step_of 'the installed program' 'cd "$HOME" && "$1/bin/pma" create s.pma 0 &&
+        [ "$(printf "put a 1\nget a\n" | "$1/bin/pma" run s.pma | tr "\n" " ")" = "stored found 1 " ]'
+    step 'make uninstall' make uninstall "PREFIX=$folder/prefix"
+    step_of 'no file is left' 'find "$1" ! -type d | { ! grep .; }'
 fi
-step_of 'manual and format' 'cmp docs/MANUAL.md "$1/share/doc/pma/MANUAL.md" && cmp docs/FORMAT.md "$1/share/doc/pma/FORMAT.md"'
-step_of 'the installed program' 'cd "$HOME" && "$1/bin/pma" create s.pma 0 &&
-    [ "$(printf "put a 1\nget a\n" | "$1/bin/pma" run s.pma | tr "\n" " ")" = "stored found 1 " ]'
-step 'make uninstall' make uninstall "PREFIX=$folder/prefix"
-step_of 'no file is left' 'find "$1" ! -type d | { ! grep .; }'
-if [ "${1:-}" != short ]; then
+if wanted outside; then
     step 'tools/descriptors.sh' tools/descriptors.sh
     step 'make faults' make faults
-    step 'make trials' make trials
-    step 'tools/doc-names.py' tools/doc-names.py
+    step 'make examples' make examples
+    step 'make doc-names' make doc-names
     step 'tools/said-twice.py' tools/said-twice.py
+fi
+if wanted trials; then
+    step 'make trials' make trials
 fi
 step 'make clean' make clean
 step_of 'the clone is clean' 'git status --ignored --porcelain | { ! grep .; }'
-if [ "${1:-}" != short ]; then
+if wanted gate; then
     step 'make check' make check
 fi
 exit $failed
