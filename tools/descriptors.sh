@@ -62,12 +62,12 @@ has_lines() {
     [ "$(wc -l <"$1")" -ge "$2" ]
 }
 
-# Starts a run of a store that waits for its script, with the replies in `replies`. It minds an interrupt, as one from a
-# terminal does.
+# Starts a run of a store that waits for its script, with the replies in `replies`. It minds each signal, also where this
+# script's own caller ignores one.
 start_run() {
     rm -f lines replies
     mkfifo lines
-    env --default-signal=INT "$program" run "$1" <lines >replies &
+    env --default-signal "$program" run "$1" <lines >replies &
     runner=$!
     exec 4>lines
     asked=0
@@ -248,7 +248,7 @@ for signal in INT TERM HUP KILL; do
     same "a run that $signal ends: what was answered is in the file" said wanted
 done
 cp before s
-{ (ulimit -f 4 && exec "$program" run s <script >said); } 2>/dev/null
+{ (ulimit -f 4 && exec env --default-signal "$program" run s <script >said); } 2>/dev/null
 status=$?
 want 'a limit of the size of a file' $((128 + $(kill -l XFSZ))) $status
 same 'a limit of the size of a file: nothing is said' said /dev/null

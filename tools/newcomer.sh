@@ -33,7 +33,8 @@ step() {
     if (cd "$folder/pma" && exec "${as[@]}" "$@") >"$folder/log" 2>&1 </dev/null; then
         printf 'ok    %s: %s s\n' "$what" $((SECONDS - start))
     else
-        printf 'WRONG %s: status %s; the end of what it said:\n' "$what" $?
+        printf 'WRONG %s: status %s; what it said to be wrong, and its end:\n' "$what" $?
+        grep WRONG "$folder/log"
         tail -n 20 "$folder/log"
         failed=1
     fi
