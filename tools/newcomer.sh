@@ -5,8 +5,8 @@
 # outside:  what is outside the gate, but for the trials.
 # trials:   `make trials`.
 # gate:     `make check`, behind the cleaning and so from nothing.
-# On four processors of 2.5 GHz the program takes half an hour, use five minutes, outside a quarter of an hour, trials an hour and
-# a half, the gate an hour and a quarter.
+# On four processors of 2.5 GHz the program takes half an hour, use some two minutes, outside a quarter of an hour, the gate an
+# hour and a quarter; trials take an hour and a half by a count of their parts.
 # Usage: tools/newcomer.sh [PART..], all four where none is named.
 set -u
 cd "$(dirname "$0")/.."
